@@ -151,7 +151,7 @@ pub fn put(check: Checked, bytes: &[u8], out: &mut [u8]) -> Written
     let n = bytes.len();
     let all = then_check(check, check_room(n, out.len()));
     match all {
-        Checked::Failed(why) => Written::Refused(why),
+        Checked::Failed(reason) => Written::Refused(reason),
         Checked::Passed => {
             copy(bytes, out);
             Written::Wrote(n)
