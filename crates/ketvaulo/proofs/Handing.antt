@@ -14,15 +14,12 @@ use Rattle.ketvaulo.specs.declared.Outcome.{Outcome}
 pub handed : {r : Outcome} (w : Written) {a : Answer} → r ≡ outcomeOf (answerOf w) → answerOf w ≡ a → r ≡ outcomeOf a
 handed w e h = e ∙ ap outcomeOf h
 
--- a digest of n bytes that is put into a buffer: what `put` says of its list, said of the definition that it equals
-module _ (n : ℕ) (d value out : List ℕ) (e : d ≡ value) (l : length value ≡ n) where
-  size : length d ≡ n
-  size = ap length e ∙ l
-
+-- n bytes put into a buffer with no test before that of the room
+module _ (n : ℕ) (d out : List ℕ) (l : length d ≡ n) where
   pub put-answer : {a : Answer} → a ≡ answerTo (pass andThen check6 (length d) (length out)) (length d) → a ≡ answerTo (check6 n (length out)) n
   unfolding _andThen_
-  put-answer p = rw size at p
+  put-answer p = rw l at p
 
-  pub put-buffer : {after : List ℕ} → after ≡ bufferAfter (pass andThen check6 (length d) (length out)) (length d) d out → after ≡ bufferAfter (check6 n (length out)) n value out
+  pub put-buffer : {after : List ℕ} → after ≡ bufferAfter (pass andThen check6 (length d) (length out)) (length d) d out → after ≡ bufferAfter (check6 n (length out)) n d out
   unfolding _andThen_
-  put-buffer p = rw (size, e) at p
+  put-buffer p = rw l at p
