@@ -26,7 +26,17 @@ then-check-requires-2 : tie.Need-then-check-requires-2
 then-check-requires-2 c κs = search needs
 
 returns : tie.Need-returns
-returns c = ?
+returns c =
+    let p2 = c .before .before .before in
+    rw (
+      c .then-check2 .ensures,
+      p2 .then-check .ensures,
+      p2 .before .before .before .check-offers .ensures,
+      c .before .unless2 .ensures,
+      p2 .before .unless .ensures,
+      c .before .before .contains .ensures,
+      p2 .before .before .is-first .ensures,
+    )
 
 pub check-reply-spec : {M : Type 1} → statement M
 check-reply-spec =
