@@ -1,11 +1,11 @@
--- What the peer answers in the first round and on the renewed list, by document 01's numbers and values ("Offers").
+-- What the peer answers in the first round, the server on the reply, and the peer on the renewed list, by document 01's numbers and values ("Offers").
 -- Assumes nothing.
-use Prim.Native.Nat.{ℕ, zero, suc}
+use Prim.Native.Nat.{ℕ, zero, suc, _+_}
 use mathlib.Core.List.{List}
-use lib.ListN.{getD}
+use lib.ListN.{length, take, getD}
 use Rattle.refusal.specs.Checks.{Reason, Check, pass, refuse}
-use Rattle.refusal.specs.Answers.{reasonOf}
-use Rattle.offers.specs.Rfc5448.{firstSupported, chooseCheck, renewedCheck}
+use Rattle.refusal.specs.Answers.{reasonOf, Answer, wrote, answerTo, bufferAfter}
+use Rattle.offers.specs.Rfc5448.{firstSupported, renewedList, chooseCheck, answerCheck, renewedCheck}
 use Rattle.offers.specs.declared.FirstRound.{FirstRound}
 use Rattle.offers.specs.declared.FirstRound.the-variants as first
 use Rattle.offers.specs.declared.Renewed.{Renewed}
@@ -36,6 +36,14 @@ firstRoundTo (refuse x) offers position = refused x
 unfoldable pub firstRound : List ℕ → List ℕ → FirstAnswer
 firstRound offers supported = firstRoundTo (chooseCheck offers supported) offers (firstSupported offers supported)
 
+-- the server's answer to a reply: the new count, or a refusal
+unfoldable pub serverAnswer : List ℕ → ℕ → List ℕ → Answer
+serverAnswer offers reply buffer = answerTo (answerCheck offers reply (length buffer)) (length offers + 1)
+
+-- the server's buffer after it
+unfoldable pub serverBuffer : List ℕ → ℕ → List ℕ → List ℕ
+serverBuffer offers reply buffer = bufferAfter (answerCheck offers reply (length buffer)) (length offers + 1) (renewedList offers reply) buffer
+
 -- the answer to the renewed list: the choice, or a refusal
 pub data RenewedAnswer : Type 0 where
   accepted : (choice : ℕ) → RenewedAnswer
@@ -52,3 +60,25 @@ renewedTo (refuse x) choice = refused x
 -- the peer's answer to the renewed list
 unfoldable pub renewedAnswer : List ℕ → ℕ → List ℕ → RenewedAnswer
 renewedAnswer original choice renewed = renewedTo (renewedCheck original choice renewed) choice
+
+-- a negotiation in which each side gets what the other sent: after an Ask the server answers it and the peer rechecks what the server wrote;
+-- without one the first round's answer stands
+abbrev pub afterServer : List ℕ → ℕ → List ℕ → Answer → RenewedAnswer
+afterServer offers value sent (wrote count) = renewedAnswer offers value (take count sent)
+afterServer offers value sent (Answer.refused x) = RenewedAnswer.refused x
+
+abbrev pub afterFirst : List ℕ → List ℕ → FirstAnswer → RenewedAnswer
+afterFirst offers buffer (carryOn value) = accepted value
+afterFirst offers buffer (ask value position) = afterServer offers value (serverBuffer offers value buffer) (serverAnswer offers value buffer)
+afterFirst offers buffer (FirstAnswer.refused x) = RenewedAnswer.refused x
+
+abbrev pub bufferAfterFirst : List ℕ → List ℕ → FirstAnswer → List ℕ
+bufferAfterFirst offers buffer (carryOn value) = buffer
+bufferAfterFirst offers buffer (ask value position) = serverBuffer offers value buffer
+bufferAfterFirst offers buffer (FirstAnswer.refused x) = buffer
+
+unfoldable pub negotiated : List ℕ → List ℕ → List ℕ → RenewedAnswer
+negotiated offers supported buffer = afterFirst offers buffer (firstRound offers supported)
+
+unfoldable pub negotiatedBuffer : List ℕ → List ℕ → List ℕ → List ℕ
+negotiatedBuffer offers supported buffer = bufferAfterFirst offers buffer (firstRound offers supported)

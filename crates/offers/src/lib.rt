@@ -9,9 +9,9 @@ ghost use lib.Dec.{ltb};
 ghost use lib.ListN.{length, drop};
 ghost use Rattle.refusal.specs.Checks.{bare, _andThen_};
 ghost use Rattle.refusal.specs.Checks;
-ghost use Rattle.refusal.specs.Answers.{checkedAs, answerOf, answerTo, bufferAfter};
-ghost use Rattle.offers.specs.Rfc5448.{stands, repeats, firstSupported, isFirst, sameList, renewedList, check10, check11, check13, check14, answerCheck};
-ghost use Rattle.offers.specs.Answers.{firstRoundOf, firstRoundTo, firstRound, renewedOf, renewedAnswer};
+ghost use Rattle.refusal.specs.Answers.{checkedAs, answerOf};
+ghost use Rattle.offers.specs.Rfc5448.{stands, repeats, firstSupported, isFirst, sameList, renewedList, check10, check11, check13, check14};
+ghost use Rattle.offers.specs.Answers.{firstRoundOf, firstRoundTo, firstRound, serverAnswer, serverBuffer, renewedOf, renewedAnswer};
 
 use refusal::Checked;
 use refusal::Refusal;
@@ -174,8 +174,8 @@ fn put_list(value: u16, list: &[u16], out: &mut [u16])
 
 // The server, on the peer's reply: writes the reply, then the entire list, and answers the new count. Order 10, 11, 13, 14, 6.
 pub fn answer(offers: &[u16], reply: u16, out: &mut [u16]) -> Written
-    ensures answer { λ r. ⌜ answerOf r ≡ answerTo (answerCheck (now (offers .entry)) reply (length (now (out .entry)))) (length (now (offers .entry)) + 1) ⌝ }
-    ensures buffer { λ _. ⌜ now (out .exit) ≡ bufferAfter (answerCheck (now (offers .entry)) reply (length (now (out .entry)))) (length (now (offers .entry)) + 1) (renewedList (now (offers .entry)) reply) (now (out .entry)) ⌝ }
+    ensures answer { λ r. ⌜ answerOf r ≡ serverAnswer (now (offers .entry)) reply (now (out .entry)) ⌝ }
+    ensures buffer { λ _. ⌜ now (out .exit) ≡ serverBuffer (now (offers .entry)) reply (now (out .entry)) ⌝ }
 {
     let count = offers.len() + 1;
     match then_check(check_reply(offers, reply), check_room(count, out.len())) {

@@ -9,6 +9,7 @@ use lib.ListN.{length}
 use Rattle.refusal.specs.Answers.{checkedAs}
 use Rattle.refusal.proofs.Passing.{last-passed, test-passed}
 use Rattle.offers.specs.Rfc5448.{answerCheck}
+use Rattle.offers.specs.Answers.{serverAnswer, serverBuffer}
 use Rattle.offers.proofs.answer.Statement.{statement}
 use Rattle.offers.proofs.answer.Tie as tie
 
@@ -42,12 +43,14 @@ put-list-requires c κs =
     leb-true _ _ (test-passed _ _ (last-passed _ _ (sym (checked p) ∙ ap checkedAs (c .before .enum-told .given .1))))
 
 returns : tie.Need-returns
+unfolding serverAnswer serverBuffer
 returns c = rw (← checked (c .before .before .before), c .before .why .given .1) (refl, refl)
 
 same-length : tie.Need-same-length
 same-length c = search needs
 
 returns-2 : tie.Need-returns-2
+unfolding serverAnswer serverBuffer
 returns-2 c =
     let p = c .before .before .before .before .before .before in
     rw (← checked p, c .before .before .before .before .enum-told .given .1) (refl, c .before .before .put-list .ensures)
