@@ -1,3 +1,4 @@
 pub mod Lists
 pub mod Rounds
 pub mod Negotiation
+pub mod Steps

@@ -41,9 +41,9 @@ first-here [] supported h = let none : ⊥ = omega arith in elim none [ ]
 first-here (x ∷ offers) supported h = go (stands x supported) refl (first-here offers supported) h
   where
     go : (t : Bool) → stands x supported ≡ t
-      → (firstSupported offers supported < length offers → stands (getD offers (firstSupported offers supported) 0) supported ≡ true)
-      → positionIf t 0 (suc (firstSupported offers supported)) < suc (length offers)
-      → stands (getD (x ∷ offers) (positionIf t 0 (suc (firstSupported offers supported))) 0) supported ≡ true
+        → (firstSupported offers supported < length offers → stands (getD offers (firstSupported offers supported) 0) supported ≡ true)
+        → positionIf t 0 (suc (firstSupported offers supported)) < suc (length offers)
+        → stands (getD (x ∷ offers) (positionIf t 0 (suc (firstSupported offers supported))) 0) supported ≡ true
     go true e ih k = e
     go false e ih k = ih (omega arith)
 
@@ -62,8 +62,8 @@ none-before [] supported j h = let none : ⊥ = omega arith in elim none [ ]
 none-before (x ∷ offers) supported j h = go (stands x supported) refl (none-before offers supported) j h
   where
     go : (t : Bool) → stands x supported ≡ t
-      → ((j : ℕ) → j < firstSupported offers supported → stands (getD offers j 0) supported ≡ false)
-      → (j : ℕ) → j < positionIf t 0 (suc (firstSupported offers supported)) → stands (getD (x ∷ offers) j 0) supported ≡ false
+        → ((j : ℕ) → j < firstSupported offers supported → stands (getD offers j 0) supported ≡ false)
+        → (j : ℕ) → j < positionIf t 0 (suc (firstSupported offers supported)) → stands (getD (x ∷ offers) j 0) supported ≡ false
     go true e ih j k = let none : ⊥ = omega arith in elim none [ ]
     go false e ih zero k = e
     go false e ih (suc j) k = ih j (omega arith)
@@ -123,6 +123,7 @@ reply-after-first first others reply once = (forth, back)
   where
     forth : (check13 (first ∷ others) reply andThen check14 (first ∷ others) reply) ≡ pass → stands reply others ≡ true
     forth p = or-other (eqb first reply) _ (not-true _ (test-passed _ _ (before-passed _ _ p))) (test-passed _ _ (last-passed _ _ p))
+
     back : stands reply others ≡ true → (check13 (first ∷ others) reply andThen check14 (first ∷ others) reply) ≡ pass
     back h =
         let other = not-first (λ v. stands v others) reply (first ∷ others) h (or-none _ _ once) in

@@ -77,6 +77,12 @@ bufferAfterFirst offers buffer (carryOn value) = buffer
 bufferAfterFirst offers buffer (ask value position) = serverBuffer offers value buffer
 bufferAfterFirst offers buffer (FirstAnswer.refused x) = buffer
 
+-- the value that the first round's answer names, or its refusal
+abbrev pub valueNamed : FirstAnswer → RenewedAnswer
+valueNamed (carryOn value) = accepted value
+valueNamed (ask value position) = accepted value
+valueNamed (FirstAnswer.refused x) = RenewedAnswer.refused x
+
 unfoldable pub negotiated : List ℕ → List ℕ → List ℕ → RenewedAnswer
 negotiated offers supported buffer = afterFirst offers buffer (firstRound offers supported)
 

@@ -11,15 +11,14 @@ ghost use Rattle.refusal.specs.Checks.{bare, _andThen_};
 ghost use Rattle.refusal.specs.Checks;
 ghost use Rattle.refusal.specs.Answers.{checkedAs, answerOf};
 ghost use Rattle.offers.specs.Rfc5448.{stands, repeats, firstSupported, isFirst, sameList, renewedList, check10, check11, check13, check14};
-ghost use Rattle.offers.specs.Answers.{firstRoundOf, firstRoundTo, firstRound, serverAnswer, serverBuffer, renewedOf, renewedAnswer};
-
+ghost use Rattle.offers.specs.Answers.{firstRoundOf, firstRoundTo, firstRound, serverAnswer, serverBuffer, renewedOf, renewedAnswer, valueNamed, negotiated, negotiatedBuffer};
 use refusal::Checked;
 use refusal::Refusal;
 use refusal::Written;
-use refusal::in_range;
-use refusal::unless;
-use refusal::then_check;
 use refusal::check_room;
+use refusal::in_range;
+use refusal::then_check;
+use refusal::unless;
 
 // The first round's answer. Carry On and Ask are document 01's terms: the first offer is taken into use with no further negotiation,
 // or a later one, with its position counted from 0, is asked of the server.
@@ -131,7 +130,10 @@ fn check_reply(offers: &[u16], reply: u16) -> Checked
 {
     let c11 = check_offers(offers);
     let c13 = then_check(c11, unless(!is_first(reply, offers), Refusal::ReplyIsFirst));
-    then_check(c13, unless(contains(offers, reply), Refusal::ReplyNotOffered))
+    then_check(
+        c13,
+        unless(contains(offers, reply), Refusal::ReplyNotOffered),
+    )
 }
 
 // The first round's answer by the position of the first supported offer: 12 where there is none.
@@ -192,8 +194,38 @@ pub fn recheck(original: &[u16], choice: u16, renewed: &[u16]) -> Renewed
     ensures { λ r. ⌜ renewedOf r ≡ renewedAnswer (now (original .entry)) choice (now (renewed .entry)) ⌝ }
 {
     let unaltered = is_renewal(original, choice, renewed);
-    match then_check(check_reply(original, choice), unless(unaltered, Refusal::RenewedList)) {
+    match then_check(
+        check_reply(original, choice),
+        unless(unaltered, Refusal::RenewedList),
+    ) {
         Checked::Failed(why) => Renewed::Refused(why),
         Checked::Passed => Renewed::Accepted(choice),
+    }
+}
+
+// The value that the first round's answer names, or its refusal.
+fn value_named(first: FirstRound) -> Renewed
+    ensures { λ r. ⌜ renewedOf r ≡ valueNamed (firstRoundOf first) ⌝ }
+{
+    match first {
+        FirstRound::CarryOn(value) => Renewed::Accepted(value),
+        FirstRound::Ask(value, _) => Renewed::Accepted(value),
+        FirstRound::Refused(why) => Renewed::Refused(why),
+    }
+}
+
+// A negotiation in which each side gets what the other sent. Where the first round does not end in an Ask, its answer stands; after an
+// Ask the server writes the renewed list, and the peer checks it.
+pub fn negotiate(offers: &[u16], supported: &[u16], renewed: &mut [u16]) -> Renewed
+    ensures answer { λ r. ⌜ renewedOf r ≡ negotiated (now (offers .entry)) (now (supported .entry)) (now (renewed .entry)) ⌝ }
+    ensures buffer { λ _. ⌜ now (renewed .exit) ≡ negotiatedBuffer (now (offers .entry)) (now (supported .entry)) (now (renewed .entry)) ⌝ }
+{
+    let first = choose(offers, supported);
+    let FirstRound::Ask(value, _) = first else {
+        return value_named(first);
+    };
+    match answer(offers, value, renewed) {
+        Written::Refused(why) => Renewed::Refused(why),
+        Written::Wrote(count) => recheck(offers, value, &renewed[..count]),
     }
 }
