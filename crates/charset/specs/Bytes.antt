@@ -1,6 +1,7 @@
 -- Which bytes a label, a server ID and a domain may hold (document 01, "Refusal numbers", 3, 7 and 8), and the place of the first byte that a text may not hold.
 -- Assumes nothing.
 use Prim.Native.Nat.{ℕ, suc}
+use Prim.Native.Char.{code}
 use mathlib.Core.Bool.{Bool, true, false, _&&_, _||_}
 use mathlib.Core.List.{List, [], _∷_}
 use lib.Dec.{eqb}
@@ -20,7 +21,7 @@ serverByte b = within 33 126 b
 
 -- a byte of a domain: a letter (ASCII A to Z and a to z), a digit, a hyphen or a dot
 unfoldable pub domainByte : ℕ → Bool
-domainByte b = within 65 90 b || within 97 122 b || within 48 57 b || eqb b 45 || eqb b 46
+domainByte b = within (code "A") (code "Z") b || within (code "a") (code "z") b || within (code "0") (code "9") b || eqb b (code "-") || eqb b (code ".")
 
 -- the test of a byte of each kind
 abbrev pub byteIn : ByteSet → ℕ → Bool

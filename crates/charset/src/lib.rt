@@ -5,6 +5,7 @@ ghost use Rattle.charset.specs.Bytes.{byteIn, domainByte, firstBad};
 ghost use Rattle.charset.specs.Forms.{formOf, labelForm, isWellFormed};
 ghost use Rattle.charset.specs.Checks.{labelCheck, check7, check8};
 ghost use Rattle.refusal.specs.Answers.{checkedAs, reasonOf};
+ghost use Rattle.refusal.specs.Checks.{within};
 ghost use Rattle.refusal.specs.Checks;
 use refusal::Checked;
 use refusal::Refusal;
@@ -30,12 +31,19 @@ pub enum Form {
     BadByte(usize),
 }
 
+// Whether a byte is from lo to hi, both counted.
+fn between(lo: u8, hi: u8, b: u8) -> bool
+    ensures { λ r. ⌜ r ≡ within lo hi b ⌝ }
+{
+    (lo <= b) & (b <= hi)
+}
+
 // A letter, a digit, a hyphen or a dot.
 fn domain_byte(b: u8) -> bool
     ensures { λ r. ⌜ r ≡ domainByte b ⌝ }
 {
-    let x = b as usize;
-    in_range(65, 90, x) | in_range(97, 122, x) | in_range(48, 57, x) | (b == 45) | (b == 46)
+    let letter = between(b'A', b'Z', b) | between(b'a', b'z', b);
+    letter | between(b'0', b'9', b) | (b == b'-') | (b == b'.')
 }
 
 // Whether a byte is one of the set.
@@ -43,8 +51,8 @@ fn allowed(set: ByteSet, b: u8) -> bool
     ensures { λ r. ⌜ r ≡ byteIn set b ⌝ }
 {
     match set {
-        ByteSet::Label => in_range(32, 126, b as usize),
-        ByteSet::Server => in_range(33, 126, b as usize),
+        ByteSet::Label => between(32, 126, b),
+        ByteSet::Server => between(33, 126, b),
         ByteSet::Domain => domain_byte(b),
     }
 }

@@ -8,14 +8,14 @@ use Rattle.charset.proofs.allowed.Tie as tie
 enum-told : tie.Need-enum-told
 enum-told c = search needs
 
-in-range-requires : tie.Need-in-range-requires
-in-range-requires c κs = search needs
+between-requires : tie.Need-between-requires
+between-requires c κs = search needs
 
 enum-told-2 : tie.Need-enum-told-2
 enum-told-2 c = search needs
 
-in-range-requires-2 : tie.Need-in-range-requires-2
-in-range-requires-2 c κs = search needs
+between-requires-2 : tie.Need-between-requires-2
+between-requires-2 c κs = search needs
 
 enum-told-3 : tie.Need-enum-told-3
 enum-told-3 c = search needs
@@ -25,11 +25,11 @@ domain-byte-requires c κs = search needs
 
 returns : tie.Need-returns
 unfolding labelByte
-returns c = rw (c .before .enum-told .given .1) (c .in-range .ensures)
+returns c = rw (c .before .enum-told .given .1) (c .between .ensures)
 
 returns-2 : tie.Need-returns-2
 unfolding serverByte
-returns-2 c = rw (c .before .enum-told2 .given .1) (c .in-range2 .ensures)
+returns-2 c = rw (c .before .enum-told2 .given .1) (c .between2 .ensures)
 
 returns-3 : tie.Need-returns-3
 returns-3 c = rw (c .before .enum-told3 .given .1) (c .domain-byte .ensures)
@@ -39,9 +39,9 @@ allowed-spec =
     tie.close
     (tie.spec
     enum-told
-    in-range-requires
+    between-requires
     enum-told-2
-    in-range-requires-2
+    between-requires-2
     enum-told-3
     domain-byte-requires
     returns
