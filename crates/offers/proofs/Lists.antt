@@ -3,7 +3,7 @@
 -- Assumes nothing.
 use Prim.Native.Nat.{ℕ, suc, _+_, _-_, _≤_, _<_}
 use mathlib.Core.Path.{_≡_, refl, sym, ap, _∙_}
-use mathlib.Core.Bool.{Bool, true, false, _&&_, _||_}
+use mathlib.Core.Bool.{Bool, true, false}
 use mathlib.Core.List.{List, [], _∷_, _++_}
 use native.Mathlib.Numerals.{add-one, one-add}
 use native.Mathlib.Omega.{arith}
@@ -12,7 +12,7 @@ use lib.Dec.{eqb}
 use lib.ListN.{length, getD, take, drop, set, drop-of-length-le, length-drop}
 use lib.Seq.{drop-cons, paste, take-all, take-length}
 use Rattle.refusal.proofs.Passing.{and-left, and-right}
-use Rattle.offers.specs.Rfc5448.{stands, repeats, firstSupported, positionIf, isFirst, sameList}
+use Rattle.offers.specs.Rfc5448.{stands, repeats, firstSupported, isFirst, sameList}
 
 -- a part of a list from index i to the end, as a loan of it has it
 pub rest-drop : (i : ℕ) (s : List ℕ) → take (length s - i) (drop i s) ≡ drop i s

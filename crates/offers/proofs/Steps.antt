@@ -12,7 +12,8 @@ use Rattle.refusal.specs.Checks.{Reason, Check, pass, refuse}
 use Rattle.refusal.specs.Answers.{Answer, wrote, answerTo}
 use Rattle.refusal.proofs.Passing.{last-passed, test-passed}
 use Rattle.offers.specs.Rfc5448.{answerCheck}
-use Rattle.offers.specs.Answers.{ask, firstRoundOf, firstRound, serverAnswer, serverBuffer, RenewedAnswer, renewedAnswer, valueNamed, afterFirst, bufferAfterFirst, negotiated, negotiatedBuffer}
+use Rattle.offers.specs.Answers.{ask, firstRoundOf, firstRound, serverAnswer, serverBuffer, RenewedAnswer, renewedAnswer}
+use Rattle.offers.specs.Negotiation.{valueNamed, afterFirst, bufferAfterFirst, negotiated, negotiatedBuffer}
 use Rattle.offers.specs.declared.FirstRound.{FirstRound}
 use Rattle.offers.specs.declared.FirstRound.the-variants.{CarryOn, Ask, Refused}
 use Rattle.offers.proofs.FirstRound.{the-type}

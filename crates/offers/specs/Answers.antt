@@ -2,9 +2,9 @@
 -- Assumes nothing.
 use Prim.Native.Nat.{ℕ, zero, suc, _+_}
 use mathlib.Core.List.{List}
-use lib.ListN.{length, take, getD}
+use lib.ListN.{length, getD}
 use Rattle.refusal.specs.Checks.{Reason, Check, pass, refuse}
-use Rattle.refusal.specs.Answers.{reasonOf, Answer, wrote, answerTo, bufferAfter}
+use Rattle.refusal.specs.Answers.{reasonOf, Answer, answerTo, bufferAfter}
 use Rattle.offers.specs.Rfc5448.{firstSupported, renewedList, chooseCheck, answerCheck, renewedCheck}
 use Rattle.offers.specs.declared.FirstRound.{FirstRound}
 use Rattle.offers.specs.declared.FirstRound.the-variants as first
@@ -60,31 +60,3 @@ renewedTo (refuse x) choice = refused x
 -- the peer's answer to the renewed list
 unfoldable pub renewedAnswer : List ℕ → ℕ → List ℕ → RenewedAnswer
 renewedAnswer original choice renewed = renewedTo (renewedCheck original choice renewed) choice
-
--- a negotiation in which each side gets what the other sent: after an Ask the server answers it and the peer rechecks what the server wrote;
--- without one the first round's answer stands
-abbrev pub afterServer : List ℕ → ℕ → List ℕ → Answer → RenewedAnswer
-afterServer offers value sent (wrote count) = renewedAnswer offers value (take count sent)
-afterServer offers value sent (Answer.refused x) = RenewedAnswer.refused x
-
-abbrev pub afterFirst : List ℕ → List ℕ → FirstAnswer → RenewedAnswer
-afterFirst offers buffer (carryOn value) = accepted value
-afterFirst offers buffer (ask value position) = afterServer offers value (serverBuffer offers value buffer) (serverAnswer offers value buffer)
-afterFirst offers buffer (FirstAnswer.refused x) = RenewedAnswer.refused x
-
-abbrev pub bufferAfterFirst : List ℕ → List ℕ → FirstAnswer → List ℕ
-bufferAfterFirst offers buffer (carryOn value) = buffer
-bufferAfterFirst offers buffer (ask value position) = serverBuffer offers value buffer
-bufferAfterFirst offers buffer (FirstAnswer.refused x) = buffer
-
--- the value that the first round's answer names, or its refusal
-abbrev pub valueNamed : FirstAnswer → RenewedAnswer
-valueNamed (carryOn value) = accepted value
-valueNamed (ask value position) = accepted value
-valueNamed (FirstAnswer.refused x) = RenewedAnswer.refused x
-
-unfoldable pub negotiated : List ℕ → List ℕ → List ℕ → RenewedAnswer
-negotiated offers supported buffer = afterFirst offers buffer (firstRound offers supported)
-
-unfoldable pub negotiatedBuffer : List ℕ → List ℕ → List ℕ → List ℕ
-negotiatedBuffer offers supported buffer = bufferAfterFirst offers buffer (firstRound offers supported)

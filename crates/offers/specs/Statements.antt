@@ -1,5 +1,5 @@
 -- What is proved of the definitions: the checked cases P6 to P13, that the definitions say what RFC 5448 section 3.2 and document 01, "Offers", say in
--- words, and what an accepted renewed list tells. The proofs are in proofs/Negotiation.antt.
+-- words, and what an accepted renewed list tells. The proofs are in proofs/Statements.antt.
 -- Assumes nothing.
 use Prim.Native.Nat.{ℕ, _+_, _≤_, _<_}
 use mathlib.Core.Path.{_≡_}
@@ -10,7 +10,8 @@ use lib.ListN.{length, getD, drop}
 use Rattle.refusal.specs.Checks.{bare, pass, _andThen_}
 use Rattle.refusal.specs.Answers.{Answer, wrote}
 use Rattle.offers.specs.Rfc5448.{stands, repeats, firstSupported, renewedList, check13, check14}
-use Rattle.offers.specs.Answers.{FirstAnswer, carryOn, ask, firstRound, serverAnswer, serverBuffer, RenewedAnswer, accepted, renewedAnswer, negotiated}
+use Rattle.offers.specs.Answers.{FirstAnswer, carryOn, ask, firstRound, serverAnswer, serverBuffer, RenewedAnswer, accepted, renewedAnswer}
+use Rattle.offers.specs.Negotiation.{negotiated}
 
 -- P6 to P13
 abbrev pub OfferCases : Type 0

@@ -1,8 +1,8 @@
 // The negotiation of the key derivation function by AT_KDF values, as the peer and as the server (RFC 5448 section 3.2, document 01,
-// "Offers"). A list of offers is in the server's order of preference. No list is copied; the test for repeated values, whose time
-// grows with the square of the list, is made only on a list of at most 16.
+// "Offers"). A list of offers is in the server's order of preference. Lists of any length may be lent, and none is copied. The test for
+// repeated values, whose time grows with the square of the list, and the search for a supported offer are made only on a list that 10
+// passes, so of at most 16 offers; the tests of a reply and of a renewed list read each list once.
 ghost use mathlib.Core.Path.{_≡_};
-ghost use mathlib.Core.Bool.{not};
 ghost use mathlib.Core.List.{_∷_, _++_};
 ghost use Prim.Native.Nat.{_+_, _≤_};
 ghost use lib.Dec.{ltb};
@@ -11,7 +11,8 @@ ghost use Rattle.refusal.specs.Checks.{bare, _andThen_};
 ghost use Rattle.refusal.specs.Checks;
 ghost use Rattle.refusal.specs.Answers.{checkedAs, answerOf};
 ghost use Rattle.offers.specs.Rfc5448.{stands, repeats, firstSupported, isFirst, sameList, renewedList, check10, check11, check13, check14};
-ghost use Rattle.offers.specs.Answers.{firstRoundOf, firstRoundTo, firstRound, serverAnswer, serverBuffer, renewedOf, renewedAnswer, valueNamed, negotiated, negotiatedBuffer};
+ghost use Rattle.offers.specs.Answers.{firstRoundOf, firstRoundTo, firstRound, serverAnswer, serverBuffer, renewedOf, renewedAnswer};
+ghost use Rattle.offers.specs.Negotiation.{valueNamed, negotiated, negotiatedBuffer};
 use refusal::Checked;
 use refusal::Refusal;
 use refusal::Written;
@@ -143,11 +144,11 @@ fn first_round_at(offers: &[u16], position: usize) -> FirstRound
     if offers.len() <= position {
         return FirstRound::Refused(Refusal::NoOfferSupported);
     }
-    let value = offers[position];
+    let offer = offers[position];
     if position == 0 {
-        FirstRound::CarryOn(value)
+        FirstRound::CarryOn(offer)
     } else {
-        FirstRound::Ask(value, position)
+        FirstRound::Ask(offer, position)
     }
 }
 

@@ -12,11 +12,11 @@ returns : tie.Need-returns
 unfolding Checks.unless
 returns c = simp (le-ltb _ _ (c .if1 .taken))
 
-mul-value : tie.Need-mul-value
-mul-value c = search needs
+mul-offer : tie.Need-mul-offer
+mul-offer c = search needs
 
-shared-slice-read-value : tie.Need-shared-slice-read-value
-shared-slice-read-value c = search needs
+shared-slice-read-offer : tie.Need-shared-slice-read-offer
+shared-slice-read-offer c = search needs
 
 returns-2 : tie.Need-returns-2
 unfolding Checks.unless
@@ -28,4 +28,4 @@ returns-3 c = let a = c .before .before .before .args in rw (lt-ltb _ _ (c .befo
 
 pub first-round-at-spec : {M : Type 1} → statement M
 first-round-at-spec =
-    tie.close (tie.spec returns mul-value shared-slice-read-value returns-2 returns-3)
+    tie.close (tie.spec returns mul-offer shared-slice-read-offer returns-2 returns-3)

@@ -1,14 +1,15 @@
 -- `offers::negotiate` meets its contract: each step answers as its definition, and a negotiation is the steps one after the other.
 -- Assumes nothing.
 use Prim.Native.Nat.{_≤_}
-use mathlib.Core.Path.{_≡_, refl, sym, ap, _∙_}
+use mathlib.Core.Path.{_≡_, sym, ap, _∙_}
 use native.Mathlib.Omega.{arith}
 use borrow.Author.Needs.{needs}
 use denote.Ref.{now}
 use lib.ListN.{length}
 use lib.Seq.{length-take-le}
 use Rattle.refusal.specs.Answers.{answerOf}
-use Rattle.offers.specs.Answers.{ask, firstRoundOf, firstRound, negotiated, negotiatedBuffer}
+use Rattle.offers.specs.Answers.{ask, firstRoundOf, firstRound}
+use Rattle.offers.specs.Negotiation.{negotiated, negotiatedBuffer}
 use Rattle.offers.proofs.Steps.{unasked, server-refused, server-wrote, wrote-fits}
 use Rattle.offers.proofs.negotiate.Statement.{statement}
 use Rattle.offers.proofs.negotiate.Tie as tie

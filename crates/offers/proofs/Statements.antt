@@ -2,20 +2,20 @@
 -- the tests pass.
 -- Assumes nothing.
 use Prim.Native.Nat.{ℕ, zero, suc, _+_, _≤_, _<_}
-use mathlib.Core.Path.{_≡_, refl, sym, ap, _∙_}
-use mathlib.Core.Bool.{Bool, true, false, not, _||_}
-use mathlib.Core.List.{List, [], _∷_, _++_}
+use mathlib.Core.Path.{_≡_, refl, sym}
+use mathlib.Core.Bool.{Bool, true, false, _||_}
+use mathlib.Core.List.{List, [], _∷_}
 use native.Mathlib.Numerals.{add-one}
 use native.Mathlib.Omega.{arith}
 use borrow.Author.Tests.{eqb-true, eq-eqb, le-leb, ltb-true, not-true}
-use lib.Dec.{eqb, ltb}
+use lib.Dec.{eqb}
 use lib.ListN.{length, getD, drop}
 use lib.Seq.{take-at}
-use Rattle.refusal.specs.Checks.{Reason, Check, pass, refuse, bare, unless, _andThen_, within, check6}
-use Rattle.refusal.specs.Answers.{wrote}
+use Rattle.refusal.specs.Checks.{Reason, Check, pass, refuse, unless, _andThen_, within}
 use Rattle.refusal.proofs.Passing.{before-passed, last-passed, test-passed}
-use Rattle.offers.specs.Rfc5448.{stands, repeats, firstSupported, positionIf, isFirst, sameList, renewedList, check10, check11, check12, check13, check14, check15, chooseCheck, answerCheck, renewedCheck}
-use Rattle.offers.specs.Answers.{FirstAnswer, carryOn, ask, firstRoundAt, firstRoundTo, firstRound, serverAnswer, serverBuffer, RenewedAnswer, accepted, renewedTo, renewedAnswer, negotiated}
+use Rattle.offers.specs.Rfc5448.{stands, repeats, firstSupported, positionIf, isFirst, sameList, renewedList, check10, check11, check13, check14, chooseCheck, answerCheck, renewedCheck}
+use Rattle.offers.specs.Answers.{ask, firstRoundAt, firstRoundTo, firstRound, serverAnswer, serverBuffer, accepted, renewedTo, renewedAnswer}
+use Rattle.offers.specs.Negotiation.{negotiated}
 use Rattle.offers.specs.Statements.{OfferCases, FirstIsFirst, SupportedAsSet, ReplyAfterFirst, UnalteredAccepted, RenewedDetermines}
 use Rattle.offers.proofs.Lists.{same-equal, equal-same}
 
