@@ -1,0 +1,3 @@
+pub mod Rfc5448
+pub mod Answers
+pub mod Statements

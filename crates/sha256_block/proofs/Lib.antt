@@ -1,0 +1,3 @@
+pub mod Schedule
+mod Rounds
+pub mod Blocks
