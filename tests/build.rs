@@ -16,10 +16,7 @@ type Names = BTreeSet<String>;
 fn main() {
     let here = PathBuf::from(env::var("CARGO_MANIFEST_DIR").unwrap());
     let root = here.parent().unwrap();
-    let archive = input(
-        "KETVAULO_ARCHIVE",
-        &root.join("target/staticlib/libketvaulo.a"),
-    );
+    let archive = input("KETVAULO_ARCHIVE", &root.join("target/staticlib/libketvaulo.a"));
     let header = input("KETVAULO_HEADER", &root.join("include/ketvaulo.h"));
     let foreign = here.join("src/ffi.rs");
     println!("cargo:rerun-if-changed={}", foreign.display());
@@ -45,16 +42,8 @@ fn input(variable: &str, usual: &Path) -> PathBuf {
 
 /// The `kv_` functions that the archive defines, by `nm`.
 fn exported_by(archive: &Path) -> Names {
-    let listing = Command::new("nm")
-        .args(["--defined-only", "--extern-only"])
-        .arg(archive)
-        .output()
-        .expect("nm runs");
-    assert!(
-        listing.status.success(),
-        "nm cannot read {}: make it by `rt staticlib ketvaulo`",
-        archive.display()
-    );
+    let listing = Command::new("nm").args(["--defined-only", "--extern-only"]).arg(archive).output().expect("nm runs");
+    assert!(listing.status.success(), "nm cannot read {}: make it by `rt staticlib ketvaulo`", archive.display());
     String::from_utf8_lossy(&listing.stdout)
         .lines()
         .filter_map(|line| line.split_once(" T ").map(|(_, name)| name))
@@ -69,9 +58,7 @@ fn calls_in(source: &str) -> Names {
     let mut names = Names::new();
     for (open, _) in code.match_indices('(') {
         let before = code[..open].trim_end();
-        let start = before
-            .rfind(|c: char| !c.is_ascii_alphanumeric() && c != '_')
-            .map_or(0, |at| at + 1);
+        let start = before.rfind(|c: char| !c.is_ascii_alphanumeric() && c != '_').map_or(0, |at| at + 1);
         if before[start..].starts_with("kv_") {
             names.insert(before[start..].to_owned());
         }
@@ -84,16 +71,10 @@ fn without_comments(source: &str) -> String {
     let mut code = String::new();
     let mut rest = source;
     while let Some(at) = rest.find("/*").into_iter().chain(rest.find("//")).min() {
-        let end = if rest[at..].starts_with("/*") {
-            "*/"
-        } else {
-            "\n"
-        };
+        let end = if rest[at..].starts_with("/*") { "*/" } else { "\n" };
         code.push_str(&rest[..at]);
         code.push(' ');
-        rest = rest[at + 2..]
-            .split_once(end)
-            .map_or("", |(_, after)| after);
+        rest = rest[at + 2..].split_once(end).map_or("", |(_, after)| after);
     }
     code + rest
 }

@@ -44,9 +44,7 @@ impl DerefMut for Bytes {
 impl fmt::Debug for Bytes {
     fn fmt(&self, to: &mut fmt::Formatter<'_>) -> fmt::Result {
         write!(to, "{} bytes ", self.len())?;
-        self.iter()
-            .take(SHOWN)
-            .try_for_each(|byte| write!(to, "{byte:02x}"))?;
+        self.iter().take(SHOWN).try_for_each(|byte| write!(to, "{byte:02x}"))?;
         to.write_str(if self.len() > SHOWN { ".." } else { "" })
     }
 }
@@ -54,8 +52,5 @@ impl fmt::Debug for Bytes {
 /// The bytes that a text of hexadecimal digits stands for; spaces may stand between them.
 pub fn hex(text: &str) -> Vec<u8> {
     let digits: Vec<u32> = text.chars().filter_map(|c| c.to_digit(16)).collect();
-    digits
-        .chunks(2)
-        .map(|pair| (pair[0] * 16 + pair[1]) as u8)
-        .collect()
+    digits.chunks(2).map(|pair| (pair[0] * 16 + pair[1]) as u8).collect()
 }

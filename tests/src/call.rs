@@ -18,10 +18,7 @@ pub struct Expected<Answer> {
 impl<Answer> Expected<Answer> {
     /// An answer that leaves every lent byte as it was.
     pub fn nothing_written(answer: Answer) -> Self {
-        Expected {
-            answer,
-            written: Vec::new(),
-        }
+        Expected { answer, written: Vec::new() }
     }
 }
 
@@ -44,28 +41,19 @@ pub trait Ordered: Call + Clone {
 
 impl Outcome {
     pub fn accepted(value: usize) -> Self {
-        Outcome {
-            refusal: 0,
-            value: value as u64,
-        }
+        Outcome { refusal: 0, value: value as u64 }
     }
 
     /// A refusal returns its number and nothing else.
     pub fn refused(number: Refusal) -> Self {
-        Outcome {
-            refusal: number,
-            value: 0,
-        }
+        Outcome { refusal: number, value: 0 }
     }
 }
 
 /// What a call that writes bytes and returns their count has to do.
 pub fn bytes_or_refusal(result: Result<Vec<u8>, Refusal>) -> Expected<Outcome> {
     match result {
-        Ok(written) => Expected {
-            answer: Outcome::accepted(written.len()),
-            written,
-        },
+        Ok(written) => Expected { answer: Outcome::accepted(written.len()), written },
         Err(number) => Expected::nothing_written(Outcome::refused(number)),
     }
 }
@@ -73,10 +61,7 @@ pub fn bytes_or_refusal(result: Result<Vec<u8>, Refusal>) -> Expected<Outcome> {
 /// What a call that writes two-byte values and returns their count has to do.
 pub fn values_or_refusal(result: Result<Vec<u16>, Refusal>) -> Expected<Outcome> {
     match result {
-        Ok(values) => Expected {
-            answer: Outcome::accepted(values.len()),
-            written: machine_bytes(&values),
-        },
+        Ok(values) => Expected { answer: Outcome::accepted(values.len()), written: machine_bytes(&values) },
         Err(number) => Expected::nothing_written(Outcome::refused(number)),
     }
 }
@@ -94,13 +79,7 @@ impl Group {
     pub fn new(name: &'static str) -> Self {
         let mut rng = Rng::named(name);
         let lender = Lender::new(Rng::named(&format!("{name} {}", rng.next())));
-        Group {
-            name,
-            rng,
-            lender,
-            passed: 0,
-            failed: 0,
-        }
+        Group { name, rng, lender, passed: 0, failed: 0 }
     }
 
     /// Counts a check; a failed one is told.
@@ -126,12 +105,7 @@ impl Group {
         output
     }
 
-    fn compare_once<C: Call>(
-        &mut self,
-        call: &C,
-        expected: &Expected<C::Answer>,
-        empty: Empty,
-    ) -> Vec<u8> {
+    fn compare_once<C: Call>(&mut self, call: &C, expected: &Expected<C::Answer>, empty: Empty) -> Vec<u8> {
         self.lender.start(empty);
         let answer = call.run(&mut self.lender);
         let output = self.lender.output();
@@ -139,22 +113,14 @@ impl Group {
         let same = answer == expected.answer && damage.is_none();
         self.check(same, || {
             let damage = damage.unwrap_or("every lent byte is right".into());
-            format!(
-                "{call:?} (empty slices {empty:?}): answered {answer:?}, expected {:?}; {damage}",
-                expected.answer
-            )
+            format!("{call:?} (empty slices {empty:?}): answered {answer:?}, expected {:?}; {damage}", expected.answer)
         });
         output
     }
 
     /// Prints the group's line; gives what passed and what failed.
     pub fn finish(self) -> (u64, u64) {
-        println!(
-            "{}: {} compared, {} differ",
-            self.name,
-            self.passed + self.failed,
-            self.failed
-        );
+        println!("{}: {} compared, {} differ", self.name, self.passed + self.failed, self.failed);
         (self.passed, self.failed)
     }
 }

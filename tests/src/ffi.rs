@@ -46,12 +46,7 @@ pub struct KeyAttribute {
 }
 
 extern "C" {
-    pub fn kv_sha256(
-        message: *const u8,
-        message_len: usize,
-        out: *mut u8,
-        out_len: usize,
-    ) -> Outcome;
+    pub fn kv_sha256(message: *const u8, message_len: usize, out: *mut u8, out_len: usize) -> Outcome;
 
     pub fn kv_hmac_sha256(
         key: *const u8,
@@ -74,12 +69,7 @@ extern "C" {
         out_len: usize,
     ) -> Outcome;
 
-    pub fn kv_visited_root_key(
-        emsk: *const u8,
-        emsk_len: usize,
-        out: *mut u8,
-        out_len: usize,
-    ) -> Outcome;
+    pub fn kv_visited_root_key(emsk: *const u8, emsk_len: usize, out: *mut u8, out_len: usize) -> Outcome;
 
     pub fn kv_visited_master_key(
         vrk: *const u8,
@@ -92,12 +82,7 @@ extern "C" {
         out_len: usize,
     ) -> Outcome;
 
-    pub fn kv_visited_reauth_key(
-        vmsk: *const u8,
-        vmsk_len: usize,
-        out: *mut u8,
-        out_len: usize,
-    ) -> Outcome;
+    pub fn kv_visited_reauth_key(vmsk: *const u8, vmsk_len: usize, out: *mut u8, out_len: usize) -> Outcome;
 
     pub fn kv_key_name(
         session_id: *const u8,
@@ -115,13 +100,8 @@ extern "C" {
         supported_len: usize,
     ) -> FirstRound;
 
-    pub fn kv_answer_offer(
-        offers: *const u16,
-        offers_len: usize,
-        reply: u16,
-        out: *mut u16,
-        out_len: usize,
-    ) -> Outcome;
+    pub fn kv_answer_offer(offers: *const u16, offers_len: usize, reply: u16, out: *mut u16, out_len: usize)
+        -> Outcome;
 
     pub fn kv_check_renewed(
         original: *const u16,

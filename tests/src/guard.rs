@@ -38,14 +38,7 @@ pub struct Lender {
 
 impl Lender {
     pub fn new(rng: Rng) -> Self {
-        Lender {
-            memory: vec![0; MEMORY / 8],
-            image: Vec::new(),
-            lent: Vec::new(),
-            out: 0..0,
-            empty: Empty::Null,
-            rng,
-        }
+        Lender { memory: vec![0; MEMORY / 8], image: Vec::new(), lent: Vec::new(), out: 0..0, empty: Empty::Null, rng }
     }
 
     /// Takes back what was lent before; the next call starts with an empty memory.
@@ -87,19 +80,11 @@ impl Lender {
 
     /// After the call: the first byte that is not as it has to be when these bytes were to be written.
     pub fn damage(&mut self, written: &[u8]) -> Option<String> {
-        assert!(
-            written.len() <= self.out.len(),
-            "no call is to write more than its output buffer"
-        );
+        assert!(written.len() <= self.out.len(), "no call is to write more than its output buffer");
         self.image[self.out.start..][..written.len()].copy_from_slice(written);
         let memory = self.memory();
         let at = (0..memory.len()).find(|&at| memory[at] != self.image[at])?;
-        Some(format!(
-            "{} is {:02x}, not {:02x}",
-            self.name_of(at),
-            memory[at],
-            self.image[at]
-        ))
+        Some(format!("{} is {:02x}, not {:02x}", self.name_of(at), memory[at], self.image[at]))
     }
 
     /// After the call: what the output buffer holds.
@@ -128,36 +113,21 @@ impl Lender {
         self.image.extend(self.rng.bytes(start - from));
         self.image.extend(content);
         self.image.extend(self.rng.bytes(GUARD));
-        assert!(
-            self.image.len() <= MEMORY,
-            "the buffers of a call fit in the memory"
-        );
+        assert!(self.image.len() <= MEMORY, "the buffers of a call fit in the memory");
         let memory: *mut u8 = self.memory.as_mut_ptr().cast();
         // SAFETY: the image is no longer than the memory, and they are apart.
-        unsafe {
-            ptr::copy_nonoverlapping(
-                self.image[from..].as_ptr(),
-                memory.add(from),
-                self.image.len() - from,
-            )
-        };
+        unsafe { ptr::copy_nonoverlapping(self.image[from..].as_ptr(), memory.add(from), self.image.len() - from) };
         self.lent.push((name, start..end));
         start..end
     }
 
     fn hand_out<T>(&mut self, place: Range<usize>, len: usize) -> Lent<T> {
         if len == 0 && self.empty == Empty::Null {
-            return Lent {
-                pointer: ptr::null_mut(),
-                len,
-            };
+            return Lent { pointer: ptr::null_mut(), len };
         }
         let memory: *mut u8 = self.memory.as_mut_ptr().cast();
         // SAFETY: the place lies in the memory.
-        Lent {
-            pointer: unsafe { memory.add(place.start) }.cast(),
-            len,
-        }
+        Lent { pointer: unsafe { memory.add(place.start) }.cast(), len }
     }
 
     /// In words, where a byte of the memory lies.
@@ -172,8 +142,5 @@ impl Lender {
 
 /// Two-byte values as they lie in the memory of this machine.
 pub fn machine_bytes(values: &[u16]) -> Vec<u8> {
-    values
-        .iter()
-        .flat_map(|value| value.to_ne_bytes())
-        .collect()
+    values.iter().flat_map(|value| value.to_ne_bytes()).collect()
 }

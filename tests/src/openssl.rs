@@ -29,20 +29,8 @@ extern "C" {
     ) -> *mut u8;
     fn AES_set_encrypt_key(key: *const u8, bits: c_int, into: *mut AesKey) -> c_int;
     fn AES_set_decrypt_key(key: *const u8, bits: c_int, into: *mut AesKey) -> c_int;
-    fn AES_wrap_key(
-        key: *mut AesKey,
-        iv: *const u8,
-        out: *mut u8,
-        from: *const u8,
-        len: c_uint,
-    ) -> c_int;
-    fn AES_unwrap_key(
-        key: *mut AesKey,
-        iv: *const u8,
-        out: *mut u8,
-        from: *const u8,
-        len: c_uint,
-    ) -> c_int;
+    fn AES_wrap_key(key: *mut AesKey, iv: *const u8, out: *mut u8, from: *const u8, len: c_uint) -> c_int;
+    fn AES_unwrap_key(key: *mut AesKey, iv: *const u8, out: *mut u8, from: *const u8, len: c_uint) -> c_int;
 }
 
 pub fn sha256(message: &[u8]) -> [u8; DIGEST] {
@@ -54,7 +42,8 @@ pub fn sha256(message: &[u8]) -> [u8; DIGEST] {
 
 pub fn hmac_sha256(key: &[u8], message: &[u8]) -> [u8; DIGEST] {
     let mut mac = [0; DIGEST];
-    // SAFETY: key and message are read for their lengths, the MAC of SHA-256 has 32 bytes, and its length is not asked for.
+    // SAFETY: key and message are read for their lengths, the MAC has the 32 bytes that are written, and its length is
+    // not asked for.
     let made = unsafe {
         HMAC(
             EVP_sha256(),
@@ -72,36 +61,20 @@ pub fn hmac_sha256(key: &[u8], message: &[u8]) -> [u8; DIGEST] {
 
 /// The key wrapped under a 128-bit KEK with this initial value; 8 bytes longer than the key.
 pub fn wrap(kek: &[u8; 16], initial: &[u8; 8], key: &[u8]) -> Vec<u8> {
-    let mut round_keys = AesKey {
-        round_keys: [0; 60],
-        rounds: 0,
-    };
+    let mut round_keys = AesKey { round_keys: [0; 60], rounds: 0 };
     let mut wrapped = vec![0; key.len() + 8];
     // SAFETY: the KEK has 128 bits, and 8 bytes more than the key's length are written.
     let count = unsafe {
         AES_set_encrypt_key(kek.as_ptr(), 128, &mut round_keys);
-        AES_wrap_key(
-            &mut round_keys,
-            initial.as_ptr(),
-            wrapped.as_mut_ptr(),
-            key.as_ptr(),
-            key.len() as c_uint,
-        )
+        AES_wrap_key(&mut round_keys, initial.as_ptr(), wrapped.as_mut_ptr(), key.as_ptr(), key.len() as c_uint)
     };
-    assert_eq!(
-        count as usize,
-        wrapped.len(),
-        "OpenSSL wraps every key of whole blocks"
-    );
+    assert_eq!(count as usize, wrapped.len(), "OpenSSL wraps every key of whole blocks");
     wrapped
 }
 
 /// The unwrapped key, unless unwrapping does not yield the initial value.
 pub fn unwrap(kek: &[u8; 16], wrapped: &[u8]) -> Option<Vec<u8>> {
-    let mut round_keys = AesKey {
-        round_keys: [0; 60],
-        rounds: 0,
-    };
+    let mut round_keys = AesKey { round_keys: [0; 60], rounds: 0 };
     let mut key = vec![0; wrapped.len() - 8];
     // SAFETY: the KEK has 128 bits, and 8 bytes fewer than the wrapped key's length are written.
     let count = unsafe {

@@ -10,16 +10,8 @@ pub type Fault<C> = (Refusal, fn(&mut C));
 pub type Apart = (Refusal, Refusal, &'static str);
 
 /// Tries each fault alone and each two of them, and checks that no number and no pair of the order was left out.
-pub fn every_pair<C: Ordered>(
-    group: &mut Group,
-    accepted: &C,
-    faults: &[Fault<C>],
-    apart: &[Apart],
-) {
-    assert!(
-        numbers_that_hold(&accepted.order()).is_empty(),
-        "the faults start from an accepted call"
-    );
+pub fn every_pair<C: Ordered>(group: &mut Group, accepted: &C, faults: &[Fault<C>], apart: &[Apart]) {
+    assert!(numbers_that_hold(&accepted.order()).is_empty(), "the faults start from an accepted call");
     group.compare(accepted);
     let mut met: Vec<Vec<Refusal>> = Vec::new();
     for first in faults {
@@ -31,13 +23,9 @@ pub fn every_pair<C: Ordered>(
     let order: Vec<Refusal> = accepted.order().iter().map(|test| test.0).collect();
     for (place, &number) in order.iter().enumerate() {
         let alone = met.contains(&vec![number]);
-        group.check(alone, || {
-            format!("no input was tried in which {number} holds alone")
-        });
+        group.check(alone, || format!("no input was tried in which {number} holds alone"));
         for &later in &order[place + 1..] {
-            let together = met
-                .iter()
-                .any(|held| held.contains(&number) && held.contains(&later));
+            let together = met.iter().any(|held| held.contains(&number) && held.contains(&later));
             let cannot = apart.iter().any(|pair| (pair.0, pair.1) == (number, later));
             group.check(together != cannot, || {
                 format!("{number} and {later}: tried together {together}, listed as apart {cannot}")

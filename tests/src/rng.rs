@@ -5,9 +5,9 @@ pub struct Rng(u64);
 impl Rng {
     /// The generator of one group, so that its inputs do not depend on which other groups ran.
     pub fn named(name: &str) -> Self {
-        let seed = name.bytes().fold(0x6b65_7476_6175_6c6f, |sum: u64, byte| {
-            sum.wrapping_mul(0x100_0000_01b3) ^ u64::from(byte)
-        });
+        let seed = name
+            .bytes()
+            .fold(0x6b65_7476_6175_6c6f, |sum: u64, byte| sum.wrapping_mul(0x100_0000_01b3) ^ u64::from(byte));
         Rng(seed)
     }
 
@@ -46,9 +46,7 @@ impl Rng {
 
     /// `len` bytes, each from `low` to `high`.
     pub fn bytes_in(&mut self, len: usize, low: u8, high: u8) -> Vec<u8> {
-        (0..len)
-            .map(|_| self.between(low.into(), high.into()) as u8)
-            .collect()
+        (0..len).map(|_| self.between(low.into(), high.into()) as u8).collect()
     }
 
     pub fn bytes(&mut self, len: usize) -> Vec<u8> {

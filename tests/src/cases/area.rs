@@ -1,5 +1,6 @@
 //! Attribute areas: what an area may hold, every kind of damage, the refusals in every order, and long areas.
 
+use super::with_byte;
 use crate::bytes::Bytes;
 use crate::call::{Call, Expected, Group};
 use crate::ffi::{self, Area};
@@ -14,11 +15,7 @@ const LONGEST_NAME: usize = 1016;
 
 /// Every two numbers of 6, 16, 17, 18, 19, 10 can hold together, but not in each of their senses.
 pub const APART: &[Apart] = &[
-    (
-        18,
-        19,
-        "in its sense of no name: an AT_KDF_INPUT is there, though faulty",
-    ),
+    (18, 19, "in its sense of no name: an AT_KDF_INPUT is there, though faulty"),
     (19, 19, "no name and a repeated one"),
     (10, 10, "no offer and an eighteenth one"),
 ];
@@ -39,10 +36,7 @@ impl Call for ReadArea {
                 },
                 written: machine_bytes(&contents.offers),
             },
-            Err(refusal) => Expected::nothing_written(Area {
-                refusal,
-                ..Area::default()
-            }),
+            Err(refusal) => Expected::nothing_written(Area { refusal, ..Area::default() }),
         }
     }
 
@@ -51,16 +45,7 @@ impl Call for ReadArea {
         let own_name = lender.bytes("own_name", &self.own_name);
         let out = lender.room_for_values(self.room);
         // SAFETY: all of it is lent.
-        unsafe {
-            ffi::kv_read_area(
-                area.pointer,
-                area.len,
-                own_name.pointer,
-                own_name.len,
-                out.pointer,
-                out.len,
-            )
-        }
+        unsafe { ffi::kv_read_area(area.pointer, area.len, own_name.pointer, own_name.len, out.pointer, out.len) }
     }
 }
 
@@ -105,18 +90,12 @@ fn other(rng: &mut Rng, words: u8) -> Vec<u8> {
 }
 
 fn offers(count: usize) -> Vec<u8> {
-    (0..count)
-        .flat_map(|value| kdf(value as u16 * 257))
-        .collect()
+    (0..count).flat_map(|value| kdf(value as u16 * 257)).collect()
 }
 
 /// Compares the reading of an area with room enough and the name WLN as the peer's own.
 fn read(group: &mut Group, area: &[u8]) {
-    group.compare(&ReadArea {
-        area: area.into(),
-        own_name: "WLN".into(),
-        room: MOST_OFFERS,
-    });
+    group.compare(&ReadArea { area: area.into(), own_name: "WLN".into(), room: MOST_OFFERS });
 }
 
 /// Each room, for an area with few offers, with 17, and for broken ones: 6 comes before everything else.
@@ -133,11 +112,7 @@ fn rooms(group: &mut Group) {
         for room in 0..=40 {
             for own_name in ["WLN", ""] {
                 let (area, own_name) = (area.clone().into(), own_name.into());
-                group.compare(&ReadArea {
-                    area,
-                    own_name,
-                    room,
-                });
+                group.compare(&ReadArea { area, own_name, room });
             }
         }
     }
@@ -164,11 +139,7 @@ fn names(group: &mut Group) {
         let start: Vec<u8> = (0..place).flat_map(|_| other(&mut group.rng, 3)).collect();
         let area: Bytes = [start, kdf_input(&name), kdf(1)].concat().into();
         for own_name in own_names(&mut group.rng, &name) {
-            group.compare(&ReadArea {
-                area: area.clone(),
-                own_name,
-                room: 20,
-            });
+            group.compare(&ReadArea { area: area.clone(), own_name, room: 20 });
         }
     }
 }
@@ -180,7 +151,7 @@ fn own_names(rng: &mut Rng, name: &[u8]) -> Vec<Bytes> {
         own.push(name[..last].into());
         own.push(name[1..].into());
         for at in [0, last, rng.below(name.len())] {
-            own.push(super::with_byte(name, at, name[at] ^ 1 << rng.below(8)));
+            own.push(with_byte(name, at, name[at] ^ 1 << rng.below(8)));
         }
     }
     own
@@ -189,12 +160,7 @@ fn own_names(rng: &mut Rng, name: &[u8]) -> Vec<Bytes> {
 /// Each value of the name length field against few lengths of the attribute, also where they agree modulo 256 words.
 fn name_length_fields(group: &mut Group) {
     for words in [1, 2, 255] {
-        let mut area = [
-            kdf(1),
-            vec![AT_KDF_INPUT, words],
-            vec![0; 4 * usize::from(words) - 2],
-        ]
-        .concat();
+        let mut area = [kdf(1), vec![AT_KDF_INPUT, words], vec![0; 4 * usize::from(words) - 2]].concat();
         for name_len in 0..=u16::MAX {
             area[6..8].copy_from_slice(&name_len.to_be_bytes());
             read(group, &area);
@@ -204,7 +170,7 @@ fn name_length_fields(group: &mut Group) {
 
 /// An area of every kind of attribute, cut at each byte, with each byte set to each value, and with two changes.
 fn damage(group: &mut Group) {
-    let parts = [
+    let whole = [
         other(&mut group.rng, 2),
         kdf(2),
         kdf(1),
@@ -212,29 +178,29 @@ fn damage(group: &mut Group) {
         vec![0, 1, 0, 0],
         kdf(513),
         other(&mut group.rng, 5),
-    ];
-    let whole = parts.concat();
+    ]
+    .concat();
     for end in 0..=whole.len() {
         read(group, &whole[..end]);
         read(group, &whole[end..]);
     }
     for at in 0..whole.len() {
         for byte in 0..=255 {
-            read(group, &super::with_byte(&whole, at, byte));
+            read(group, &with_byte(&whole, at, byte));
         }
     }
     for _ in 0..50_000 {
         let mut area = whole.clone();
-        for _ in 0..2 {
-            let at = group.rng.below(area.len());
-            area[at] = if group.rng.once_in(2) {
-                group.rng.below(26) as u8
-            } else {
-                area[at] ^ 1 << group.rng.below(8)
-            };
-        }
+        change_a_byte(&mut group.rng, &mut area);
+        change_a_byte(&mut group.rng, &mut area);
         read(group, &area);
     }
+}
+
+/// Changes one bit, or puts a number that may well be a length or a type.
+fn change_a_byte(rng: &mut Rng, bytes: &mut [u8]) {
+    let at = rng.below(bytes.len());
+    bytes[at] = if rng.once_in(2) { rng.below(26) as u8 } else { bytes[at] ^ 1 << rng.below(8) };
 }
 
 /// An attribute that is refused wherever the walk meets it, after a sound name; by kind of fault.
@@ -275,28 +241,16 @@ fn double_faults() -> Vec<(Refusal, Vec<u8>)> {
         // 16 before 17: past the end, and not of length 1
         (16, [&name[..], &[AT_KDF, 2, 0, 1]].concat()),
         // 16 before 18: past the end, and a name length that disagrees
-        (
-            16,
-            [&kdf(1)[..], &[AT_KDF_INPUT, 3, 0, 1, 87, 0, 0, 0]].concat(),
-        ),
+        (16, [&kdf(1)[..], &[AT_KDF_INPUT, 3, 0, 1, 87, 0, 0, 0]].concat()),
         // 16 before 19: past the end, and the second name
         (16, [&name[..], &kdf(1), &name[..7]].concat()),
         // 16 before 10: past the end, and the eighteenth AT_KDF
         (16, [&name[..], &offers(18)[..71]].concat()),
         // 17 before 10: of wrong length, and the eighteenth
-        (
-            17,
-            [&name[..], &offers(17), &[AT_KDF, 2, 0, 1, 0, 0, 0, 0]].concat(),
-        ),
+        (17, [&name[..], &offers(17), &[AT_KDF, 2, 0, 1, 0, 0, 0, 0]].concat()),
         // 18 before 19: a name length that disagrees, then padding, each in a second name
-        (
-            18,
-            [&name[..], &kdf(1), &[AT_KDF_INPUT, 2, 0, 9, 0, 0, 0, 0]].concat(),
-        ),
-        (
-            18,
-            [&name[..], &kdf(1), &[AT_KDF_INPUT, 2, 0, 1, 87, 0, 0, 1]].concat(),
-        ),
+        (18, [&name[..], &kdf(1), &[AT_KDF_INPUT, 2, 0, 9, 0, 0, 0, 0]].concat()),
+        (18, [&name[..], &kdf(1), &[AT_KDF_INPUT, 2, 0, 1, 87, 0, 0, 1]].concat()),
         // 16 before 19 and 10 at the end of the walk
         (16, vec![9]),
         (16, vec![9, 0]),
@@ -339,14 +293,8 @@ fn refusals(group: &mut Group) {
 /// Compares the reading, which has to be refused by this number, and by 6 where there is room for 16 values only.
 fn refused(group: &mut Group, number: Refusal, parts: &[&[u8]]) {
     for (room, number) in [(MOST_OFFERS, number), (MOST_OFFERS - 1, 6), (0, 6)] {
-        let call = ReadArea {
-            area: parts.concat().into(),
-            own_name: "WLN".into(),
-            room,
-        };
-        group.check(call.contents() == Err(number), || {
-            format!("{call:?} was made to be refused by {number}")
-        });
+        let call = ReadArea { area: parts.concat().into(), own_name: "WLN".into(), room };
+        group.check(call.contents() == Err(number), || format!("{call:?} was made to be refused by {number}"));
         group.compare(&call);
     }
 }
@@ -355,19 +303,11 @@ fn refused(group: &mut Group, number: Refusal, parts: &[&[u8]]) {
 fn long_areas(group: &mut Group) {
     for words in [1, 3, 255] {
         let count = (100 << 10) / (4 * usize::from(words));
-        let long: Vec<u8> = (0..count)
-            .flat_map(|_| other(&mut group.rng, words))
-            .collect();
+        let long: Vec<u8> = (0..count).flat_map(|_| other(&mut group.rng, words)).collect();
         read(group, &long);
-        read(
-            group,
-            &[&long[..], &offers(17), &kdf_input(b"WLN")].concat(),
-        );
+        read(group, &[&long[..], &offers(17), &kdf_input(b"WLN")].concat());
         read(group, &[&kdf(5)[..], &long, &kdf_input(b"WLM")].concat());
-        read(
-            group,
-            &[&kdf_input(b"WLN")[..], &kdf(5), &long, &[9]].concat(),
-        );
+        read(group, &[&kdf_input(b"WLN")[..], &kdf(5), &long, &[9]].concat());
     }
 }
 
@@ -385,11 +325,7 @@ fn random_areas(group: &mut Group) {
         }
         let own_name = if rng.once_in(2) { name } else { rng.bytes(len) };
         let room = rng.between(16, 30);
-        group.compare(&ReadArea {
-            area: area.into(),
-            own_name: own_name.into(),
-            room,
-        });
+        group.compare(&ReadArea { area: area.into(), own_name: own_name.into(), room });
     }
 }
 

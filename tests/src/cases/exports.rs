@@ -8,10 +8,7 @@ mod names {
 }
 
 pub fn run(group: &mut Group) {
-    let every: BTreeSet<&str> = [names::EXPORTED, names::DECLARED, names::KNOWN]
-        .concat()
-        .into_iter()
-        .collect();
+    let every: BTreeSet<&str> = [names::EXPORTED, names::DECLARED, names::KNOWN].concat().into_iter().collect();
     for name in every {
         let exported = names::EXPORTED.contains(&name);
         let declared = names::DECLARED.contains(&name);

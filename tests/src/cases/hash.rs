@@ -42,9 +42,7 @@ impl Call for HmacSha256 {
     type Answer = Outcome;
 
     fn expected(&self) -> Expected<Outcome> {
-        bytes_or_refusal(if_room(self.room, || {
-            openssl::hmac_sha256(&self.key, &self.message)
-        }))
+        bytes_or_refusal(if_room(self.room, || openssl::hmac_sha256(&self.key, &self.message)))
     }
 
     fn run(&self, lender: &mut Lender) -> Outcome {
@@ -52,16 +50,7 @@ impl Call for HmacSha256 {
         let message = lender.bytes("message", &self.message);
         let out = lender.room(self.room);
         // SAFETY: all of it is lent.
-        unsafe {
-            ffi::kv_hmac_sha256(
-                key.pointer,
-                key.len,
-                message.pointer,
-                message.len,
-                out.pointer,
-                out.len,
-            )
-        }
+        unsafe { ffi::kv_hmac_sha256(key.pointer, key.len, message.pointer, message.len, out.pointer, out.len) }
     }
 }
 
@@ -74,17 +63,11 @@ fn if_room(room: usize, digest: impl Fn() -> [u8; DIGEST]) -> Result<Vec<u8>, Re
 pub fn sha256(group: &mut Group) {
     for len in 0..=5000 {
         let message = group.rng.bytes(len).into();
-        group.compare(&Sha256 {
-            message,
-            room: DIGEST,
-        });
+        group.compare(&Sha256 { message, room: DIGEST });
     }
     for len in PADDING_EDGES {
         for byte in [0x00, 0x80, 0xff] {
-            group.compare(&Sha256 {
-                message: vec![byte; len].into(),
-                room: DIGEST,
-            });
+            group.compare(&Sha256 { message: vec![byte; len].into(), room: DIGEST });
         }
         for room in 0..=100 {
             let message = group.rng.bytes(len).into();
@@ -93,10 +76,7 @@ pub fn sha256(group: &mut Group) {
     }
     for len in [65_535, 65_536, 1 << 20] {
         let message = group.rng.bytes(len).into();
-        group.compare(&Sha256 {
-            message,
-            room: DIGEST,
-        });
+        group.compare(&Sha256 { message, room: DIGEST });
     }
 }
 

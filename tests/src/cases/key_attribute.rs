@@ -55,14 +55,8 @@ impl Call for ReadKey {
 
     fn expected(&self) -> Expected<KeyAttribute> {
         match self.fields() {
-            Ok(fields) => Expected {
-                answer: answer_of(&fields),
-                written: fields.key.to_vec(),
-            },
-            Err(refusal) => Expected::nothing_written(KeyAttribute {
-                refusal,
-                ..KeyAttribute::default()
-            }),
+            Ok(fields) => Expected { answer: answer_of(&fields), written: fields.key.to_vec() },
+            Err(refusal) => Expected::nothing_written(KeyAttribute { refusal, ..KeyAttribute::default() }),
         }
     }
 
@@ -72,14 +66,7 @@ impl Call for ReadKey {
         let out = lender.room(self.room);
         // SAFETY: all of it is lent.
         unsafe {
-            ffi::kv_read_key_attribute(
-                kek.pointer,
-                kek.len,
-                attribute.pointer,
-                attribute.len,
-                out.pointer,
-                out.len,
-            )
+            ffi::kv_read_key_attribute(kek.pointer, kek.len, attribute.pointer, attribute.len, out.pointer, out.len)
         }
     }
 }
@@ -140,9 +127,7 @@ const READ_FAULTS: &[Fault<ReadKey>] = &[
     (26, |call| set(call, 3, 128)),
     (27, |call| set(call, 44, 0xa7)),
     (27, |call| set(call, 51, 0x26)),
-    (6, |call| {
-        call.room = call.attribute.len().saturating_sub(OVERHEAD + 1)
-    }),
+    (6, |call| call.room = call.attribute.len().saturating_sub(OVERHEAD + 1)),
     (6, |call| call.room = 0),
     (28, |call| call.kek.iter_mut().for_each(|byte| *byte ^= 1)),
     (28, |call| change(call, WRAPPED_AT)),
@@ -150,11 +135,8 @@ const READ_FAULTS: &[Fault<ReadKey>] = &[
 ];
 
 /// The pair of the reader's order that no input has; all others can hold together.
-pub const APART: &[Apart] = &[(
-    22,
-    28,
-    "without a KEK of 16 bytes nothing is unwrapped, so unwrapping yields no value",
-)];
+pub const APART: &[Apart] =
+    &[(22, 28, "without a KEK of 16 bytes nothing is unwrapped, so unwrapping yields no value")];
 
 /// Sets a byte, where the attribute has it.
 fn set(call: &mut ReadKey, at: usize, byte: u8) {
@@ -172,13 +154,7 @@ fn change(call: &mut ReadKey, at: usize) {
 
 pub fn write(group: &mut Group) {
     for len in 0..=300 {
-        for room in [
-            0,
-            len + OVERHEAD - 1,
-            len + OVERHEAD,
-            len + OVERHEAD + 1,
-            400,
-        ] {
+        for room in [0, len + OVERHEAD - 1, len + OVERHEAD, len + OVERHEAD + 1, 400] {
             let call = to_write(&mut group.rng, len);
             group.compare(&WriteKey { room, ..call });
         }
@@ -188,12 +164,7 @@ pub fn write(group: &mut Group) {
         let call = to_write(&mut group.rng, 32);
         group.compare(&WriteKey { kind, ..call });
     }
-    every_pair(
-        group,
-        &to_write(&mut Rng::named("pairs"), 32),
-        WRITE_FAULTS,
-        &[],
-    );
+    every_pair(group, &to_write(&mut Rng::named("pairs"), 32), WRITE_FAULTS, &[]);
     for _ in 0..5000 {
         let len = 8 * group.rng.between(2, 24);
         let call = to_write(&mut group.rng, len);
@@ -207,25 +178,12 @@ fn write_lengths(group: &mut Group) {
     for len in 0..=33 {
         let call = to_write(&mut group.rng, 24);
         let bytes: Bytes = group.rng.bytes(len).into();
-        group.compare(&WriteKey {
-            kek: bytes.clone(),
-            ..call.clone()
-        });
-        group.compare(&WriteKey {
-            kek_id: bytes.clone(),
-            ..call.clone()
-        });
-        group.compare(&WriteKey {
-            key_id: bytes.clone(),
-            ..call.clone()
-        });
+        group.compare(&WriteKey { kek: bytes.clone(), ..call.clone() });
+        group.compare(&WriteKey { kek_id: bytes.clone(), ..call.clone() });
+        group.compare(&WriteKey { key_id: bytes.clone(), ..call.clone() });
         // two lengths whose sum is right
         let rest = vec![1; 32usize.saturating_sub(len)].into();
-        group.compare(&WriteKey {
-            kek_id: bytes,
-            key_id: rest,
-            ..call
-        });
+        group.compare(&WriteKey { kek_id: bytes, key_id: rest, ..call });
     }
 }
 
@@ -257,20 +215,12 @@ pub fn read(group: &mut Group) {
         let accepted = to_read(&mut group.rng, len);
         bit_changes(group, &accepted);
         for room in [0, 1, len - 1, len, len + 1, 300] {
-            group.compare(&ReadKey {
-                room,
-                ..accepted.clone()
-            });
+            group.compare(&ReadKey { room, ..accepted.clone() });
         }
         initial_values(group, &accepted, len);
     }
     lengths(group);
-    every_pair(
-        group,
-        &to_read(&mut Rng::named("pairs"), 32),
-        READ_FAULTS,
-        APART,
-    );
+    every_pair(group, &to_read(&mut Rng::named("pairs"), 32), READ_FAULTS, APART);
     for _ in 0..5000 {
         let len = 8 * group.rng.between(2, 24);
         let call = to_read(&mut group.rng, len);
@@ -282,15 +232,8 @@ pub fn read(group: &mut Group) {
 /// An accepted attribute, as the papers have it written.
 fn to_read(rng: &mut Rng, key_len: usize) -> ReadKey {
     let written = to_write(rng, key_len);
-    let attribute = written
-        .attribute()
-        .expect("to_write makes accepted requests")
-        .into();
-    ReadKey {
-        kek: written.kek,
-        attribute,
-        room: key_len + rng.skewed(0, 40),
-    }
+    let attribute = written.attribute().expect("to_write makes accepted requests").into();
+    ReadKey { kek: written.kek, attribute, room: key_len + rng.skewed(0, 40) }
 }
 
 /// Each bit of the attribute changed, and each bit of the KEK.
@@ -310,9 +253,7 @@ fn bit_changes(group: &mut Group, accepted: &ReadKey) {
 
 /// Keys wrapped with an initial value that is wrong in one bit: all eight bytes are looked at, and no key is written.
 fn initial_values(group: &mut Group, accepted: &ReadKey, key_len: usize) {
-    let kek = accepted.kek[..]
-        .try_into()
-        .expect("an accepted KEK has 16 bytes");
+    let kek = accepted.kek[..].try_into().expect("an accepted KEK has 16 bytes");
     let key = group.rng.bytes(key_len);
     for bit in 0..64 {
         let mut initial = INITIAL_VALUE;
@@ -348,25 +289,11 @@ pub fn round_trips(group: &mut Group) {
         for _ in 0..20 {
             let written = to_write(&mut group.rng, len);
             let attribute = group.compare(&written)[..OVERHEAD + len].to_vec();
-            let reader = ReadKey {
-                kek: written.kek.clone(),
-                attribute: attribute.into(),
-                room: len,
-            };
+            let reader = ReadKey { kek: written.kek.clone(), attribute: attribute.into(), room: len };
             let key: Bytes = group.compare(&reader).into();
-            group.check(key == written.key, || {
-                format!("{written:?} reads back as the key {key:?}")
-            });
-            let again: Bytes = group
-                .compare(&WriteKey {
-                    key,
-                    room: OVERHEAD + len,
-                    ..written
-                })
-                .into();
-            group.check(again == reader.attribute, || {
-                format!("{reader:?} is written again as {again:?}")
-            });
+            group.check(key == written.key, || format!("{written:?} reads back as the key {key:?}"));
+            let again: Bytes = group.compare(&WriteKey { key, room: OVERHEAD + len, ..written }).into();
+            group.check(again == reader.attribute, || format!("{reader:?} is written again as {again:?}"));
         }
     }
 }

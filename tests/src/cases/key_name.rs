@@ -21,16 +21,7 @@ impl Call for KeyName {
         let label = lender.bytes("label", &self.label);
         let out = lender.room(self.room);
         // SAFETY: all of it is lent.
-        unsafe {
-            ffi::kv_key_name(
-                session_id.pointer,
-                session_id.len,
-                label.pointer,
-                label.len,
-                out.pointer,
-                out.len,
-            )
-        }
+        unsafe { ffi::kv_key_name(session_id.pointer, session_id.len, label.pointer, label.len, out.pointer, out.len) }
     }
 }
 
@@ -68,11 +59,7 @@ pub fn run(group: &mut Group) {
 fn request(rng: &mut Rng) -> KeyName {
     let len = rng.skewed(1, 255);
     let session_id = rng.bytes(len).into();
-    KeyName {
-        session_id,
-        label: label(rng),
-        room: NAME + rng.skewed(0, 40),
-    }
+    KeyName { session_id, label: label(rng), room: NAME + rng.skewed(0, 40) }
 }
 
 /// Each length in turn, the others accepted.

@@ -17,16 +17,10 @@ impl Call for Choose {
     fn expected(&self) -> Expected<FirstRound> {
         let none = FirstRound::default();
         Expected::nothing_written(match self.answer() {
-            Ok(Answer::CarryOn { value }) => FirstRound {
-                value: value.into(),
-                ..none
-            },
-            Ok(Answer::Ask { value, position }) => FirstRound {
-                ask: 1,
-                value: value.into(),
-                position: position as u32,
-                ..none
-            },
+            Ok(Answer::CarryOn { value }) => FirstRound { value: value.into(), ..none },
+            Ok(Answer::Ask { value, position }) => {
+                FirstRound { ask: 1, value: value.into(), position: position as u32, ..none }
+            }
             Err(refusal) => FirstRound { refusal, ..none },
         })
     }
@@ -35,9 +29,7 @@ impl Call for Choose {
         let offers = lender.values("offers", &self.offers);
         let supported = lender.values("supported", &self.supported);
         // SAFETY: all of it is lent.
-        unsafe {
-            ffi::kv_choose_offer(offers.pointer, offers.len, supported.pointer, supported.len)
-        }
+        unsafe { ffi::kv_choose_offer(offers.pointer, offers.len, supported.pointer, supported.len) }
     }
 }
 
@@ -58,9 +50,7 @@ impl Call for Reply {
         let offers = lender.values("offers", &self.offers);
         let out = lender.room_for_values(self.room);
         // SAFETY: all of it is lent.
-        unsafe {
-            ffi::kv_answer_offer(offers.pointer, offers.len, self.reply, out.pointer, out.len)
-        }
+        unsafe { ffi::kv_answer_offer(offers.pointer, offers.len, self.reply, out.pointer, out.len) }
     }
 }
 
@@ -84,15 +74,7 @@ impl Call for Recheck {
         let original = lender.values("original", &self.original);
         let renewed = lender.values("renewed", &self.renewed);
         // SAFETY: all of it is lent.
-        unsafe {
-            ffi::kv_check_renewed(
-                original.pointer,
-                original.len,
-                self.choice,
-                renewed.pointer,
-                renewed.len,
-            )
-        }
+        unsafe { ffi::kv_check_renewed(original.pointer, original.len, self.choice, renewed.pointer, renewed.len) }
     }
 }
 
@@ -117,9 +99,7 @@ const REPLY_FAULTS: &[Fault<Reply>] = &[
     (10, |call| lengthen(&mut call.offers)),
     (11, |call| repeat_last(&mut call.offers)),
     (11, |call| repeat_first(&mut call.offers)),
-    (13, |call| {
-        call.reply = call.offers.first().copied().unwrap_or(0)
-    }),
+    (13, |call| call.reply = call.offers.first().copied().unwrap_or(0)),
     (14, |call| call.reply = 9),
     (6, |call| call.room = call.offers.len()),
     (6, |call| call.room = 0),
@@ -130,9 +110,7 @@ const RECHECK_FAULTS: &[Fault<Recheck>] = &[
     (10, |call| replace_original(call, lengthen)),
     (11, |call| replace_original(call, repeat_last)),
     (11, |call| replace_original(call, repeat_first)),
-    (13, |call| {
-        replace_choice(call, call.original.first().copied().unwrap_or(0))
-    }),
+    (13, |call| replace_choice(call, call.original.first().copied().unwrap_or(0))),
     (14, |call| replace_choice(call, 9)),
     (15, |call| call.renewed.clear()),
     (15, |call| call.renewed.push(1)),
@@ -140,11 +118,7 @@ const RECHECK_FAULTS: &[Fault<Recheck>] = &[
 ];
 
 /// The pair of answers and rechecks that no input has; all others of their orders can hold together.
-pub const APART: &[Apart] = &[(
-    13,
-    14,
-    "a reply that equals the first offer is among the offers",
-)];
+pub const APART: &[Apart] = &[(13, 14, "a reply that equals the first offer is among the offers")];
 
 /// To 17 values, the earlier ones first.
 fn lengthen(offers: &mut Vec<u16>) {
@@ -177,10 +151,7 @@ pub fn choose(group: &mut Group) {
     let short = lists(4);
     for offers in &short {
         for supported in &short {
-            group.compare(&Choose {
-                offers: offers.clone(),
-                supported: supported.clone(),
-            });
+            group.compare(&Choose { offers: offers.clone(), supported: supported.clone() });
         }
     }
     for count in 0..=40 {
@@ -190,10 +161,7 @@ pub fn choose(group: &mut Group) {
             group.compare(&Choose { offers, supported });
         }
     }
-    let accepted = Choose {
-        offers: vec![2, 1, 3],
-        supported: vec![7, 1, 3, 1],
-    };
+    let accepted = Choose { offers: vec![2, 1, 3], supported: vec![7, 1, 3, 1] };
     every_pair(group, &accepted, CHOOSE_FAULTS, &[]);
     for _ in 0..20_000 {
         let offers = random_offers(&mut group.rng);
@@ -209,11 +177,7 @@ pub fn answer(group: &mut Group) {
     for offers in lists(4) {
         for reply in replies() {
             for room in [0, 1, offers.len(), offers.len() + 1, offers.len() + 2, 40] {
-                group.compare(&Reply {
-                    offers: offers.clone(),
-                    reply,
-                    room,
-                });
+                group.compare(&Reply { offers: offers.clone(), reply, room });
             }
         }
     }
@@ -221,33 +185,16 @@ pub fn answer(group: &mut Group) {
         for room in [count, count + 1, count + 2] {
             let offers = distinct(&mut group.rng, count);
             for reply in offers.iter().copied().chain([0, 9]) {
-                group.compare(&Reply {
-                    offers: offers.clone(),
-                    reply,
-                    room,
-                });
+                group.compare(&Reply { offers: offers.clone(), reply, room });
             }
         }
     }
-    every_pair(
-        group,
-        &Reply {
-            offers: vec![2, 1, 3],
-            reply: 1,
-            room: 40,
-        },
-        REPLY_FAULTS,
-        APART,
-    );
+    every_pair(group, &Reply { offers: vec![2, 1, 3], reply: 1, room: 40 }, REPLY_FAULTS, APART);
     for _ in 0..20_000 {
         let offers = random_offers(&mut group.rng);
         let reply = random_reply(&mut group.rng, &offers);
         let room = offers.len() + group.rng.skewed(0, 20);
-        let call = Reply {
-            offers,
-            reply,
-            room,
-        };
+        let call = Reply { offers, reply, room };
         group.compare(&call);
         mixed(group, &call, REPLY_FAULTS);
     }
@@ -260,11 +207,7 @@ pub fn recheck(group: &mut Group) {
         for choice in replies() {
             for renewed in &renewals {
                 let (original, renewed) = (original.clone(), renewed.clone());
-                group.compare(&Recheck {
-                    original,
-                    choice,
-                    renewed,
-                });
+                group.compare(&Recheck { original, choice, renewed });
             }
         }
     }
@@ -274,20 +217,12 @@ pub fn recheck(group: &mut Group) {
             damaged_renewals(group, &original, choice);
         }
     }
-    let accepted = Recheck {
-        original: vec![2, 1, 3],
-        choice: 1,
-        renewed: vec![1, 2, 1, 3],
-    };
+    let accepted = Recheck { original: vec![2, 1, 3], choice: 1, renewed: vec![1, 2, 1, 3] };
     every_pair(group, &accepted, RECHECK_FAULTS, APART);
     for _ in 0..20_000 {
         let original = random_offers(&mut group.rng);
         let choice = random_reply(&mut group.rng, &original);
-        let call = Recheck {
-            renewed: renewed(&original, choice),
-            original,
-            choice,
-        };
+        let call = Recheck { renewed: renewed(&original, choice), original, choice };
         group.compare(&call);
         mixed(group, &call, RECHECK_FAULTS);
     }
@@ -296,11 +231,7 @@ pub fn recheck(group: &mut Group) {
 /// The right renewed list, and it with a value changed at each place, cut short and made longer.
 fn damaged_renewals(group: &mut Group, original: &[u16], choice: u16) {
     let right = renewed(original, choice);
-    let mut lists = vec![
-        right.clone(),
-        [&right[..], &[choice]].concat(),
-        original.to_vec(),
-    ];
+    let mut lists = vec![right.clone(), [&right[..], &[choice]].concat(), original.to_vec()];
     for at in 0..right.len() {
         lists.push(right[..at].to_vec());
         let mut changed = right.clone();
@@ -308,11 +239,7 @@ fn damaged_renewals(group: &mut Group, original: &[u16], choice: u16) {
         lists.push(changed);
     }
     for renewed in lists {
-        group.compare(&Recheck {
-            original: original.to_vec(),
-            choice,
-            renewed,
-        });
+        group.compare(&Recheck { original: original.to_vec(), choice, renewed });
     }
 }
 
@@ -321,10 +248,7 @@ fn lists(longest: usize) -> Vec<Vec<u16>> {
     let mut all = vec![vec![]];
     let mut last = all.clone();
     for _ in 0..longest {
-        last = last
-            .iter()
-            .flat_map(|list| VALUES.map(|value| [&list[..], &[value]].concat()))
-            .collect();
+        last = last.iter().flat_map(|list| VALUES.map(|value| [&list[..], &[value]].concat())).collect();
         all.extend(last.clone());
     }
     all

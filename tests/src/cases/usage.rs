@@ -63,9 +63,7 @@ const FAULTS: &[Fault<UsageKey>] = &[
     (5, |call| call.n = (1 << 16) + 64),
     (5, |call| call.n = (1 << 32) + 64),
     (5, |call| call.n = u64::MAX),
-    (6, |call| {
-        call.room = call.n.min(9000).saturating_sub(1) as usize
-    }),
+    (6, |call| call.room = call.n.clamp(1, 9000) as usize - 1),
     (6, |call| call.room = 0),
 ];
 
@@ -88,45 +86,20 @@ fn request(rng: &mut Rng) -> UsageKey {
     let n = rng.skewed(1, 8160);
     let room = n + rng.skewed(0, 40);
     let data = rng.bytes(data_len).into();
-    UsageKey {
-        emsk: root_key(rng),
-        label: label(rng),
-        data,
-        n: n as u64,
-        room,
-    }
+    UsageKey { emsk: root_key(rng), label: label(rng), data, n: n as u64, room }
 }
 
 /// Document 01, "Run and compared": label of 255 and 256; data of 2,048 and 2,049; n of 0, 1, 32, 33, 8,160 and 8,161;
 /// and n whose low bits alone would be in range.
 fn run_cases(group: &mut Group) {
-    let lengths = [
-        0,
-        1,
-        32,
-        33,
-        8160,
-        8161,
-        65_536,
-        65_600,
-        1 << 32,
-        (1 << 32) + 64,
-        1 << 63,
-        u64::MAX,
-    ];
+    let lengths = [0, 1, 32, 33, 8160, 8161, 65_536, 65_600, 1 << 32, (1 << 32) + 64, 1 << 63, u64::MAX];
     for label_len in [255, 256] {
         for data_len in [2048, 2049] {
             for n in lengths {
                 let emsk = root_key(&mut group.rng);
                 let label = group.rng.bytes_in(label_len, 32, 126).into();
                 let data = group.rng.bytes(data_len).into();
-                group.compare(&UsageKey {
-                    emsk,
-                    label,
-                    data,
-                    n,
-                    room: 9000,
-                });
+                group.compare(&UsageKey { emsk, label, data, n, room: 9000 });
             }
         }
     }
@@ -134,10 +107,9 @@ fn run_cases(group: &mut Group) {
 
 /// Each length in turn, the others accepted.
 fn lengths(group: &mut Group) {
-    let near = |call: &mut UsageKey| (call.n, call.room) = (64, 70);
     let mut try_with = |change: &dyn Fn(&mut UsageKey)| {
         let mut call = request(&mut group.rng);
-        near(&mut call);
+        (call.n, call.room) = (64, 70);
         change(&mut call);
         group.compare(&call);
     };
@@ -179,20 +151,12 @@ fn separation(group: &mut Group) {
     for n in [64, 65, 128] {
         for cut in 1..=whole.len() {
             let (label, data) = whole.split_at(cut);
-            let call = UsageKey {
-                emsk: emsk.clone(),
-                label: label.into(),
-                data: data.into(),
-                n,
-                room: n as usize,
-            };
+            let call = UsageKey { emsk: emsk.clone(), label: label.into(), data: data.into(), n, room: n as usize };
             keys.push(group.compare(&call)[..32].to_vec());
         }
     }
     for (place, key) in keys.iter().enumerate() {
         let differs = !keys[..place].contains(key);
-        group.check(differs, || {
-            format!("two of the requests over {whole:02x?} share a key")
-        });
+        group.check(differs, || format!("two of the requests over {whole:02x?} share a key"));
     }
 }

@@ -111,14 +111,7 @@ pub fn reauth_keys(group: &mut Group) {
 
 /// Each length of root key and of output buffer, and the refusals.
 fn fixed_text(group: &mut Group, text: &Bytes, call: Exported) {
-    let request = |parent: Bytes, room| FixedText {
-        key: FixedTextKey {
-            parent,
-            text: text.clone(),
-            room,
-        },
-        call,
-    };
+    let request = |parent: Bytes, room| FixedText { key: FixedTextKey { parent, text: text.clone(), room }, call };
     for len in (0..=200).chain(ROOT_KEY_LENGTHS) {
         for room in [0, 63, 64, 65, 200] {
             let parent = group.rng.bytes(len).into();
@@ -151,12 +144,7 @@ fn master(rng: &mut Rng) -> MasterKey {
     let domain: Vec<u8> = (0..domain_len).map(|_| rng.pick(LETTERS)).collect();
     let server_id = rng.bytes_in(server_len, 33, 126).into();
     let room = KEY + rng.skewed(0, 40);
-    MasterKey {
-        vrk: root_key(rng),
-        server_id,
-        domain: domain.into(),
-        room,
-    }
+    MasterKey { vrk: root_key(rng), server_id, domain: domain.into(), room }
 }
 
 /// Each length in turn, the others accepted.
@@ -183,30 +171,14 @@ fn master_bytes(group: &mut Group) {
     for byte in 0..=255 {
         let accepted = master(&mut group.rng);
         let alone: Bytes = vec![byte].into();
-        group.compare(&MasterKey {
-            server_id: alone.clone(),
-            ..accepted.clone()
-        });
-        group.compare(&MasterKey {
-            domain: alone,
-            ..accepted.clone()
-        });
+        group.compare(&MasterKey { server_id: alone.clone(), ..accepted.clone() });
+        group.compare(&MasterKey { domain: alone, ..accepted.clone() });
         for at in [0, 4, 8] {
             let server_id = with_byte(b"yard1.org", at, byte);
             let domain = with_byte(b"2.example", at, byte);
-            group.compare(&MasterKey {
-                server_id: server_id.clone(),
-                ..accepted.clone()
-            });
-            group.compare(&MasterKey {
-                domain: domain.clone(),
-                ..accepted.clone()
-            });
-            group.compare(&MasterKey {
-                server_id,
-                domain,
-                ..accepted.clone()
-            });
+            group.compare(&MasterKey { server_id: server_id.clone(), ..accepted.clone() });
+            group.compare(&MasterKey { domain: domain.clone(), ..accepted.clone() });
+            group.compare(&MasterKey { server_id, domain, ..accepted.clone() });
         }
     }
 }
@@ -216,14 +188,7 @@ fn seam(group: &mut Group) {
     let vrk = root_key(&mut group.rng);
     let keys = [("yard1", "2.example"), ("yard12", ".example")].map(|(server_id, domain)| {
         let (server_id, domain) = (server_id.into(), domain.into());
-        group.compare(&MasterKey {
-            vrk: vrk.clone(),
-            server_id,
-            domain,
-            room: KEY,
-        })
+        group.compare(&MasterKey { vrk: vrk.clone(), server_id, domain, room: KEY })
     });
-    group.check(keys[0] == keys[1], || {
-        "the seam between server ID and domain shows".into()
-    });
+    group.check(keys[0] == keys[1], || "the seam between server ID and domain shows".into());
 }

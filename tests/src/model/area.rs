@@ -60,12 +60,7 @@ impl ReadArea {
             return Err(10);
         }
         let same_name = name == &self.own_name[..];
-        Ok(Contents {
-            offers: reading.offers,
-            name_at,
-            name_len: name.len(),
-            same_name,
-        })
+        Ok(Contents { offers: reading.offers, name_at, name_len: name.len(), same_name })
     }
 }
 
@@ -80,11 +75,7 @@ fn cut(area: &[u8]) -> (Vec<Attribute<'_>>, bool) {
             return (attributes, true);
         }
         let (bytes, after) = rest.split_at(length);
-        attributes.push(Attribute {
-            at: area.len() - rest.len(),
-            kind,
-            bytes,
-        });
+        attributes.push(Attribute { at: area.len() - rest.len(), kind, bytes });
         rest = after;
     }
     (attributes, false)
@@ -106,9 +97,7 @@ fn read_offer(reading: &mut Reading<'_>, bytes: &[u8]) -> Result<(), Refusal> {
     if reading.offers.len() == MOST_OFFERS {
         return Err(10);
     }
-    reading
-        .offers
-        .push(u16::from_be_bytes([bytes[2], bytes[3]]));
+    reading.offers.push(u16::from_be_bytes([bytes[2], bytes[3]]));
     Ok(())
 }
 

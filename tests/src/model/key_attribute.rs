@@ -134,7 +134,5 @@ fn sixteen(bytes: &[u8]) -> [u8; 16] {
 
 /// A number of four bytes, high byte first.
 fn number(bytes: &[u8]) -> u32 {
-    bytes
-        .iter()
-        .fold(0, |sum, &byte| sum << 8 | u32::from(byte))
+    bytes.iter().fold(0, |sum, &byte| sum << 8 | u32::from(byte))
 }

@@ -23,11 +23,7 @@ pub fn accepted_by(order: &Order) -> Result<(), Refusal> {
 }
 
 pub fn numbers_that_hold(order: &Order) -> Vec<Refusal> {
-    order
-        .iter()
-        .filter(|test| test.1)
-        .map(|test| test.0)
-        .collect()
+    order.iter().filter(|test| test.1).map(|test| test.0).collect()
 }
 
 /// 1: root key (EMSK, VRK, VMSK) not 64 to 128 bytes.

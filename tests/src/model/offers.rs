@@ -18,29 +18,19 @@ pub struct Choose {
 
 impl Choose {
     pub fn tests(&self) -> Order {
-        vec![
-            (10, wrong_count(&self.offers)),
-            (11, has_repeat(&self.offers)),
-            (12, self.first_supported().is_none()),
-        ]
+        vec![(10, wrong_count(&self.offers)), (11, has_repeat(&self.offers)), (12, self.first_supported().is_none())]
     }
 
     pub fn answer(&self) -> Result<Answer, Refusal> {
         accepted_by(&self.tests())?;
         let position = self.first_supported().ok_or(12u32)?;
         let value = self.offers[position];
-        Ok(if position == 0 {
-            Answer::CarryOn { value }
-        } else {
-            Answer::Ask { value, position }
-        })
+        Ok(if position == 0 { Answer::CarryOn { value } } else { Answer::Ask { value, position } })
     }
 
     /// The place of the first offer, in the server's order, that stands in the supported list.
     fn first_supported(&self) -> Option<usize> {
-        self.offers
-            .iter()
-            .position(|offer| self.supported.contains(offer))
+        self.offers.iter().position(|offer| self.supported.contains(offer))
     }
 }
 

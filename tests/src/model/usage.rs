@@ -28,11 +28,7 @@ impl UsageKey {
 
     pub fn key(&self) -> Result<Vec<u8>, Refusal> {
         accepted_by(&self.tests())?;
-        Ok(prf_plus(
-            &self.emsk,
-            &text(&self.label, &self.data, self.n as u16),
-            self.n as usize,
-        ))
+        Ok(prf_plus(&self.emsk, &text(&self.label, &self.data, self.n as u16), self.n as usize))
     }
 }
 

@@ -63,11 +63,7 @@ impl MasterKey {
 
     pub fn key(&self) -> Result<Vec<u8>, Refusal> {
         accepted_by(&self.tests())?;
-        Ok(prf_plus(
-            &self.vrk,
-            &[&self.server_id[..], &self.domain[..]].concat(),
-            KEY,
-        ))
+        Ok(prf_plus(&self.vrk, &[&self.server_id[..], &self.domain[..]].concat(), KEY))
     }
 }
 
