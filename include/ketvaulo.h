@@ -29,6 +29,13 @@ kv_outcome kv_sha256(const uint8_t *message, size_t message_len, uint8_t *out, s
 kv_outcome kv_hmac_sha256(const uint8_t *key, size_t key_len, const uint8_t *message, size_t message_len, uint8_t *out,
                           size_t out_len);
 
+/* The usage key of a label and optional data under an EMSK (RFC 5295): n bytes of prf+ with K the EMSK and S the label, one zero
+ * byte, the data, and n as two bytes, high byte first. n counts bytes; no data is data of length 0. Returns n.
+ * Refusals, in this order: 1 EMSK not 64 to 128 bytes; 2 label not 1 to 255 bytes; 3 a label byte outside 32 to 126; 4 data over
+ * 2,048 bytes; 5 n not 1 to 8,160; 6 `out` has fewer than n bytes. */
+kv_outcome kv_usage_key(const uint8_t *emsk, size_t emsk_len, const uint8_t *label, size_t label_len,
+                        const uint8_t *data, size_t data_len, uint64_t n, uint8_t *out, size_t out_len);
+
 /* What the peer's first round returns. `ask` is 0 for Carry On (the first offer is taken into use) and 1 for Ask (the value at
  * `position`, counted from 0, is asked of the server). On a refusal every field but `refusal` is 0; `position` is 0 on Carry On. */
 typedef struct {

@@ -7,6 +7,7 @@ ghost use Rattle.refusal.specs.Checks.{check6};
 ghost use Rattle.refusal.specs.Answers.{answerOf, answerTo, bufferAfter};
 ghost use Rattle.sha256_block.specs.Fips180.{sha256};
 ghost use Rattle.hmac.specs.Rfc2104.{hmacSha256};
+ghost use Rattle.usage.specs.Requests.{forUsage, requestAnswer, requestBuffer};
 ghost use Rattle.offers.specs.Answers.{firstRoundOf, firstRound, serverAnswer, serverBuffer, renewedOf, renewedAnswer};
 ghost use Rattle.ketvaulo.specs.Outcomes.{outcomeOf, firstRoundOutcome, positionIn, renewedOutcome};
 use offers::FirstRound;
@@ -61,6 +62,21 @@ pub extern "C" fn kv_hmac_sha256(key: &[u8], message: &[u8], out: &mut [u8]) -> 
     ensures buffer { λ _. ⌜ now (out .exit) ≡ bufferAfter (check6 32 (length (now (out .entry)))) 32 (hmacSha256 (now (key .entry)) (now (message .entry))) (now (out .entry)) ⌝ }
 {
     put_digest(hmac::mac(key, message), out)
+}
+
+// RFC 5295: the usage key of a label, optional data and a length n under an EMSK, n bytes.
+#[no_mangle]
+pub extern "C" fn kv_usage_key(
+    emsk: &[u8],
+    label: &[u8],
+    data: &[u8],
+    n: u64,
+    out: &mut [u8],
+) -> Outcome
+    ensures answer { λ r. ⌜ r ≡ outcomeOf (requestAnswer (now (emsk .entry)) (forUsage (now (label .entry)) (now («data» .entry)) n (length (now (out .entry))))) ⌝ }
+    ensures buffer { λ _. ⌜ now (out .exit) ≡ requestBuffer (now (emsk .entry)) (forUsage (now (label .entry)) (now («data» .entry)) n (length (now (out .entry)))) (now (out .entry)) ⌝ }
+{
+    returned(usage::usage_key(emsk, label, data, n as usize, out))
 }
 
 // What the peer's first round returns to C. `ask` is 0 for Carry On and 1 for Ask; every field but the number is 0 on a refusal.
