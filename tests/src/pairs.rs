@@ -15,7 +15,9 @@ pub fn every_pair<C: Ordered>(group: &mut Group, accepted: &C, faults: &[Fault<C
     group.compare(accepted);
     let mut met: Vec<Vec<Refusal>> = Vec::new();
     for first in faults {
-        met.push(try_faults(group, accepted, &[first]));
+        let held = try_faults(group, accepted, &[first]);
+        group.check(held.contains(&first.0), || format!("a fault for {} made {held:?} hold", first.0));
+        met.push(held);
         for second in faults {
             met.push(try_faults(group, accepted, &[first, second]));
         }

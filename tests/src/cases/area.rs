@@ -54,6 +54,7 @@ pub fn run(group: &mut Group) {
     offer_counts(group);
     names(group);
     name_length_fields(group);
+    paddings(group);
     damage(group);
     refusals(group);
     long_areas(group);
@@ -168,6 +169,18 @@ fn name_length_fields(group: &mut Group) {
     }
 }
 
+/// Each padding byte with each value, after short names and the longest.
+fn paddings(group: &mut Group) {
+    for len in (0..=9).chain(LONGEST_NAME - 4..=LONGEST_NAME) {
+        let area = [kdf(1), kdf_input(&group.rng.bytes(len))].concat();
+        for at in 8 + len..area.len() {
+            for byte in 0..=255 {
+                read(group, &with_byte(&area, at, byte));
+            }
+        }
+    }
+}
+
 /// An area of every kind of attribute, cut at each byte, with each byte set to each value, and with two changes.
 fn damage(group: &mut Group) {
     let whole = [
@@ -248,6 +261,7 @@ fn double_faults() -> Vec<(Refusal, Vec<u8>)> {
         (16, [&name[..], &offers(18)[..71]].concat()),
         // 17 before 10: of wrong length, and the eighteenth
         (17, [&name[..], &offers(17), &[AT_KDF, 2, 0, 1, 0, 0, 0, 0]].concat()),
+        (17, [&offers(17)[..], &[AT_KDF, 3, 0, 1], &[0; 8], &name].concat()),
         // 18 before 19: a name length that disagrees, then padding, each in a second name
         (18, [&name[..], &kdf(1), &[AT_KDF_INPUT, 2, 0, 9, 0, 0, 0, 0]].concat()),
         (18, [&name[..], &kdf(1), &[AT_KDF_INPUT, 2, 0, 1, 87, 0, 0, 1]].concat()),

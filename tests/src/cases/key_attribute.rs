@@ -117,7 +117,7 @@ const READ_FAULTS: &[Fault<ReadKey>] = &[
     (24, |call| call.attribute.truncate(1)),
     (24, |call| call.attribute.truncate(59)),
     (24, |call| set(call, 1, 4)),
-    (24, |call| set(call, 1, 92)),
+    (24, |call| set(call, 1, 100)),
     (24, |call| call.attribute.extend([0; 8])),
     (24, |call| call.attribute.clear()),
     (20, |call| set(call, 0, 0)),
