@@ -148,6 +148,10 @@ fn replace_choice(call: &mut Recheck, choice: u16) {
 }
 
 pub fn choose(group: &mut Group) {
+    // P6 to P9
+    for (offers, supported) in [([2, 1], vec![1]), ([2, 1], vec![1, 2]), ([2, 2], vec![2]), ([2, 1], vec![3])] {
+        group.compare(&Choose { offers: offers.to_vec(), supported });
+    }
     let short = lists(4);
     for offers in &short {
         for supported in &short {
@@ -174,6 +178,10 @@ pub fn choose(group: &mut Group) {
 }
 
 pub fn answer(group: &mut Group) {
+    // P10 to P12
+    for reply in [1, 2, 7] {
+        group.compare(&Reply { offers: vec![2, 1], reply, room: 3 });
+    }
     for offers in lists(4) {
         for reply in replies() {
             for room in [0, 1, offers.len(), offers.len() + 1, offers.len() + 2, 40] {
@@ -201,6 +209,8 @@ pub fn answer(group: &mut Group) {
 }
 
 pub fn recheck(group: &mut Group) {
+    // P13
+    group.compare(&Recheck { original: vec![2, 1], choice: 1, renewed: vec![1, 1, 2] });
     // one value longer than the original, so that each short original has its accepted list
     let renewals = lists(5);
     for original in lists(4) {

@@ -68,6 +68,7 @@ const FAULTS: &[Fault<UsageKey>] = &[
 ];
 
 pub fn run(group: &mut Group) {
+    checked_cases(group);
     run_cases(group);
     lengths(group);
     label_bytes(group);
@@ -87,6 +88,14 @@ fn request(rng: &mut Rng) -> UsageKey {
     let room = n + rng.skewed(0, 40);
     let data = rng.bytes(data_len).into();
     UsageKey { emsk: root_key(rng), label: label(rng), data, n: n as u64, room }
+}
+
+/// The requests of P1 to P4, and the two gates that would share a key without the zero byte.
+fn checked_cases(group: &mut Group) {
+    for (label, data) in [("a", ""), ("a", "\0"), ("ab", ""), ("a", "b"), ("gate1", "2"), ("gate", "12")] {
+        let emsk = root_key(&mut group.rng);
+        group.compare(&UsageKey { emsk, label: label.into(), data: data.into(), n: 64, room: 64 });
+    }
 }
 
 /// Document 01, "Run and compared": label of 255 and 256; data of 2,048 and 2,049; n of 0, 1, 32, 33, 8,160 and 8,161;
