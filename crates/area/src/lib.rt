@@ -19,7 +19,7 @@ pub struct Bytes(pub usize);
 
 // What stands in the area: an AT_KDF with its value; an AT_KDF_INPUT with its name's offset from the area's first byte and the
 // name's length; any other attribute; or one that is refused.
-pub enum Attribute {
+enum Attribute {
     Offer(u16),
     Named { at: usize, len: Bytes },
     Other,
@@ -27,36 +27,36 @@ pub enum Attribute {
 }
 
 // The position of the walk: the offset of the next attribute.
-pub struct Cursor {
-    pub at: usize,
+struct Cursor {
+    at: usize,
 }
 
 // What the walk meets at its position: the area's end, or an attribute and the position after it.
-pub enum Step {
+enum Step {
     End,
     Met(Attribute, Cursor),
 }
 
 // The name, once the walk has met it.
-pub enum Name {
+enum Name {
     Missing,
     Found { at: usize, len: Bytes },
 }
 
 // What the walk has met so far: the count of the offers, which it keeps in a buffer beside this, and the name.
-pub struct Seen {
-    pub count: usize,
-    pub name: Name,
+struct Seen {
+    count: usize,
+    name: Name,
 }
 
 // What the walk has met with one attribute more, or a refusal.
-pub enum Added {
+enum Added {
     Kept(Seen),
     Stopped(Refusal),
 }
 
 // What the walk came to: the area was read whole, or it is refused.
-pub enum Walked {
+enum Walked {
     Whole { count: usize, at: usize, len: Bytes },
     Stopped(Refusal),
 }
