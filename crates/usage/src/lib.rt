@@ -31,7 +31,9 @@ fn check_inputs(emsk: &[u8], label: &[u8], data: &[u8]) -> Checked
 fn two_bytes(n: usize) -> [u8; 2]
     ensures { λ r. ⌜ r ≡ (n / 256 % 256 ∷ n % 256 ∷ []) ⌝ }
 {
-    [(n / 256 % 256) as u8, (n % 256) as u8]
+    let high = (n / 256 % 256) as u8;
+    let low = (n % 256) as u8;
+    [high, low]
 }
 
 // The usage key of a label, optional data and a length: n bytes at the start of out. The expansion tests 5 and 6.

@@ -5,14 +5,14 @@ use borrow.Author.Needs.{needs}
 use Rattle.usage.proofs.two_bytes.Statement.{statement}
 use Rattle.usage.proofs.two_bytes.Tie as tie
 
-cast-t4 : tie.Need-cast-t4
-cast-t4 c = search needs
+cast-high : tie.Need-cast-high
+cast-high c = search needs
 
-cast-t6 : tie.Need-cast-t6
-cast-t6 c = search needs
+cast-low : tie.Need-cast-low
+cast-low c = search needs
 
 returns : tie.Need-returns
 returns c = refl
 
 pub two-bytes-spec : {M : Type 1} → statement M
-two-bytes-spec = tie.close (tie.spec cast-t4 cast-t6 returns)
+two-bytes-spec = tie.close (tie.spec cast-high cast-low returns)
