@@ -7,9 +7,12 @@ ghost use Rattle.refusal.specs.Checks.{check6};
 ghost use Rattle.refusal.specs.Answers.{answerOf, answerTo, bufferAfter};
 ghost use Rattle.sha256_block.specs.Fips180.{sha256};
 ghost use Rattle.hmac.specs.Rfc2104.{hmacSha256};
-ghost use Rattle.usage.specs.Requests.{forUsage, requestAnswer, requestBuffer};
+ghost use Rattle.usage.specs.Requests.{forUsage, forVrk, requestAnswer, requestBuffer};
+ghost use Rattle.visited.specs.Visited.{vmskCheck, vmskKey, reauthCheck, reauthKey};
 ghost use Rattle.offers.specs.Answers.{firstRoundOf, firstRound, serverAnswer, serverBuffer, renewedOf, renewedAnswer};
-ghost use Rattle.ketvaulo.specs.Outcomes.{outcomeOf, firstRoundOutcome, positionIn, renewedOutcome};
+ghost use Rattle.area.specs.Area.{areaAnswerOf, areaAnswer, areaBuffer};
+ghost use Rattle.ketvaulo.specs.Outcomes.{outcomeOf, firstRoundOutcome, positionIn, renewedOutcome, flagOf, areaOutcome, countIn};
+use area::AreaRead;
 use offers::FirstRound;
 use offers::Renewed;
 use refusal::Checked;
@@ -77,6 +80,38 @@ pub extern "C" fn kv_usage_key(
     ensures buffer { λ _. ⌜ now (out .exit) ≡ requestBuffer (now (emsk .entry)) (forUsage (now (label .entry)) (now («data» .entry)) n (length (now (out .entry)))) (now (out .entry)) ⌝ }
 {
     returned(usage::usage_key(emsk, label, data, n as usize, out))
+}
+
+// Source document 001: the VRK under an EMSK, 64 bytes.
+#[no_mangle]
+pub extern "C" fn kv_visited_root_key(emsk: &[u8], out: &mut [u8]) -> Outcome
+    ensures answer { λ r. ⌜ r ≡ outcomeOf (requestAnswer (now (emsk .entry)) (forVrk (length (now (out .entry))))) ⌝ }
+    ensures buffer { λ _. ⌜ now (out .exit) ≡ requestBuffer (now (emsk .entry)) (forVrk (length (now (out .entry)))) (now (out .entry)) ⌝ }
+{
+    returned(visited::visited_root_key(emsk, out))
+}
+
+// Source document 001: the VMSK of a server and a domain under a VRK, 64 bytes.
+#[no_mangle]
+pub extern "C" fn kv_visited_master_key(
+    vrk: &[u8],
+    server_id: &[u8],
+    domain: &[u8],
+    out: &mut [u8],
+) -> Outcome
+    ensures answer { λ r. ⌜ r ≡ outcomeOf (answerTo (vmskCheck (now (vrk .entry)) (now («server_id» .entry)) (now (domain .entry)) (length (now (out .entry)))) 64) ⌝ }
+    ensures buffer { λ _. ⌜ now (out .exit) ≡ bufferAfter (vmskCheck (now (vrk .entry)) (now («server_id» .entry)) (now (domain .entry)) (length (now (out .entry)))) 64 (vmskKey (now (vrk .entry)) (now («server_id» .entry)) (now (domain .entry))) (now (out .entry)) ⌝ }
+{
+    returned(visited::visited_master_key(vrk, server_id, domain, out))
+}
+
+// Source document 001: the V-rRK under a VMSK, 64 bytes.
+#[no_mangle]
+pub extern "C" fn kv_visited_reauth_key(vmsk: &[u8], out: &mut [u8]) -> Outcome
+    ensures answer { λ r. ⌜ r ≡ outcomeOf (answerTo (reauthCheck (now (vmsk .entry)) (length (now (out .entry)))) 64) ⌝ }
+    ensures buffer { λ _. ⌜ now (out .exit) ≡ bufferAfter (reauthCheck (now (vmsk .entry)) (length (now (out .entry)))) 64 (reauthKey (now (vmsk .entry))) (now (out .entry)) ⌝ }
+{
+    returned(visited::visited_reauth_key(vmsk, out))
 }
 
 // What the peer's first round returns to C. `ask` is 0 for Carry On and 1 for Ask; every field but the number is 0 on a refusal.
@@ -154,4 +189,57 @@ pub extern "C" fn kv_check_renewed(original: &[u16], choice: u16, renewed: &[u16
     ensures { λ r. ⌜ r ≡ renewedOutcome (renewedAnswer (now (original .entry)) choice (now (renewed .entry))) ⌝ }
 {
     renewed_returned(offers::recheck(original, choice, renewed))
+}
+
+// What reading an area returns to C. `at` is the place that a refusal carries, and none does; every field but the number is 0 on a
+// refusal.
+#[repr(C)]
+pub struct AreaOutcome {
+    pub refusal: u32,
+    pub offers: u32,
+    pub at: u64,
+    pub name_at: u64,
+    pub name_len: u64,
+    pub same_name: u32,
+}
+
+// A truth value, for C.
+fn flag(b: bool) -> u32
+    ensures { λ r. ⌜ r ≡ flagOf b ⌝ }
+{
+    if b { 1 } else { 0 }
+}
+
+// What reading an area answers, for C.
+fn area_returned(answer: AreaRead) -> AreaOutcome
+    requires { ⌜ countIn (areaAnswerOf answer) < 2 ^ 32 ⌝ }
+    ensures { λ r. ⌜ r ≡ areaOutcome (areaAnswerOf answer) ⌝ }
+{
+    match answer {
+        AreaRead::Read(found) => AreaOutcome {
+            refusal: 0,
+            offers: found.count as u32,
+            at: 0,
+            name_at: found.name_at as u64,
+            name_len: found.name_len as u64,
+            same_name: flag(found.same_name),
+        },
+        AreaRead::Refused(why) => AreaOutcome {
+            refusal: refusal::number(why),
+            offers: 0,
+            at: 0,
+            name_at: 0,
+            name_len: 0,
+            same_name: 0,
+        },
+    }
+}
+
+// RFC 5448, sections 3.1 and 3.2: the offers and the name of an attribute area.
+#[no_mangle]
+pub extern "C" fn kv_read_area(area: &[u8], own_name: &[u8], out: &mut [u16]) -> AreaOutcome
+    ensures answer { λ r. ⌜ r ≡ areaOutcome (areaAnswer (now (area .entry)) (now («own_name» .entry)) (length (now (out .entry)))) ⌝ }
+    ensures buffer { λ _. ⌜ now (out .exit) ≡ areaBuffer (now (area .entry)) (now (out .entry)) ⌝ }
+{
+    area_returned(area::read_area(area, own_name, out))
 }
