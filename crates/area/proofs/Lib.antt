@@ -5,3 +5,4 @@ pub mod Walking
 pub mod Answering
 pub mod Using
 pub mod Names
+pub mod Cases

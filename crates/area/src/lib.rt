@@ -316,10 +316,10 @@ fn same_name(a: &[u8], b: &[u8]) -> bool
         return false;
     }
     let mut same = true;
-    let mut i = 0;
-    while i < a.len() {
-        same = same & (a[i] == b[i]);
-        i += 1;
+    let mut k = 0;
+    while k < a.len() {
+        same = same & (a[k] == b[k]);
+        k += 1;
     }
     same
 }

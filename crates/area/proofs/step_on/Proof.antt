@@ -1,4 +1,5 @@
--- `area::step_on` meets its contract.
+-- `area::step_on` meets its contract: the tests say which case of `stepOn` holds. An attribute within the area has four bytes, and the offset after it
+-- is at most the area's length (`within`).
 -- Assumes nothing.
 use Prim.Native.Nat.{_≤_}
 use mathlib.Core.Path.{_≡_, sym, ap, _∙_}

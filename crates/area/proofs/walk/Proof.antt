@@ -1,4 +1,5 @@
--- `area::walk` meets its contract.
+-- `area::walk` meets its contract. The loop's invariant: reading the area is reading on from the offset, past what was met so far (`ReadTo`); the
+-- measure is what is left of the area.
 -- Assumes nothing.
 use borrow.Author.Needs.{needs}
 use Prim.Native.Nat.{ℕ, _-_, _≤_, _<_}
