@@ -82,11 +82,11 @@ unfolding stepOn
 step-end at bytes h = rw (eq-eqb (length bytes) 0 h)
 
 pub step-in : (at : ℕ) (bytes : List ℕ) → (length bytes ≡ 0 → ⊥) → inBounds bytes ≡ true
-    → Met (attribute at bytes) (record { at = at + inBytes (wordsOf bytes) .0 }) ≡ stepOn at bytes
+    → Met (attribute at bytes) (at + inBytes (wordsOf bytes) .0) ≡ stepOn at bytes
 unfolding stepOn
 step-in at bytes n h = rw (ne-eqb (length bytes) 0 n, h)
 
 pub step-out : (at : ℕ) (bytes : List ℕ) → (length bytes ≡ 0 → ⊥) → inBounds bytes ≡ false
-    → Met (Faulty AttributeBounds) (record { at = at + length bytes }) ≡ stepOn at bytes
+    → Met (Faulty AttributeBounds) (at + length bytes) ≡ stepOn at bytes
 unfolding stepOn
 step-out at bytes n h = rw (ne-eqb (length bytes) 0 n, h)

@@ -18,7 +18,6 @@ use Rattle.area.specs.Steps.{stepOn, stepAt}
 use Rattle.area.specs.declared.Attribute.{Attribute}
 use Rattle.area.specs.declared.Attribute.the-variants.{Offer, Named, Other, Faulty}
 use Rattle.area.specs.declared.Bytes.{Bytes}
-use Rattle.area.specs.declared.Cursor.{Cursor}
 use Rattle.area.specs.declared.Step.{Step}
 use Rattle.area.specs.declared.Step.the-variants.{End, Met}
 use Rattle.area.specs.declared.Name.{Name}
@@ -43,12 +42,12 @@ unfolding inBounds
 not-past bytes h = leb-true _ _ (and-right (leb 1 (wordsOf bytes .0)) _ (and-right (leb 2 (length bytes)) _ h))
 
 -- a step on to n, past the attribute a, leaves the attributes after it
-record Onward (at : ℕ) (bytes : List ℕ) (a : Attribute) (n : Cursor) : Type 0 where
-  ahead : at < n .at
-  within : n .at ≤ at + length bytes
-  on : attributesFrom 0 at bytes ≡ a ∷ attributesFrom 0 (n .at) (drop (n .at - at) bytes)
+record Onward (at : ℕ) (bytes : List ℕ) (a : Attribute) (n : ℕ) : Type 0 where
+  ahead : at < n
+  within : n ≤ at + length bytes
+  on : attributesFrom 0 at bytes ≡ a ∷ attributesFrom 0 (n) (drop (n - at) bytes)
 
-same-step : (at : ℕ) (bytes : List ℕ) {p a : Attribute} {q n : Cursor} → Met p q ≡ Met a n → Onward at bytes p q → Onward at bytes a n
+same-step : (at : ℕ) (bytes : List ℕ) {p a : Attribute} {q n : ℕ} → Met p q ≡ Met a n → Onward at bytes p q → Onward at bytes a n
 same-step at bytes {p} {a} {q} {n} e o =
     let e₁ : p ≡ a = cc in
     let e₂ : q ≡ n = cc in
@@ -67,7 +66,7 @@ past-all at bytes =
     rw (e, drop-length)
 
 onward-in : (at x : ℕ) (rest : List ℕ) → inBounds (x ∷ rest) ≡ true
-    → Onward at (x ∷ rest) (attribute at (x ∷ rest)) (record { at = at + inBytes (wordsOf (x ∷ rest)) .0 })
+    → Onward at (x ∷ rest) (attribute at (x ∷ rest)) (at + inBytes (wordsOf (x ∷ rest)) .0)
 unfolding attributesFrom
 onward-in at x rest h =
     let l₁ : 1 ≤ getD (x ∷ rest) 1 0 = not-empty (x ∷ rest) h in
@@ -75,42 +74,42 @@ onward-in at x rest h =
     record { ahead = omega arith; within = omega arith; on = rw h (ap (λ (l : List Attribute). attribute at (x ∷ rest) ∷ l) (past (4 * getD (x ∷ rest) 1 0) at x rest (omega arith))) }
 
 onward-out : (at x : ℕ) (rest : List ℕ) → inBounds (x ∷ rest) ≡ false
-    → Onward at (x ∷ rest) (Faulty AttributeBounds) (record { at = at + suc (length rest) })
+    → Onward at (x ∷ rest) (Faulty AttributeBounds) (at + suc (length rest))
 unfolding attributesFrom
 onward-out at x rest h = record { ahead = omega arith; within = omega arith; on = rw h (ap (λ (l : List Attribute). Faulty AttributeBounds ∷ l) (past-all at (x ∷ rest))) }
 
-onward : (at : ℕ) (bytes : List ℕ) (a : Attribute) (n : Cursor) → stepOn at bytes ≡ Met a n → Onward at bytes a n
+onward : (at : ℕ) (bytes : List ℕ) (a : Attribute) (n : ℕ) → stepOn at bytes ≡ Met a n → Onward at bytes a n
 unfolding stepOn
 onward at [] a n e = let z : _≡_ {A = ℕ} 0 1 = cc in record { ahead = omega arith; within = omega arith; on = cc }
 onward at (x ∷ rest) a n e = go (inBounds (x ∷ rest)) refl (rw eqb·suc-zero at e)
   where
     go : (t : Bool) → inBounds (x ∷ rest) ≡ t
-        → cond t (Met (attribute at (x ∷ rest)) (record { at = at + inBytes (wordsOf (x ∷ rest)) .0 })) (Met (Faulty AttributeBounds) (record { at = at + suc (length rest) })) ≡ Met a n
+        → cond t (Met (attribute at (x ∷ rest)) (at + inBytes (wordsOf (x ∷ rest)) .0)) (Met (Faulty AttributeBounds) (at + suc (length rest))) ≡ Met a n
         → Onward at (x ∷ rest) a n
     go true h e = same-step at (x ∷ rest) e (onward-in at x rest h)
     go false h e = same-step at (x ∷ rest) e (onward-out at x rest h)
 
 -- the same of the bytes from an offset of the area on
-pub record Met-next (area : List ℕ) (at : ℕ) (a : Attribute) (n : Cursor) : Type 0 where
-  pub ahead : at < n .at
-  pub within : n .at ≤ length area
-  pub on : attributesFrom 0 at (drop at area) ≡ a ∷ attributesFrom 0 (n .at) (drop (n .at) area)
+pub record Met-next (area : List ℕ) (at : ℕ) (a : Attribute) (n : ℕ) : Type 0 where
+  pub ahead : at < n
+  pub within : n ≤ length area
+  pub on : attributesFrom 0 at (drop at area) ≡ a ∷ attributesFrom 0 (n) (drop (n) area)
 
-pub next : (area : List ℕ) (at : ℕ) (a : Attribute) (n : Cursor) → at ≤ length area → stepAt area at ≡ Met a n → Met-next area at a n
+pub next : (area : List ℕ) (at : ℕ) (a : Attribute) (n : ℕ) → at ≤ length area → stepAt area at ≡ Met a n → Met-next area at a n
 next area at a n h e =
     let o = onward at (drop at area) a n e in
     let l : length (drop at area) ≡ length area - at = length-drop at area in
-    let w : n .at ≤ at + length (drop at area) = o .within in
-    let f : at < n .at = o .ahead in
-    let k : at + (n .at - at) ≡ n .at = omega arith in
-    record { ahead = f; within = omega arith; on = o .on ∙ ap (λ (b : List ℕ). a ∷ attributesFrom 0 (n .at) b) (drop-drop (n .at - at) at area ∙ ap (λ (i : ℕ). drop i area) k) }
+    let w : n ≤ at + length (drop at area) = o .within in
+    let f : at < n = o .ahead in
+    let k : at + (n - at) ≡ n = omega arith in
+    record { ahead = f; within = omega arith; on = o .on ∙ ap (λ (b : List ℕ). a ∷ attributesFrom 0 (n) b) (drop-drop (n - at) at area ∙ ap (λ (i : ℕ). drop i area) k) }
 
 -- at the end nothing is met
 pub at-end : (area : List ℕ) (at : ℕ) → stepAt area at ≡ End → attributesFrom 0 at (drop at area) ≡ []
 unfolding stepOn attributesFrom
 at-end area at e = go (drop at area) e
   where
-    tested : (t : Bool) (x : ℕ) (rest : List ℕ) → cond t (Met (attribute at (x ∷ rest)) (record { at = at + inBytes (wordsOf (x ∷ rest)) .0 })) (Met (Faulty AttributeBounds) (record { at = at + suc (length rest) })) ≡ End → attributesFrom 0 at (x ∷ rest) ≡ []
+    tested : (t : Bool) (x : ℕ) (rest : List ℕ) → cond t (Met (attribute at (x ∷ rest)) (at + inBytes (wordsOf (x ∷ rest)) .0)) (Met (Faulty AttributeBounds) (at + suc (length rest))) ≡ End → attributesFrom 0 at (x ∷ rest) ≡ []
     tested true x rest e = cc
     tested false x rest e = cc
 

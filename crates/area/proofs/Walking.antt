@@ -7,7 +7,6 @@ use lib.ListN.{length, take, drop}
 use Rattle.area.specs.Area.{attributesFrom, attributes, readOn, ended}
 use Rattle.area.specs.Steps.{stepAt, addedOn}
 use Rattle.area.specs.declared.Attribute.{Attribute}
-use Rattle.area.specs.declared.Cursor.{Cursor}
 use Rattle.area.specs.declared.Seen.{Seen}
 use Rattle.area.specs.declared.Added.{Added}
 use Rattle.area.specs.declared.Step.the-variants.{End, Met}
@@ -27,8 +26,8 @@ pub ends : (area : List ℕ) (at : ℕ) (seen : Seen) (kept : List ℕ) → Read
 unfolding readOn
 ends area at seen kept r e = r ∙ rw (at-end area at e)
 
-pub goes-on : (area : List ℕ) (at : ℕ) (seen : Seen) (kept kept₁ : List ℕ) (a : Attribute) (n : Cursor) (r : Added) → ReadTo area at seen kept → at ≤ length area → stepAt area at ≡ Met a n
+pub goes-on : (area : List ℕ) (at : ℕ) (seen : Seen) (kept kept₁ : List ℕ) (a : Attribute) (n : ℕ) (r : Added) → ReadTo area at seen kept → at ≤ length area → stepAt area at ≡ Met a n
     → ((later : List Attribute) → readOn (take (seen .count) kept) (seen .name) (a ∷ later) ≡ addedOn r kept₁ later)
-    → readOn [] Missing (attributes area) ≡ addedOn r kept₁ (attributesFrom 0 (n .at) (drop (n .at) area))
+    → readOn [] Missing (attributes area) ≡ addedOn r kept₁ (attributesFrom 0 (n) (drop (n) area))
 goes-on area at seen kept kept₁ a n r to h e f =
-    to ∙ ap (readOn (take (seen .count) kept) (seen .name)) (next area at a n h e .on) ∙ f (attributesFrom 0 (n .at) (drop (n .at) area))
+    to ∙ ap (readOn (take (seen .count) kept) (seen .name)) (next area at a n h e .on) ∙ f (attributesFrom 0 (n) (drop (n) area))

@@ -22,8 +22,8 @@ unfoldable pub stepOn : ℕ → List ℕ → Step
 stepOn at bytes =
     cond (eqb (length bytes) 0) End
     (cond (inBounds bytes)
-    (Met (attribute at bytes) (record { at = at + inBytes (wordsOf bytes) .0 }))
-    (Met (Faulty AttributeBounds) (record { at = at + length bytes })))
+    (Met (attribute at bytes) (at + inBytes (wordsOf bytes) .0))
+    (Met (Faulty AttributeBounds) (at + length bytes)))
 
 -- what the walk meets at an offset of the area
 abbrev pub stepAt : List ℕ → ℕ → Step

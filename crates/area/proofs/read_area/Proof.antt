@@ -1,4 +1,5 @@
--- `area::read_area` meets its contract.
+-- `area::read_area` meets its contract: what the walk came to settles the answer and the buffer, and the name that it found lies within the area
+-- (`name-within`).
 -- Assumes nothing.
 use borrow.Author.Needs.{needs}
 use Prim.Native.Nat.{ℕ, _+_, _-_, _≤_}
