@@ -28,7 +28,7 @@ fn check_expand(n: usize, room: usize) -> Checked
 }
 
 // The hash after a part of a message. One that is empty costs nothing: a text often has fewer than four parts.
-fn add(s: Sha256, part: &[u8]) -> Sha256
+fn absorb_part(s: Sha256, part: &[u8]) -> Sha256
     ensures { λ r. ⌜ r ≡ absorbed s (now (part .entry)) ⌝ }
 {
     if part.len() == 0 {
@@ -51,11 +51,11 @@ fn block(
     ensures { λ r. ⌜ r ≡ sealed outer (absorbed inner (inputAfter (now (previous .entry)) (now (a .entry) ++ (now (b .entry) ++ (now (c .entry) ++ now (d .entry)))) number)) ⌝ }
 {
     let mut s = inner;
-    s = add(s, previous);
-    s = add(s, a);
-    s = add(s, b);
-    s = add(s, c);
-    s = add(s, d);
+    s = absorb_part(s, previous);
+    s = absorb_part(s, a);
+    s = absorb_part(s, b);
+    s = absorb_part(s, c);
+    s = absorb_part(s, d);
     s = s.absorb(&[number]);
     hmac::seal(outer, s)
 }

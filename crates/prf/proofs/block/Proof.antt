@@ -6,20 +6,20 @@ use borrow.Author.Needs.{needs}
 use Rattle.prf.proofs.block.Statement.{statement}
 use Rattle.prf.proofs.block.Tie as tie
 
-add-requires : tie.Need-add-requires
-add-requires c κs = search needs
+absorb-part-requires : tie.Need-absorb-part-requires
+absorb-part-requires c κs = search needs
 
-add-requires-2 : tie.Need-add-requires-2
-add-requires-2 c κs = search needs
+absorb-part-requires-2 : tie.Need-absorb-part-requires-2
+absorb-part-requires-2 c κs = search needs
 
-add-requires-3 : tie.Need-add-requires-3
-add-requires-3 c κs = search needs
+absorb-part-requires-3 : tie.Need-absorb-part-requires-3
+absorb-part-requires-3 c κs = search needs
 
-add-requires-4 : tie.Need-add-requires-4
-add-requires-4 c κs = search needs
+absorb-part-requires-4 : tie.Need-absorb-part-requires-4
+absorb-part-requires-4 c κs = search needs
 
-add-requires-5 : tie.Need-add-requires-5
-add-requires-5 c κs = search needs
+absorb-part-requires-5 : tie.Need-absorb-part-requires-5
+absorb-part-requires-5 c κs = search needs
 
 slice-aggregate-absorb : tie.Need-slice-aggregate-absorb
 slice-aggregate-absorb c = search needs
@@ -40,11 +40,11 @@ pub block-spec : {M : Type 1} → statement M
 block-spec =
     tie.close
     (tie.spec
-    add-requires
-    add-requires-2
-    add-requires-3
-    add-requires-4
-    add-requires-5
+    absorb-part-requires
+    absorb-part-requires-2
+    absorb-part-requires-3
+    absorb-part-requires-4
+    absorb-part-requires-5
     slice-aggregate-absorb
     absorb-requires
     seal-requires
