@@ -16,11 +16,16 @@ abbrev pub pickList : Bool → List ℕ → List ℕ → List ℕ
 pickList true a b = a
 pickList false a b = b
 
--- one byte more: it goes into the block, and a full block is compressed; the bytes are counted modulo 2 ^ 64
+-- one byte more: it goes into the block; a full block is compressed, and an empty one begun. The bytes are counted modulo 2 ^ 64
 unfoldable pub absorb1 : Sha256 → ℕ → Sha256
 absorb1 s x =
     let b : List ℕ = set (s .block) (s .count % 64) x in
-    record { h = pickList (eqb (s .count % 64) 63) (compress (s .h) b) (s .h); block = b; count = (s .count + 1) % 2 ^ 64 }
+    let full : Bool = eqb (s .count % 64) 63 in
+    record {
+      h = pickList full (compress (s .h) b) (s .h);
+      block = pickList full (replicate 64 0) b;
+      count = (s .count + 1) % 2 ^ 64;
+    }
 
 unfoldable pub absorbed : Sha256 → List ℕ → Sha256
 absorbed s [] = s

@@ -1,271 +1,114 @@
-use mathlib.Core.List.{[], _∷_}
-use Rattle.sha256_block.specs.Fips180.{digest}
+-- `sha256::to_bytes` meets its contract: eight words, one after another, over the 32 bytes.
+-- Assumes nothing.
+use mathlib.Core.Path.{_≡_, refl, ap, _∙_}
+use mathlib.Core.List.{List}
+use Prim.Native.Nat.{ℕ}
+use lib.Dec.{lit≤}
+use lib.ListN.{length, getD, replicate}
+use lib.Seq.{paste}
+use Rattle.sha256_block.specs.Fips180.{be32, digest}
+use Rattle.sha256.proofs.Closing.{kept}
 use borrow.Author.Needs.{needs}
 use Rattle.sha256.proofs.to_bytes.Statement.{statement}
 use Rattle.sha256.proofs.to_bytes.Tie as tie
 
-array-read-byte3 : tie.Need-array-read-byte3
-array-read-byte3 c = search needs
+array-read-put-word : tie.Need-array-read-put-word
+array-read-put-word c = search needs
 
-byte3-requires : tie.Need-byte3-requires
-byte3-requires c κs = search needs
+-- the digest has 32 bytes after each word
+long1 : (d : tie.After-put-word) → length (d .put-word .last .0) ≡ 32
+long1 d = kept (replicate 32 0) 0 (getD (d .before .before .args .t1) 0 0) refl (lit≤ tt) (d .put-word .ensures)
 
-array-read-byte2 : tie.Need-array-read-byte2
-array-read-byte2 c = search needs
+long2 : (d : tie.After-put-word2) → length (d .put-word2 .last .0) ≡ 32
+long2 d = kept (d .before .before .put-word .last .0) 4 (getD (d .before .before .before .before .args .t1) 1 0) (long1 (d .before .before)) (lit≤ tt) (d .put-word2 .ensures)
 
-byte2-requires : tie.Need-byte2-requires
-byte2-requires c κs = search needs
+long3 : (d : tie.After-put-word3) → length (d .put-word3 .last .0) ≡ 32
+long3 d = kept (d .before .before .put-word2 .last .0) 8 (getD (d .before .before .before .before .before .before .args .t1) 2 0) (long2 (d .before .before)) (lit≤ tt) (d .put-word3 .ensures)
 
-array-read-byte1 : tie.Need-array-read-byte1
-array-read-byte1 c = search needs
+long4 : (d : tie.After-put-word4) → length (d .put-word4 .last .0) ≡ 32
+long4 d = kept (d .before .before .put-word3 .last .0) 12 (getD (d .before .before .before .before .before .before .before .before .args .t1) 3 0) (long3 (d .before .before)) (lit≤ tt) (d .put-word4 .ensures)
 
-byte1-requires : tie.Need-byte1-requires
-byte1-requires c κs = search needs
+long5 : (d : tie.After-put-word5) → length (d .put-word5 .last .0) ≡ 32
+long5 d = kept (d .before .before .put-word4 .last .0) 16 (getD (d .before .before .before .before .before .before .before .before .before .before .args .t1) 4 0) (long4 (d .before .before)) (lit≤ tt) (d .put-word5 .ensures)
 
-array-read-byte0 : tie.Need-array-read-byte0
-array-read-byte0 c = search needs
+long6 : (d : tie.After-put-word6) → length (d .put-word6 .last .0) ≡ 32
+long6 d = kept (d .before .before .put-word5 .last .0) 20 (getD (d .before .before .before .before .before .before .before .before .before .before .before .before .args .t1) 5 0) (long5 (d .before .before)) (lit≤ tt) (d .put-word6 .ensures)
 
-byte0-requires : tie.Need-byte0-requires
-byte0-requires c κs = search needs
+long7 : (d : tie.After-put-word7) → length (d .put-word7 .last .0) ≡ 32
+long7 d = kept (d .before .before .put-word6 .last .0) 24 (getD (d .before .before .before .before .before .before .before .before .before .before .before .before .before .before .args .t1) 6 0) (long6 (d .before .before)) (lit≤ tt) (d .put-word7 .ensures)
 
-array-read-byte3-2 : tie.Need-array-read-byte3-2
-array-read-byte3-2 c = search needs
+long8 : (d : tie.After-put-word8) → length (d .put-word8 .last .0) ≡ 32
+long8 d = kept (d .before .before .put-word7 .last .0) 28 (getD (d .before .before .before .before .before .before .before .before .before .before .before .before .before .before .before .before .args .t1) 7 0) (long7 (d .before .before)) (lit≤ tt) (d .put-word8 .ensures)
 
-byte3-requires-2 : tie.Need-byte3-requires-2
-byte3-requires-2 c κs = search needs
+put-word-requires : tie.Need-put-word-requires
+put-word-requires c κs = search needs
 
-array-read-byte2-2 : tie.Need-array-read-byte2-2
-array-read-byte2-2 c = search needs
+array-read-put-word-2 : tie.Need-array-read-put-word-2
+array-read-put-word-2 c = search needs
 
-byte2-requires-2 : tie.Need-byte2-requires-2
-byte2-requires-2 c κs = search needs
+put-word-requires-2 : tie.Need-put-word-requires-2
+put-word-requires-2 c κs = search needs
 
-array-read-byte1-2 : tie.Need-array-read-byte1-2
-array-read-byte1-2 c = search needs
+array-read-put-word-3 : tie.Need-array-read-put-word-3
+array-read-put-word-3 c = search needs
 
-byte1-requires-2 : tie.Need-byte1-requires-2
-byte1-requires-2 c κs = search needs
+put-word-requires-3 : tie.Need-put-word-requires-3
+put-word-requires-3 c κs = (lit≤ tt, long2 (c .before))
 
-array-read-byte0-2 : tie.Need-array-read-byte0-2
-array-read-byte0-2 c = search needs
+array-read-put-word-4 : tie.Need-array-read-put-word-4
+array-read-put-word-4 c = search needs
 
-byte0-requires-2 : tie.Need-byte0-requires-2
-byte0-requires-2 c κs = search needs
+put-word-requires-4 : tie.Need-put-word-requires-4
+put-word-requires-4 c κs = (lit≤ tt, long3 (c .before))
 
-array-read-byte3-3 : tie.Need-array-read-byte3-3
-array-read-byte3-3 c = search needs
+array-read-put-word-5 : tie.Need-array-read-put-word-5
+array-read-put-word-5 c = search needs
 
-byte3-requires-3 : tie.Need-byte3-requires-3
-byte3-requires-3 c κs = search needs
+put-word-requires-5 : tie.Need-put-word-requires-5
+put-word-requires-5 c κs = (lit≤ tt, long4 (c .before))
 
-array-read-byte2-3 : tie.Need-array-read-byte2-3
-array-read-byte2-3 c = search needs
+array-read-put-word-6 : tie.Need-array-read-put-word-6
+array-read-put-word-6 c = search needs
 
-byte2-requires-3 : tie.Need-byte2-requires-3
-byte2-requires-3 c κs = search needs
+put-word-requires-6 : tie.Need-put-word-requires-6
+put-word-requires-6 c κs = (lit≤ tt, long5 (c .before))
 
-array-read-byte1-3 : tie.Need-array-read-byte1-3
-array-read-byte1-3 c = search needs
+array-read-put-word-7 : tie.Need-array-read-put-word-7
+array-read-put-word-7 c = search needs
 
-byte1-requires-3 : tie.Need-byte1-requires-3
-byte1-requires-3 c κs = search needs
+put-word-requires-7 : tie.Need-put-word-requires-7
+put-word-requires-7 c κs = (lit≤ tt, long6 (c .before))
 
-array-read-byte0-3 : tie.Need-array-read-byte0-3
-array-read-byte0-3 c = search needs
+array-read-put-word-8 : tie.Need-array-read-put-word-8
+array-read-put-word-8 c = search needs
 
-byte0-requires-3 : tie.Need-byte0-requires-3
-byte0-requires-3 c κs = search needs
-
-array-read-byte3-4 : tie.Need-array-read-byte3-4
-array-read-byte3-4 c = search needs
-
-byte3-requires-4 : tie.Need-byte3-requires-4
-byte3-requires-4 c κs = search needs
-
-array-read-byte2-4 : tie.Need-array-read-byte2-4
-array-read-byte2-4 c = search needs
-
-byte2-requires-4 : tie.Need-byte2-requires-4
-byte2-requires-4 c κs = search needs
-
-array-read-byte1-4 : tie.Need-array-read-byte1-4
-array-read-byte1-4 c = search needs
-
-byte1-requires-4 : tie.Need-byte1-requires-4
-byte1-requires-4 c κs = search needs
-
-array-read-byte0-4 : tie.Need-array-read-byte0-4
-array-read-byte0-4 c = search needs
-
-byte0-requires-4 : tie.Need-byte0-requires-4
-byte0-requires-4 c κs = search needs
-
-array-read-byte3-5 : tie.Need-array-read-byte3-5
-array-read-byte3-5 c = search needs
-
-byte3-requires-5 : tie.Need-byte3-requires-5
-byte3-requires-5 c κs = search needs
-
-array-read-byte2-5 : tie.Need-array-read-byte2-5
-array-read-byte2-5 c = search needs
-
-byte2-requires-5 : tie.Need-byte2-requires-5
-byte2-requires-5 c κs = search needs
-
-array-read-byte1-5 : tie.Need-array-read-byte1-5
-array-read-byte1-5 c = search needs
-
-byte1-requires-5 : tie.Need-byte1-requires-5
-byte1-requires-5 c κs = search needs
-
-array-read-byte0-5 : tie.Need-array-read-byte0-5
-array-read-byte0-5 c = search needs
-
-byte0-requires-5 : tie.Need-byte0-requires-5
-byte0-requires-5 c κs = search needs
-
-array-read-byte3-6 : tie.Need-array-read-byte3-6
-array-read-byte3-6 c = search needs
-
-byte3-requires-6 : tie.Need-byte3-requires-6
-byte3-requires-6 c κs = search needs
-
-array-read-byte2-6 : tie.Need-array-read-byte2-6
-array-read-byte2-6 c = search needs
-
-byte2-requires-6 : tie.Need-byte2-requires-6
-byte2-requires-6 c κs = search needs
-
-array-read-byte1-6 : tie.Need-array-read-byte1-6
-array-read-byte1-6 c = search needs
-
-byte1-requires-6 : tie.Need-byte1-requires-6
-byte1-requires-6 c κs = search needs
-
-array-read-byte0-6 : tie.Need-array-read-byte0-6
-array-read-byte0-6 c = search needs
-
-byte0-requires-6 : tie.Need-byte0-requires-6
-byte0-requires-6 c κs = search needs
-
-array-read-byte3-7 : tie.Need-array-read-byte3-7
-array-read-byte3-7 c = search needs
-
-byte3-requires-7 : tie.Need-byte3-requires-7
-byte3-requires-7 c κs = search needs
-
-array-read-byte2-7 : tie.Need-array-read-byte2-7
-array-read-byte2-7 c = search needs
-
-byte2-requires-7 : tie.Need-byte2-requires-7
-byte2-requires-7 c κs = search needs
-
-array-read-byte1-7 : tie.Need-array-read-byte1-7
-array-read-byte1-7 c = search needs
-
-byte1-requires-7 : tie.Need-byte1-requires-7
-byte1-requires-7 c κs = search needs
-
-array-read-byte0-7 : tie.Need-array-read-byte0-7
-array-read-byte0-7 c = search needs
-
-byte0-requires-7 : tie.Need-byte0-requires-7
-byte0-requires-7 c κs = search needs
-
-array-read-byte3-8 : tie.Need-array-read-byte3-8
-array-read-byte3-8 c = search needs
-
-byte3-requires-8 : tie.Need-byte3-requires-8
-byte3-requires-8 c κs = search needs
-
-array-read-byte2-8 : tie.Need-array-read-byte2-8
-array-read-byte2-8 c = search needs
-
-byte2-requires-8 : tie.Need-byte2-requires-8
-byte2-requires-8 c κs = search needs
-
-array-read-byte1-8 : tie.Need-array-read-byte1-8
-array-read-byte1-8 c = search needs
-
-byte1-requires-8 : tie.Need-byte1-requires-8
-byte1-requires-8 c κs = search needs
-
-array-read-byte0-8 : tie.Need-array-read-byte0-8
-array-read-byte0-8 c = search needs
-
-byte0-requires-8 : tie.Need-byte0-requires-8
-byte0-requires-8 c κs = search needs
+put-word-requires-8 : tie.Need-put-word-requires-8
+put-word-requires-8 c κs = (lit≤ tt, long7 (c .before))
 
 returns : tie.Need-returns
 unfolding digest
-returns c = λ i. c .before .before .before .before .before .before .before .before .before .before .before .before .before .before .before .before .before .before .before .before .before .before .before .before .before .before .before .before .before .before .before .byte3 .ensures i ∷ c .before .before .before .before .before .before .before .before .before .before .before .before .before .before .before .before .before .before .before .before .before .before .before .before .before .before .before .before .before .before .byte2 .ensures i ∷ c .before .before .before .before .before .before .before .before .before .before .before .before .before .before .before .before .before .before .before .before .before .before .before .before .before .before .before .before .before .byte1 .ensures i ∷ c .before .before .before .before .before .before .before .before .before .before .before .before .before .before .before .before .before .before .before .before .before .before .before .before .before .before .before .before .byte0 .ensures i ∷ c .before .before .before .before .before .before .before .before .before .before .before .before .before .before .before .before .before .before .before .before .before .before .before .before .before .before .before .byte32 .ensures i ∷ c .before .before .before .before .before .before .before .before .before .before .before .before .before .before .before .before .before .before .before .before .before .before .before .before .before .before .byte22 .ensures i ∷ c .before .before .before .before .before .before .before .before .before .before .before .before .before .before .before .before .before .before .before .before .before .before .before .before .before .byte12 .ensures i ∷ c .before .before .before .before .before .before .before .before .before .before .before .before .before .before .before .before .before .before .before .before .before .before .before .before .byte02 .ensures i ∷ c .before .before .before .before .before .before .before .before .before .before .before .before .before .before .before .before .before .before .before .before .before .before .before .byte33 .ensures i ∷ c .before .before .before .before .before .before .before .before .before .before .before .before .before .before .before .before .before .before .before .before .before .before .byte23 .ensures i ∷ c .before .before .before .before .before .before .before .before .before .before .before .before .before .before .before .before .before .before .before .before .before .byte13 .ensures i ∷ c .before .before .before .before .before .before .before .before .before .before .before .before .before .before .before .before .before .before .before .before .byte03 .ensures i ∷ c .before .before .before .before .before .before .before .before .before .before .before .before .before .before .before .before .before .before .before .byte34 .ensures i ∷ c .before .before .before .before .before .before .before .before .before .before .before .before .before .before .before .before .before .before .byte24 .ensures i ∷ c .before .before .before .before .before .before .before .before .before .before .before .before .before .before .before .before .before .byte14 .ensures i ∷ c .before .before .before .before .before .before .before .before .before .before .before .before .before .before .before .before .byte04 .ensures i ∷ c .before .before .before .before .before .before .before .before .before .before .before .before .before .before .before .byte35 .ensures i ∷ c .before .before .before .before .before .before .before .before .before .before .before .before .before .before .byte25 .ensures i ∷ c .before .before .before .before .before .before .before .before .before .before .before .before .before .byte15 .ensures i ∷ c .before .before .before .before .before .before .before .before .before .before .before .before .byte05 .ensures i ∷ c .before .before .before .before .before .before .before .before .before .before .before .byte36 .ensures i ∷ c .before .before .before .before .before .before .before .before .before .before .byte26 .ensures i ∷ c .before .before .before .before .before .before .before .before .before .byte16 .ensures i ∷ c .before .before .before .before .before .before .before .before .byte06 .ensures i ∷ c .before .before .before .before .before .before .before .byte37 .ensures i ∷ c .before .before .before .before .before .before .byte27 .ensures i ∷ c .before .before .before .before .before .byte17 .ensures i ∷ c .before .before .before .before .byte07 .ensures i ∷ c .before .before .before .byte38 .ensures i ∷ c .before .before .byte28 .ensures i ∷ c .before .byte18 .ensures i ∷ c .byte08 .ensures i ∷ []
+returns c =
+    let h = c .before .before .before .before .before .before .before .before .before .before .before .before .before .before .before .before .args .t1 in
+    c .put-word8 .ensures ∙ ap (λ (l : List ℕ). paste l 28 (be32 (getD h 7 0)) 4) (c .before .before .put-word7 .ensures ∙ ap (λ (l : List ℕ). paste l 24 (be32 (getD h 6 0)) 4) (c .before .before .before .before .put-word6 .ensures ∙ ap (λ (l : List ℕ). paste l 20 (be32 (getD h 5 0)) 4) (c .before .before .before .before .before .before .put-word5 .ensures ∙ ap (λ (l : List ℕ). paste l 16 (be32 (getD h 4 0)) 4) (c .before .before .before .before .before .before .before .before .put-word4 .ensures ∙ ap (λ (l : List ℕ). paste l 12 (be32 (getD h 3 0)) 4) (c .before .before .before .before .before .before .before .before .before .before .put-word3 .ensures ∙ ap (λ (l : List ℕ). paste l 8 (be32 (getD h 2 0)) 4) (c .before .before .before .before .before .before .before .before .before .before .before .before .put-word2 .ensures ∙ ap (λ (l : List ℕ). paste l 4 (be32 (getD h 1 0)) 4) (c .before .before .before .before .before .before .before .before .before .before .before .before .before .before .put-word .ensures)))))))
 
 pub to-bytes-spec : {M : Type 1} → statement M
 to-bytes-spec =
     tie.close
     (tie.spec
-    array-read-byte3
-    byte3-requires
-    array-read-byte2
-    byte2-requires
-    array-read-byte1
-    byte1-requires
-    array-read-byte0
-    byte0-requires
-    array-read-byte3-2
-    byte3-requires-2
-    array-read-byte2-2
-    byte2-requires-2
-    array-read-byte1-2
-    byte1-requires-2
-    array-read-byte0-2
-    byte0-requires-2
-    array-read-byte3-3
-    byte3-requires-3
-    array-read-byte2-3
-    byte2-requires-3
-    array-read-byte1-3
-    byte1-requires-3
-    array-read-byte0-3
-    byte0-requires-3
-    array-read-byte3-4
-    byte3-requires-4
-    array-read-byte2-4
-    byte2-requires-4
-    array-read-byte1-4
-    byte1-requires-4
-    array-read-byte0-4
-    byte0-requires-4
-    array-read-byte3-5
-    byte3-requires-5
-    array-read-byte2-5
-    byte2-requires-5
-    array-read-byte1-5
-    byte1-requires-5
-    array-read-byte0-5
-    byte0-requires-5
-    array-read-byte3-6
-    byte3-requires-6
-    array-read-byte2-6
-    byte2-requires-6
-    array-read-byte1-6
-    byte1-requires-6
-    array-read-byte0-6
-    byte0-requires-6
-    array-read-byte3-7
-    byte3-requires-7
-    array-read-byte2-7
-    byte2-requires-7
-    array-read-byte1-7
-    byte1-requires-7
-    array-read-byte0-7
-    byte0-requires-7
-    array-read-byte3-8
-    byte3-requires-8
-    array-read-byte2-8
-    byte2-requires-8
-    array-read-byte1-8
-    byte1-requires-8
-    array-read-byte0-8
-    byte0-requires-8
+    array-read-put-word
+    put-word-requires
+    array-read-put-word-2
+    put-word-requires-2
+    array-read-put-word-3
+    put-word-requires-3
+    array-read-put-word-4
+    put-word-requires-4
+    array-read-put-word-5
+    put-word-requires-5
+    array-read-put-word-6
+    put-word-requires-6
+    array-read-put-word-7
+    put-word-requires-7
+    array-read-put-word-8
+    put-word-requires-8
     returns)
