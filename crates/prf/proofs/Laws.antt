@@ -6,7 +6,7 @@ use mathlib.Core.List.{List, [], _∷_, _++_, append-assoc}
 use native.Mathlib.Omega.{arith}
 use lib.ListN.{length, length-append}
 use lib.Seq.{length-take-le}
-use Rattle.prf.specs.PrfPlus.{inputAfter, blockCount, block, blockInput, blocks, prfPlus}
+use Rattle.prf.specs.PrfPlus.{inputAfter, blockCount, block, blockInput, blocks, prfPlus, TwoCases}
 use Rattle.prf.proofs.Lists.{cancel-front, cancel-back}
 
 -- at most 255 blocks, so a block's number is a byte
@@ -19,6 +19,10 @@ module _ (mac : List ℕ → List ℕ → List ℕ) where
   pub block-of-input : (key text : List ℕ) (i : ℕ) → block mac key text (suc i) ≡ mac key (blockInput mac key text (suc i))
   unfolding block blockInput
   block-of-input key text i = refl
+
+  pub two-cases : TwoCases mac
+  unfolding block inputAfter
+  two-cases key text = (refl, λ i. refl)
 
   -- the input of block 1: the text, then 1
   pub first-input : (key text : List ℕ) → blockInput mac key text 1 ≡ text ++ (1 ∷ [])

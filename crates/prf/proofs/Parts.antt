@@ -1,9 +1,10 @@
 -- A block's input is absorbed part by part, and what comes of it under a key's two states is the next block.
 -- Assumes nothing.
 use Prim.Native.Nat.{ℕ, _+_, _-_, _*_}
-use mathlib.Core.Path.{_≡_, ap, _∙_}
+use mathlib.Core.Path.{_≡_, refl, ap, _∙_}
 use mathlib.Core.List.{List, [], _∷_, _++_}
-use lib.ListN.{take, drop}
+use native.Mathlib.Omega.{arith}
+use lib.ListN.{length, take, drop}
 use Rattle.sha256_block.specs.Fips180.{sha256}
 use Rattle.sha256.specs.declared.Sha256.{Sha256}
 use Rattle.sha256.specs.Stream.{absorbed}
@@ -13,6 +14,11 @@ use Rattle.hmac.specs.Keyed.{innerState, outerState, sealed}
 use Rattle.hmac.proofs.Laws.{sealed-law, hmacSha256-length}
 use Rattle.prf.specs.PrfPlus.{inputAfter, block, blocks}
 use Rattle.prf.proofs.Steps.{last-block, next-block}
+
+pub absorbed-none : (s : Sha256) (part : List ℕ) → length part ≡ 0 → s ≡ absorbed s part
+unfolding absorbed
+absorbed-none s [] e = refl
+absorbed-none s (x ∷ part) e = absurd (omega arith)
 
 pub absorbed-parts : (s : Sha256) (p a b c d : List ℕ) (i : ℕ)
     → absorbed s (inputAfter p (a ++ (b ++ (c ++ d))) i) ≡ absorbed (absorbed (absorbed (absorbed (absorbed (absorbed s p) a) b) c) d) (i ∷ [])

@@ -1,4 +1,4 @@
--- `prf::block` meets its contract.
+-- `prf::block` meets its contract: the parts absorbed one after another are the block's input absorbed.
 -- Assumes nothing.
 use denote.Ref.{now}
 use Rattle.prf.proofs.Parts.{absorbed-parts}
@@ -6,26 +6,26 @@ use borrow.Author.Needs.{needs}
 use Rattle.prf.proofs.block.Statement.{statement}
 use Rattle.prf.proofs.block.Tie as tie
 
-absorb-requires : tie.Need-absorb-requires
-absorb-requires c κs = search needs
+absorb-part-requires : tie.Need-absorb-part-requires
+absorb-part-requires c κs = search needs
 
-absorb-requires-2 : tie.Need-absorb-requires-2
-absorb-requires-2 c κs = search needs
+absorb-part-requires-2 : tie.Need-absorb-part-requires-2
+absorb-part-requires-2 c κs = search needs
 
-absorb-requires-3 : tie.Need-absorb-requires-3
-absorb-requires-3 c κs = search needs
+absorb-part-requires-3 : tie.Need-absorb-part-requires-3
+absorb-part-requires-3 c κs = search needs
 
-absorb-requires-4 : tie.Need-absorb-requires-4
-absorb-requires-4 c κs = search needs
+absorb-part-requires-4 : tie.Need-absorb-part-requires-4
+absorb-part-requires-4 c κs = search needs
 
-absorb-requires-5 : tie.Need-absorb-requires-5
-absorb-requires-5 c κs = search needs
+absorb-part-requires-5 : tie.Need-absorb-part-requires-5
+absorb-part-requires-5 c κs = search needs
 
 slice-aggregate-absorb : tie.Need-slice-aggregate-absorb
 slice-aggregate-absorb c = search needs
 
-absorb-requires-6 : tie.Need-absorb-requires-6
-absorb-requires-6 c κs = search needs
+absorb-requires : tie.Need-absorb-requires
+absorb-requires c κs = search needs
 
 seal-requires : tie.Need-seal-requires
 seal-requires c κs = search needs
@@ -40,12 +40,12 @@ pub block-spec : {M : Type 1} → statement M
 block-spec =
     tie.close
     (tie.spec
-    absorb-requires
-    absorb-requires-2
-    absorb-requires-3
-    absorb-requires-4
-    absorb-requires-5
+    absorb-part-requires
+    absorb-part-requires-2
+    absorb-part-requires-3
+    absorb-part-requires-4
+    absorb-part-requires-5
     slice-aggregate-absorb
-    absorb-requires-6
+    absorb-requires
     seal-requires
     returns)
