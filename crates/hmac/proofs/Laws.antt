@@ -8,23 +8,18 @@ use Rattle.sha256_block.specs.Fips180.{sha256}
 use Rattle.sha256.specs.Stream.{absorbed, finished, started}
 use Rattle.sha256.proofs.Stream.{absorbed-append, digest-law, sha256-length}
 use Rattle.hmac.specs.Rfc2104.{masked, keyBlock, ipad, opad, hmac, hmacSha256}
-use Rattle.hmac.specs.Keyed.{keyed, fed, sealed, macOf}
+use Rattle.hmac.specs.Keyed.{innerState, outerState, sealed}
 
 -- the hash of a block and what comes after it
 after-block : (b m : List ℕ) → finished (absorbed (absorbed started b) m) ≡ sha256 (b ++ m)
 after-block b m = ap finished (sym (absorbed-append started b m)) ∙ digest-law (b ++ m)
 
-pub mac-law : (k m : List ℕ) → macOf (fed (keyed k) m) ≡ hmacSha256 k m
-unfolding macOf sealed fed keyed hmacSha256 hmac
-mac-law k m =
+pub sealed-law : (k m : List ℕ) → sealed (outerState (keyBlock sha256 k)) (absorbed (innerState (keyBlock sha256 k)) m) ≡ hmacSha256 k m
+unfolding sealed innerState outerState hmacSha256 hmac
+sealed-law k m =
     let i : List ℕ = masked (keyBlock sha256 k) ipad in
     let o : List ℕ = masked (keyBlock sha256 k) opad in
     after-block o (finished (absorbed (absorbed started i) m)) ∙ ap (λ (d : List ℕ). sha256 (o ++ d)) (after-block i m)
-
--- the same of a key's two states
-pub sealed-law : (k m : List ℕ) → sealed (keyed k .outer) (absorbed (keyed k .inner) m) ≡ hmacSha256 k m
-unfolding macOf fed
-sealed-law k m = mac-law k m
 
 pub hmacSha256-length : (k m : List ℕ) → length (hmacSha256 k m) ≡ 32
 unfolding hmacSha256 hmac

@@ -1,25 +1,20 @@
-// HMAC-SHA-256 (RFC 2104): a key's two hash states, made once and used for any number of messages, and the MAC of one message.
+// HMAC-SHA-256 (RFC 2104). `mac` is the MAC of one message. A caller that streams a message, or has many under one key, makes
+// the key's two states once, absorbs each message into a copy of the inner one, and ends it with `seal`.
 ghost use mathlib.Core.Path.{_≡_};
 ghost use mathlib.Core.List.{_++_};
 ghost use Prim.Native.Nat.{_-_, _≤_};
 ghost use lib.ListN.{length, replicate};
 ghost use Rattle.sha256_block.specs.Fips180.{sha256};
-ghost use Rattle.sha256.specs.Stream as Stream;
+ghost use Rattle.sha256.specs.Stream.{started, absorbed};
 ghost use Rattle.hmac.specs.Rfc2104 as Rfc2104;
-ghost use Rattle.hmac.specs.Rfc2104.{hmacSha256};
-ghost use Rattle.hmac.specs.Keyed as Keyed;
+ghost use Rattle.hmac.specs.Rfc2104.{keyBlock, hmacSha256};
+ghost use Rattle.hmac.specs.Keyed.{innerState, outerState, sealed};
 use sha256::Sha256;
 
 // The bytes that the key's block is masked with, for the inner hash and for the outer one.
 const IPAD: u8 = 0x36;
 
 const OPAD: u8 = 0x5c;
-
-// HMAC under one key. A caller with many messages keeps one, starts each message from `inner`, and ends it with `seal`.
-pub struct HmacSha256 {
-    pub inner: Sha256,
-    pub outer: Sha256,
-}
 
 // The bytes with zeros after them, to a block.
 fn filled(s: &[u8]) -> [u8; Sha256::BLOCK]
@@ -31,17 +26,6 @@ fn filled(s: &[u8]) -> [u8; Sha256::BLOCK]
         r[j] = s[j];
     }
     r
-}
-
-// The key as a block: one over a block is hashed first.
-fn key_block(key: &[u8]) -> [u8; Sha256::BLOCK]
-    ensures { λ r. ⌜ r ≡ Rfc2104.keyBlock sha256 (now (key .entry)) ⌝ }
-{
-    if key.len() <= Sha256::BLOCK {
-        return filled(key);
-    }
-    let short = sha256::digest(key);
-    filled(&short)
 }
 
 // The block with each byte masked.
@@ -57,53 +41,55 @@ fn masked(block: [u8; Sha256::BLOCK], pad: u8) -> [u8; Sha256::BLOCK]
 
 // The hash after one block.
 fn after(block: [u8; Sha256::BLOCK]) -> Sha256
-    ensures { λ r. ⌜ r ≡ Stream.absorbed Stream.started block ⌝ }
+    ensures { λ r. ⌜ r ≡ absorbed started block ⌝ }
 {
-    Sha256::new().absorb(&block)
+    let mut s = Sha256::new();
+    s = s.absorb(&block);
+    s
 }
 
-// The MAC, from a key's outer state and the inner state after the whole message.
+// A key as a block: one over a block is hashed first.
+pub fn key_block(key: &[u8]) -> [u8; Sha256::BLOCK]
+    ensures { λ r. ⌜ r ≡ keyBlock sha256 (now (key .entry)) ⌝ }
+{
+    if key.len() <= Sha256::BLOCK {
+        return filled(key);
+    }
+    let short = sha256::digest(key);
+    filled(&short)
+}
+
+// The state that a message is absorbed into, from the key's block.
+pub fn inner_state(block: [u8; Sha256::BLOCK]) -> Sha256
+    ensures { λ r. ⌜ r ≡ innerState block ⌝ }
+{
+    after(masked(block, IPAD))
+}
+
+// The state that a message is sealed with, from the key's block.
+pub fn outer_state(block: [u8; Sha256::BLOCK]) -> Sha256
+    ensures { λ r. ⌜ r ≡ outerState block ⌝ }
+{
+    after(masked(block, OPAD))
+}
+
+// The MAC, from a key's outer state and the inner state after the whole message. One state serves for both hashes.
 pub fn seal(outer: Sha256, inner: Sha256) -> [u8; Sha256::DIGEST]
-    ensures { λ r. ⌜ r ≡ Keyed.sealed outer inner ⌝ }
+    ensures { λ r. ⌜ r ≡ sealed outer inner ⌝ }
 {
-    let d = inner.finish();
-    outer.absorb(&d).finish()
+    let mut s = inner;
+    let d = s.finish();
+    s = outer;
+    s = s.absorb(&d);
+    s.finish()
 }
 
-impl HmacSha256 {
-    // A key's two states.
-    pub fn new(key: &[u8]) -> Self
-        ensures { λ r. ⌜ r ≡ Keyed.keyed (now (key .entry)) ⌝ }
-    {
-        let block = key_block(key);
-        let inner = after(masked(block, IPAD));
-        let outer = after(masked(block, OPAD));
-        HmacSha256 { inner, outer }
-    }
-
-    // The states after the next part of a message.
-    pub fn absorb(self, part: &[u8]) -> Self
-        ensures { λ r. ⌜ r ≡ Keyed.fed self (now (part .entry)) ⌝ }
-    {
-        let message = self.inner;
-        let inner = message.absorb(part);
-        let outer = self.outer;
-        HmacSha256 { inner, outer }
-    }
-
-    // The MAC of the message that was absorbed.
-    pub fn finish(self) -> [u8; Sha256::DIGEST]
-        ensures { λ r. ⌜ r ≡ Keyed.macOf self ⌝ }
-    {
-        let inner = self.inner;
-        let outer = self.outer;
-        seal(outer, inner)
-    }
-}
-
-// The MAC of one message.
+// The MAC of a message. The outer state is made when the inner one is done with.
 pub fn mac(key: &[u8], message: &[u8]) -> [u8; Sha256::DIGEST]
     ensures { λ r. ⌜ r ≡ hmacSha256 (now (key .entry)) (now (message .entry)) ⌝ }
 {
-    HmacSha256::new(key).absorb(message).finish()
+    let block = key_block(key);
+    let mut s = inner_state(block);
+    s = s.absorb(message);
+    seal(outer_state(block), s)
 }

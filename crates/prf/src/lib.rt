@@ -11,7 +11,6 @@ ghost use Rattle.sha256.specs.Stream.{absorbed};
 ghost use Rattle.hmac.specs.Rfc2104.{hmacSha256};
 ghost use Rattle.hmac.specs.Keyed.{sealed};
 ghost use Rattle.prf.specs.PrfPlus.{inputAfter, prfPlus, expandCheck};
-use hmac::HmacSha256;
 use refusal::Checked;
 use refusal::Refusal;
 use refusal::Written;
@@ -41,13 +40,14 @@ fn block(
 ) -> [u8; Sha256::DIGEST]
     ensures { λ r. ⌜ r ≡ sealed outer (absorbed inner (inputAfter (now (previous .entry)) (now (a .entry) ++ (now (b .entry) ++ (now (c .entry) ++ now (d .entry)))) number)) ⌝ }
 {
-    let text = inner
-        .absorb(previous)
-        .absorb(a)
-        .absorb(b)
-        .absorb(c)
-        .absorb(d);
-    hmac::seal(outer, text.absorb(&[number]))
+    let mut s = inner;
+    s = s.absorb(previous);
+    s = s.absorb(a);
+    s = s.absorb(b);
+    s = s.absorb(c);
+    s = s.absorb(d);
+    s = s.absorb(&[number]);
+    hmac::seal(outer, s)
 }
 
 // The lesser of two numbers.
@@ -74,9 +74,9 @@ fn fill(key: &[u8], a: &[u8], b: &[u8], c: &[u8], d: &[u8], n: usize, out: &mut 
     requires { ⌜ n ≤ length (now out) ⌝ }
     ensures { λ _. ⌜ now (out .exit) ≡ prfPlus hmacSha256 (now (key .entry)) (now (a .entry) ++ (now (b .entry) ++ (now (c .entry) ++ now (d .entry)))) n ++ drop n (now (out .entry)) ⌝ }
 {
-    let keyed = HmacSha256::new(key);
-    let inner = keyed.inner;
-    let outer = keyed.outer;
+    let key_block = hmac::key_block(key);
+    let inner = hmac::inner_state(key_block);
+    let outer = hmac::outer_state(key_block);
     let mut i: usize = 0;
     let mut from = 0;
     let mut at = 0;

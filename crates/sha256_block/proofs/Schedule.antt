@@ -8,9 +8,9 @@ use native.Mathlib.Numerals.{add-one}
 use native.Mathlib.Decide.{decLt}
 use native.Mathlib.Omega.{arith}
 use borrow.Author.Tests.{lt-ltb, le-ltb}
-use lib.ListN.{length, getD, length-append, List·getD-append}
+use lib.ListN.{length, getD, set, length-append, List·getD-append}
 use lib.Seq.{getD-at}
-use lib.Dec.{lit<}
+use lib.Dec.{ltb, lit<}
 use Rattle.sha256_block.specs.Fips180.{W, schedule, wordAt, word, nextW, pick}
 use Rattle.sha256_block.specs.Steps.{window}
 
@@ -77,42 +77,34 @@ fresh b t i e ep eq er es =
     e ∙ (λ j. nextW ((ep ∙ ap (W b) (sym (add-assoc t i 14))) j) ((eq ∙ ap (W b) (sym (add-assoc t i 9))) j) ((er ∙ ap (W b) (sym (add-assoc t i 1))) j) (es j))
     ∙ sym (late b (t + i)) ∙ ap (W b) (add-assoc t i 16)
 
--- the words from t + 16 on, from those from t on
-pub refilled : (b : List ℕ) (t : ℕ) (w : List ℕ) (v0 v1 v2 v3 v4 v5 v6 v7 v8 v9 v10 v11 v12 v13 v14 v15 : ℕ) → w ≡ window b t
-    → v0 ≡ nextW (getD w 14 0) (getD w 9 0) (getD w 1 0) (getD w 0 0)
-    → v1 ≡ nextW (getD w 15 0) (getD w 10 0) (getD w 2 0) (getD w 1 0)
-    → v2 ≡ nextW v0 (getD w 11 0) (getD w 3 0) (getD w 2 0)
-    → v3 ≡ nextW v1 (getD w 12 0) (getD w 4 0) (getD w 3 0)
-    → v4 ≡ nextW v2 (getD w 13 0) (getD w 5 0) (getD w 4 0)
-    → v5 ≡ nextW v3 (getD w 14 0) (getD w 6 0) (getD w 5 0)
-    → v6 ≡ nextW v4 (getD w 15 0) (getD w 7 0) (getD w 6 0)
-    → v7 ≡ nextW v5 v0 (getD w 8 0) (getD w 7 0)
-    → v8 ≡ nextW v6 v1 (getD w 9 0) (getD w 8 0)
-    → v9 ≡ nextW v7 v2 (getD w 10 0) (getD w 9 0)
-    → v10 ≡ nextW v8 v3 (getD w 11 0) (getD w 10 0)
-    → v11 ≡ nextW v9 v4 (getD w 12 0) (getD w 11 0)
-    → v12 ≡ nextW v10 v5 (getD w 13 0) (getD w 12 0)
-    → v13 ≡ nextW v11 v6 (getD w 14 0) (getD w 13 0)
-    → v14 ≡ nextW v12 v7 (getD w 15 0) (getD w 14 0)
-    → v15 ≡ nextW v13 v8 v0 (getD w 15 0)
-    → v0 ∷ v1 ∷ v2 ∷ v3 ∷ v4 ∷ v5 ∷ v6 ∷ v7 ∷ v8 ∷ v9 ∷ v10 ∷ v11 ∷ v12 ∷ v13 ∷ v14 ∷ v15 ∷ [] ≡ window b (t + 16)
-unfolding window
-refilled b t w v0 v1 v2 v3 v4 v5 v6 v7 v8 v9 v10 v11 v12 v13 v14 v15 e e0 e1 e2 e3 e4 e5 e6 e7 e8 e9 e10 e11 e12 e13 e14 e15 =
-    let g : (k : ℕ) → getD w k 0 ≡ getD (W b (t + 0) ∷ W b (t + 1) ∷ W b (t + 2) ∷ W b (t + 3) ∷ W b (t + 4) ∷ W b (t + 5) ∷ W b (t + 6) ∷ W b (t + 7) ∷ W b (t + 8) ∷ W b (t + 9) ∷ W b (t + 10) ∷ W b (t + 11) ∷ W b (t + 12) ∷ W b (t + 13) ∷ W b (t + 14) ∷ W b (t + 15) ∷ []) k 0 = λ k. ap (λ (l : List ℕ). getD l k 0) e in
-    let x0 : v0 ≡ W b (t + 16) = fresh b t 0 e0 (g 14) (g 9) (g 1) (g 0) in
-    let x1 : v1 ≡ W b (t + 17) = fresh b t 1 e1 (g 15) (g 10) (g 2) (g 1) in
-    let x2 : v2 ≡ W b (t + 18) = fresh b t 2 e2 x0 (g 11) (g 3) (g 2) in
-    let x3 : v3 ≡ W b (t + 19) = fresh b t 3 e3 x1 (g 12) (g 4) (g 3) in
-    let x4 : v4 ≡ W b (t + 20) = fresh b t 4 e4 x2 (g 13) (g 5) (g 4) in
-    let x5 : v5 ≡ W b (t + 21) = fresh b t 5 e5 x3 (g 14) (g 6) (g 5) in
-    let x6 : v6 ≡ W b (t + 22) = fresh b t 6 e6 x4 (g 15) (g 7) (g 6) in
-    let x7 : v7 ≡ W b (t + 23) = fresh b t 7 e7 x5 x0 (g 8) (g 7) in
-    let x8 : v8 ≡ W b (t + 24) = fresh b t 8 e8 x6 x1 (g 9) (g 8) in
-    let x9 : v9 ≡ W b (t + 25) = fresh b t 9 e9 x7 x2 (g 10) (g 9) in
-    let x10 : v10 ≡ W b (t + 26) = fresh b t 10 e10 x8 x3 (g 11) (g 10) in
-    let x11 : v11 ≡ W b (t + 27) = fresh b t 11 e11 x9 x4 (g 12) (g 11) in
-    let x12 : v12 ≡ W b (t + 28) = fresh b t 12 e12 x10 x5 (g 13) (g 12) in
-    let x13 : v13 ≡ W b (t + 29) = fresh b t 13 e13 x11 x6 (g 14) (g 13) in
-    let x14 : v14 ≡ W b (t + 30) = fresh b t 14 e14 x12 x7 (g 15) (g 14) in
-    let x15 : v15 ≡ W b (t + 31) = fresh b t 15 e15 x13 x8 x0 (g 15) in
-    λ j. (x0 ∙ ap (W b) (sym (add-assoc t 16 0))) j ∷ (x1 ∙ ap (W b) (sym (add-assoc t 16 1))) j ∷ (x2 ∙ ap (W b) (sym (add-assoc t 16 2))) j ∷ (x3 ∙ ap (W b) (sym (add-assoc t 16 3))) j ∷ (x4 ∙ ap (W b) (sym (add-assoc t 16 4))) j ∷ (x5 ∙ ap (W b) (sym (add-assoc t 16 5))) j ∷ (x6 ∙ ap (W b) (sym (add-assoc t 16 6))) j ∷ (x7 ∙ ap (W b) (sym (add-assoc t 16 7))) j ∷ (x8 ∙ ap (W b) (sym (add-assoc t 16 8))) j ∷ (x9 ∙ ap (W b) (sym (add-assoc t 16 9))) j ∷ (x10 ∙ ap (W b) (sym (add-assoc t 16 10))) j ∷ (x11 ∙ ap (W b) (sym (add-assoc t 16 11))) j ∷ (x12 ∙ ap (W b) (sym (add-assoc t 16 12))) j ∷ (x13 ∙ ap (W b) (sym (add-assoc t 16 13))) j ∷ (x14 ∙ ap (W b) (sym (add-assoc t 16 14))) j ∷ (x15 ∙ ap (W b) (sym (add-assoc t 16 15))) j ∷ []
+-- the window while it is refilled: the first n places have the words from t + 16 on, the others still those from t on
+abbrev pub place : ℕ → ℕ → ℕ
+place n i = pick (ltb i n) (i + 16) i
+
+unfoldable pub mixed : List ℕ → ℕ → ℕ → List ℕ
+mixed b t n =
+    W b (t + place n 0) ∷ W b (t + place n 1) ∷ W b (t + place n 2) ∷ W b (t + place n 3) ∷ W b (t + place n 4) ∷ W b (t + place n 5) ∷ W b (t + place n 6) ∷ W b (t + place n 7) ∷ W b (t + place n 8) ∷ W b (t + place n 9) ∷ W b (t + place n 10) ∷ W b (t + place n 11) ∷ W b (t + place n 12) ∷ W b (t + place n 13) ∷ W b (t + place n 14) ∷ W b (t + place n 15) ∷ []
+
+pub mixed-none : (b : List ℕ) (t : ℕ) {w : List ℕ} → w ≡ window b t → w ≡ mixed b t 0
+unfolding mixed window
+mixed-none b t e = e
+
+pub mixed-all : (b : List ℕ) (t : ℕ) {w : List ℕ} → w ≡ mixed b t 16 → w ≡ window b (t + 16)
+unfolding mixed window
+mixed-all b t e = e ∙ (λ j. W b (sym (add-assoc t 16 0) j) ∷ W b (sym (add-assoc t 16 1) j) ∷ W b (sym (add-assoc t 16 2) j) ∷ W b (sym (add-assoc t 16 3) j) ∷ W b (sym (add-assoc t 16 4) j) ∷ W b (sym (add-assoc t 16 5) j) ∷ W b (sym (add-assoc t 16 6) j) ∷ W b (sym (add-assoc t 16 7) j) ∷ W b (sym (add-assoc t 16 8) j) ∷ W b (sym (add-assoc t 16 9) j) ∷ W b (sym (add-assoc t 16 10) j) ∷ W b (sym (add-assoc t 16 11) j) ∷ W b (sym (add-assoc t 16 12) j) ∷ W b (sym (add-assoc t 16 13) j) ∷ W b (sym (add-assoc t 16 14) j) ∷ W b (sym (add-assoc t 16 15) j) ∷ [])
+
+-- where the words 14, 9, 1 and 0 after word t + n stand in that window, and that word n + 16 goes to place n
+pub record Places (b : List ℕ) (t n i14 i9 i1 : ℕ) : Type 0 where
+  pub at14 : getD (mixed b t n) i14 0 ≡ W b (t + (n + 14))
+  pub at9 : getD (mixed b t n) i9 0 ≡ W b (t + (n + 9))
+  pub at1 : getD (mixed b t n) i1 0 ≡ W b (t + (n + 1))
+  pub at0 : getD (mixed b t n) n 0 ≡ W b (t + n)
+  pub put : set (mixed b t n) n (W b (t + (n + 16))) ≡ mixed b t (suc n)
+
+-- a store of `refill`
+pub stored : (b : List ℕ) (t n i14 i9 i1 : ℕ) {w : List ℕ} {v : ℕ} → Places b t n i14 i9 i1 → w ≡ mixed b t n
+    → v ≡ nextW (getD w i14 0) (getD w i9 0) (getD w i1 0) (getD w n 0) → set w n v ≡ mixed b t (suc n)
+stored b t n i14 i9 i1 {w} p e ev =
+    let g : (k : ℕ) → getD w k 0 ≡ getD (mixed b t n) k 0 = λ k. ap (λ (l : List ℕ). getD l k 0) e in
+    let f = fresh b t n ev (g i14 ∙ p .at14) (g i9 ∙ p .at9) (g i1 ∙ p .at1) (g n ∙ p .at0) in
+    (λ i. set (e i) n (f i)) ∙ p .put

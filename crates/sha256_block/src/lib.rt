@@ -1,127 +1,67 @@
-// SHA-256's compression (FIPS 180-4): the hash value after whole blocks of a message.
+// SHA-256's compression (FIPS 180-4): the hash value after the whole blocks of a message.
 ghost use mathlib.Core.Path.{_≡_};
-ghost use mathlib.Core.List.{List, _++_};
-ghost use Prim.Native.Nat.{ℕ, _+_, _*_, _/_, _<_, _≤_, _%_, _^_, min};
-ghost use lib.ListN.{getD, length, replicate};
+ghost use mathlib.Core.List.{List};
+ghost use Prim.Native.Nat.{ℕ, _+_, _*_, _/_, _<_, _≤_, _%_, _^_};
+ghost use lib.ListN.{getD, length};
 ghost use Rattle.sha256_block.specs.Fips180 as Fips180;
 ghost use Rattle.sha256_block.specs.Steps as Steps;
+use constants::K0;
+use constants::K1;
+use constants::K2;
+use constants::K3;
 
-const K0: [u32; 16] = [
-    0x428a2f98,
-    0x71374491,
-    0xb5c0fbcf,
-    0xe9b5dba5,
-    0x3956c25b,
-    0x59f111f1,
-    0x923f82a4,
-    0xab1c5ed5,
-    0xd807aa98,
-    0x12835b01,
-    0x243185be,
-    0x550c7dc3,
-    0x72be5d74,
-    0x80deb1fe,
-    0x9bdc06a7,
-    0xc19bf174,
-];
+mod constants;
 
-const K1: [u32; 16] = [
-    0xe49b69c1,
-    0xefbe4786,
-    0x0fc19dc6,
-    0x240ca1cc,
-    0x2de92c6f,
-    0x4a7484aa,
-    0x5cb0a9dc,
-    0x76f988da,
-    0x983e5152,
-    0xa831c66d,
-    0xb00327c8,
-    0xbf597fc7,
-    0xc6e00bf3,
-    0xd5a79147,
-    0x06ca6351,
-    0x14292967,
-];
+// The rotation of a word to the right by n bits (3.2).
+fn rotr(x: u32, n: u32) -> u32
+    requires { ⌜ (0 < n) × (n < 32) ⌝ }
+    ensures { λ r. ⌜ r ≡ Fips180.ROTR n x ⌝ }
+{
+    (x >> n) | (x << (32 - n))
+}
 
-const K2: [u32; 16] = [
-    0x27b70a85,
-    0x2e1b2138,
-    0x4d2c6dfc,
-    0x53380d13,
-    0x650a7354,
-    0x766a0abb,
-    0x81c2c92e,
-    0x92722c85,
-    0xa2bfe8a1,
-    0xa81a664b,
-    0xc24b8b70,
-    0xc76c51a3,
-    0xd192e819,
-    0xd6990624,
-    0xf40e3585,
-    0x106aa070,
-];
-
-const K3: [u32; 16] = [
-    0x19a4c116,
-    0x1e376c08,
-    0x2748774c,
-    0x34b0bcb5,
-    0x391c0cb3,
-    0x4ed8aa4a,
-    0x5b9cca4f,
-    0x682e6ff3,
-    0x748f82ee,
-    0x78a5636f,
-    0x84c87814,
-    0x8cc70208,
-    0x90befffa,
-    0xa4506ceb,
-    0xbef9a3f7,
-    0xc67178f2,
-];
-
-fn big0(x: u32) -> u32
+// The functions of 4.1.2, in the forms that take the fewest steps: a rotation of a rotation, and one `and`.
+fn big_sigma0(x: u32) -> u32
     ensures { λ r. ⌜ r ≡ Fips180.Σ0 x ⌝ }
 {
-    ((x >> 2) | (x << 30)) ^ ((x >> 13) | (x << 19)) ^ ((x >> 22) | (x << 10))
+    rotr(x ^ rotr(x ^ rotr(x, 9), 11), 2)
 }
 
-fn big1(x: u32) -> u32
+fn big_sigma1(x: u32) -> u32
     ensures { λ r. ⌜ r ≡ Fips180.Σ1 x ⌝ }
 {
-    ((x >> 6) | (x << 26)) ^ ((x >> 11) | (x << 21)) ^ ((x >> 25) | (x << 7))
+    rotr(x ^ rotr(x ^ rotr(x, 14), 5), 6)
 }
 
-fn small0(x: u32) -> u32
+fn small_sigma0(x: u32) -> u32
     ensures { λ r. ⌜ r ≡ Fips180.σ0 x ⌝ }
 {
-    ((x >> 7) | (x << 25)) ^ ((x >> 18) | (x << 14)) ^ (x >> 3)
+    rotr(x ^ rotr(x, 11), 7) ^ (x >> 3)
 }
 
-fn small1(x: u32) -> u32
+fn small_sigma1(x: u32) -> u32
     ensures { λ r. ⌜ r ≡ Fips180.σ1 x ⌝ }
 {
-    ((x >> 17) | (x << 15)) ^ ((x >> 19) | (x << 13)) ^ (x >> 10)
+    rotr(x ^ rotr(x, 2), 17) ^ (x >> 10)
 }
 
 fn ch(x: u32, y: u32, z: u32) -> u32
     ensures { λ r. ⌜ r ≡ Fips180.Ch x y z ⌝ }
 {
-    (x & y) ^ (!x & z)
+    z ^ (x & (y ^ z))
 }
 
 fn maj(x: u32, y: u32, z: u32) -> u32
     ensures { λ r. ⌜ r ≡ Fips180.Maj x y z ⌝ }
 {
-    (x & y) ^ (x & z) ^ (y & z)
+    y ^ ((x ^ y) & (y ^ z))
 }
 
-fn add(x: u32, y: u32) -> u32
-    ensures { λ r. ⌜ r ≡ (x + y) % 2 ^ 32 ⌝ }
+// Sums modulo 2^32.
+fn add(a: u32, b: u32) -> u32
+    ensures { λ r. ⌜ r ≡ (a + b) % 2 ^ 32 ⌝ }
 {
-    std::num::wrapping_add_u32(x, y)
+    std::num::wrapping_add_u32(a, b)
 }
 
 fn add3(a: u32, b: u32, c: u32) -> u32
@@ -142,18 +82,14 @@ fn add5(a: u32, b: u32, c: u32, d: u32, e: u32) -> u32
     add(add4(a, b, c, d), e)
 }
 
+// Four bytes as a word, high byte first.
 fn be32(a: u8, b: u8, c: u8, d: u8) -> u32
     ensures { λ r. ⌜ r ≡ a * 2 ^ 24 + b * 2 ^ 16 + c * 2 ^ 8 + d ⌝ }
 {
-    (a as u32) * 16777216 + (b as u32) * 65536 + (c as u32) * 256 + (d as u32)
+    (a as u32) * 0x1000000 + (b as u32) * 0x10000 + (c as u32) * 0x100 + (d as u32)
 }
 
-fn next_word(w2: u32, w7: u32, w15: u32, w16: u32) -> u32
-    ensures { λ r. ⌜ r ≡ Fips180.nextW w2 w7 w15 w16 ⌝ }
-{
-    add4(small1(w2), w7, small0(w15), w16)
-}
-
+// Word t of a block (5.2.1).
 fn word(b: &[u8], t: usize) -> u32
     requires { ⌜ 4 * t + 3 < length (now b) ⌝ }
     ensures { λ r. ⌜ r ≡ Fips180.word (now (b .entry)) t ⌝ }
@@ -186,58 +122,49 @@ fn load(b: &[u8]) -> [u32; 16]
     ]
 }
 
-// The next sixteen words of the schedule.
-fn refill(w: [u32; 16]) -> [u32; 16]
-    ensures { λ r. ⌜ ((b : List ℕ) (t : ℕ) → w ≡ Steps.window b t → r ≡ Steps.window b (t + 16)) ⌝ }
+// A word of the schedule, from those 2, 7, 15 and 16 places before it.
+fn next_word(w2: u32, w7: u32, w15: u32, w16: u32) -> u32
+    ensures { λ r. ⌜ r ≡ Fips180.nextW w2 w7 w15 w16 ⌝ }
 {
-    let v0 = next_word(w[14], w[9], w[1], w[0]);
-    let v1 = next_word(w[15], w[10], w[2], w[1]);
-    let v2 = next_word(v0, w[11], w[3], w[2]);
-    let v3 = next_word(v1, w[12], w[4], w[3]);
-    let v4 = next_word(v2, w[13], w[5], w[4]);
-    let v5 = next_word(v3, w[14], w[6], w[5]);
-    let v6 = next_word(v4, w[15], w[7], w[6]);
-    let v7 = next_word(v5, v0, w[8], w[7]);
-    let v8 = next_word(v6, v1, w[9], w[8]);
-    let v9 = next_word(v7, v2, w[10], w[9]);
-    let v10 = next_word(v8, v3, w[11], w[10]);
-    let v11 = next_word(v9, v4, w[12], w[11]);
-    let v12 = next_word(v10, v5, w[13], w[12]);
-    let v13 = next_word(v11, v6, w[14], w[13]);
-    let v14 = next_word(v12, v7, w[15], w[14]);
-    let v15 = next_word(v13, v8, v0, w[15]);
-    [
-        v0,
-        v1,
-        v2,
-        v3,
-        v4,
-        v5,
-        v6,
-        v7,
-        v8,
-        v9,
-        v10,
-        v11,
-        v12,
-        v13,
-        v14,
-        v15,
-    ]
+    add4(small_sigma1(w2), w7, small_sigma0(w15), w16)
 }
 
+// The next sixteen words of the schedule, in the place of the last sixteen.
+fn refill(w: &mut [u32; 16])
+    ensures { λ _. ⌜ ((b : List ℕ) (t : ℕ) → now (w .entry) ≡ Steps.window b t → now (w .exit) ≡ Steps.window b (t + 16)) ⌝ }
+{
+    w[0] = next_word(w[14], w[9], w[1], w[0]);
+    w[1] = next_word(w[15], w[10], w[2], w[1]);
+    w[2] = next_word(w[0], w[11], w[3], w[2]);
+    w[3] = next_word(w[1], w[12], w[4], w[3]);
+    w[4] = next_word(w[2], w[13], w[5], w[4]);
+    w[5] = next_word(w[3], w[14], w[6], w[5]);
+    w[6] = next_word(w[4], w[15], w[7], w[6]);
+    w[7] = next_word(w[5], w[0], w[8], w[7]);
+    w[8] = next_word(w[6], w[1], w[9], w[8]);
+    w[9] = next_word(w[7], w[2], w[10], w[9]);
+    w[10] = next_word(w[8], w[3], w[11], w[10]);
+    w[11] = next_word(w[9], w[4], w[12], w[11]);
+    w[12] = next_word(w[10], w[5], w[13], w[12]);
+    w[13] = next_word(w[11], w[6], w[14], w[13]);
+    w[14] = next_word(w[12], w[7], w[15], w[14]);
+    w[15] = next_word(w[13], w[8], w[0], w[15]);
+}
+
+// The two sums of a round.
 fn t1(s: [u32; 8], k: u32, w: u32) -> u32
     ensures { λ r. ⌜ r ≡ Fips180.T1 (getD s 4 0) (getD s 5 0) (getD s 6 0) (getD s 7 0) k w ⌝ }
 {
-    add5(s[7], big1(s[4]), ch(s[4], s[5], s[6]), k, w)
+    add5(s[7], big_sigma1(s[4]), ch(s[4], s[5], s[6]), k, w)
 }
 
 fn t2(s: [u32; 8]) -> u32
     ensures { λ r. ⌜ r ≡ Fips180.T2 (getD s 0 0) (getD s 1 0) (getD s 2 0) ⌝ }
 {
-    add(big0(s[0]), maj(s[0], s[1], s[2]))
+    add(big_sigma0(s[0]), maj(s[0], s[1], s[2]))
 }
 
+// A round, with its constant and its word of the schedule.
 fn round(s: [u32; 8], k: u32, w: u32) -> [u32; 8]
     ensures { λ r. ⌜ r ≡ Fips180.round k w s ⌝ }
 {
@@ -247,10 +174,11 @@ fn round(s: [u32; 8], k: u32, w: u32) -> [u32; 8]
 }
 
 // Sixteen rounds, with their constants and their words of the schedule.
-fn sixteen(s: [u32; 8], k: [u32; 16], w: [u32; 16]) -> [u32; 8]
-    ensures { λ r. ⌜ r ≡ Steps.runs k w s 16 ⌝ }
+fn sixteen(s: &mut [u32; 8], k: [u32; 16], w: &[u32; 16])
+    ensures { λ _. ⌜ now (s .exit) ≡ Steps.runs k (now (w .entry)) (now (s .entry)) 16 ⌝ }
 {
-    let s1 = round(s, k[0], w[0]);
+    let s0 = *s;
+    let s1 = round(s0, k[0], w[0]);
     let s2 = round(s1, k[1], w[1]);
     let s3 = round(s2, k[2], w[2]);
     let s4 = round(s3, k[3], w[3]);
@@ -266,9 +194,38 @@ fn sixteen(s: [u32; 8], k: [u32; 16], w: [u32; 16]) -> [u32; 8]
     let s14 = round(s13, k[13], w[13]);
     let s15 = round(s14, k[14], w[14]);
     let s16 = round(s15, k[15], w[15]);
-    s16
+    *s = s16;
 }
 
+// Rounds 0 to 15.
+fn rounds0(s: &mut [u32; 8], w: &[u32; 16])
+    ensures { λ _. ⌜ ((h b : List ℕ) → now (s .entry) ≡ Fips180.rounds h b 0 → now (w .entry) ≡ Steps.window b 0 → now (s .exit) ≡ Fips180.rounds h b 16) ⌝ }
+{
+    sixteen(s, K0, w);
+}
+
+// Rounds 16 to 31.
+fn rounds1(s: &mut [u32; 8], w: &[u32; 16])
+    ensures { λ _. ⌜ ((h b : List ℕ) → now (s .entry) ≡ Fips180.rounds h b 16 → now (w .entry) ≡ Steps.window b 16 → now (s .exit) ≡ Fips180.rounds h b 32) ⌝ }
+{
+    sixteen(s, K1, w);
+}
+
+// Rounds 32 to 47.
+fn rounds2(s: &mut [u32; 8], w: &[u32; 16])
+    ensures { λ _. ⌜ ((h b : List ℕ) → now (s .entry) ≡ Fips180.rounds h b 32 → now (w .entry) ≡ Steps.window b 32 → now (s .exit) ≡ Fips180.rounds h b 48) ⌝ }
+{
+    sixteen(s, K2, w);
+}
+
+// Rounds 48 to 63.
+fn rounds3(s: &mut [u32; 8], w: &[u32; 16])
+    ensures { λ _. ⌜ ((h b : List ℕ) → now (s .entry) ≡ Fips180.rounds h b 48 → now (w .entry) ≡ Steps.window b 48 → now (s .exit) ≡ Fips180.rounds h b 64) ⌝ }
+{
+    sixteen(s, K3, w);
+}
+
+// The hash value and the working variables, word by word.
 fn sum(h: [u32; 8], s: [u32; 8]) -> [u32; 8]
     ensures { λ r. ⌜ r ≡ Fips180.sums h s ⌝ }
 {
@@ -284,19 +241,21 @@ fn sum(h: [u32; 8], s: [u32; 8]) -> [u32; 8]
     ]
 }
 
+// The next hash value, from the block that b begins with.
 fn compress(h: [u32; 8], b: &[u8]) -> [u32; 8]
     requires { ⌜ 64 ≤ length (now b) ⌝ }
     ensures { λ r. ⌜ r ≡ Fips180.compress h (now (b .entry)) ⌝ }
 {
-    let w0 = load(b);
-    let s0 = sixteen(h, K0, w0);
-    let w1 = refill(w0);
-    let s1 = sixteen(s0, K1, w1);
-    let w2 = refill(w1);
-    let s2 = sixteen(s1, K2, w2);
-    let w3 = refill(w2);
-    let s3 = sixteen(s2, K3, w3);
-    sum(h, s3)
+    let mut w = load(b);
+    let mut s = h;
+    rounds0(&mut s, &w);
+    refill(&mut w);
+    rounds1(&mut s, &w);
+    refill(&mut w);
+    rounds2(&mut s, &w);
+    refill(&mut w);
+    rounds3(&mut s, &w);
+    sum(h, s)
 }
 
 // The hash value after the whole blocks of `message`, from h. A rest shorter than a block is not looked at.

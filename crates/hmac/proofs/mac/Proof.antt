@@ -1,25 +1,39 @@
 -- `hmac::mac` meets its contract.
 -- Assumes nothing.
 use denote.Ref.{now}
-use Rattle.hmac.proofs.Laws.{mac-law}
+use Rattle.hmac.proofs.Laws.{sealed-law}
 use borrow.Author.Needs.{needs}
 use Rattle.hmac.proofs.mac.Statement.{statement}
 use Rattle.hmac.proofs.mac.Tie as tie
 
-new-requires : tie.Need-new-requires
-new-requires c κs = search needs
+key-block-requires : tie.Need-key-block-requires
+key-block-requires c κs = search needs
+
+inner-state-requires : tie.Need-inner-state-requires
+inner-state-requires c κs = search needs
 
 absorb-requires : tie.Need-absorb-requires
 absorb-requires c κs = search needs
 
-finish-requires : tie.Need-finish-requires
-finish-requires c κs = search needs
+outer-state-requires : tie.Need-outer-state-requires
+outer-state-requires c κs = search needs
+
+seal-requires : tie.Need-seal-requires
+seal-requires c κs = search needs
 
 returns : tie.Need-returns
 returns c =
-    let a = c .before .before .before .before .before .args in
-    let law = mac-law (now (a .key)) (now (a .message)) in
+    let a = c .before .before .before .before .before .before .before .args in
+    let law = sealed-law (now (a .key)) (now (a .message)) in
     cc
 
 pub mac-spec : {M : Type 1} → statement M
-mac-spec = tie.close (tie.spec new-requires absorb-requires finish-requires returns)
+mac-spec =
+    tie.close
+    (tie.spec
+    key-block-requires
+    inner-state-requires
+    absorb-requires
+    outer-state-requires
+    seal-requires
+    returns)

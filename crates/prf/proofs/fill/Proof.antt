@@ -24,8 +24,14 @@ Inv-loop key a b c d n out₀ inner outer i₀ from₀ at₀ out i from at =
 abbrev μ-loop : tie.MeasureT-loop
 μ-loop key a b c d n out₀ inner outer i₀ from₀ at₀ out i from at = n - at
 
-new-requires : tie.Need-new-requires Inv-loop μ-loop
-new-requires c κs = search needs
+key-block-requires : tie.Need-key-block-requires Inv-loop μ-loop
+key-block-requires c κs = search needs
+
+inner-state-requires : tie.Need-inner-state-requires Inv-loop μ-loop
+inner-state-requires c κs = search needs
+
+outer-state-requires : tie.Need-outer-state-requires Inv-loop μ-loop
+outer-state-requires c κs = search needs
 
 loop-holds : tie.Need-loop-holds Inv-loop μ-loop
 loop-holds c = (omega arith, omega arith, omega arith, refl, refl)
@@ -61,7 +67,10 @@ copy-at-requires : tie.Need-copy-at-requires Inv-loop μ-loop
 copy-at-requires c κs = search needs
 
 add-at : tie.Need-add-at Inv-loop μ-loop
-add-at c = search needs
+add-at c =
+    let start = c .before .before .before .before .before .before .before .before .before .before .before .before .before .before .before .before .before .before .before .before in
+    let most : start .args .n ≤ 8160 = start .pre .0 in
+    search needs
 
 loop-less : tie.Need-loop-less Inv-loop μ-loop
 loop-less c = search needs
@@ -70,8 +79,8 @@ loop-again : tie.Need-loop-again Inv-loop μ-loop
 loop-again c =
     let k = c .before .before .before .before .before .before in
     let l = k .before .before .before .before .loop in
-    let made = k .before .before .before .before .before .before .before in
-    let start = made .before .before .before .before .before .before .before in
+    let keyed = k .before .before .before .before .before in
+    let start = keyed .before .before .before .before .before .before .before .before .before in
     let s = start .args in
     let room : s .n ≤ length (now (s .out)) = start .pre .1 in
     let key = now (s .key) in
@@ -79,7 +88,7 @@ loop-again c =
     let m = c .before .before .before .before .before .least .result in
     let size : m ≡ min 32 (s .n - l .at) = c .before .before .before .before .before .least .ensures in
     let here : l .at ≡ 32 * l .i = omega arith in
-    let b = next-under-key key text (now (s .out)) (l .out) (l .i) (l .from) (l .at) (made .new .ensures) (k .block .ensures) (l .inv .0) here (l .inv .4) in (
+    let b = next-under-key key text (now (s .out)) (l .out) (l .i) (l .from) (l .at) (keyed .before .before .key-block .ensures) (keyed .before .inner-state .ensures) (keyed .outer-state .ensures) (k .block .ensures) (l .inv .0) here (l .inv .4) in (
       omega arith,
       omega arith,
       omega arith,
@@ -105,7 +114,9 @@ fill-spec =
     (tie.spec
     Inv-loop
     μ-loop
-    new-requires
+    key-block-requires
+    inner-state-requires
+    outer-state-requires
     loop-holds
     add-i
     sub-block

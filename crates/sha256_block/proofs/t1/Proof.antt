@@ -1,3 +1,5 @@
+-- `sha256_block::t1` meets its contract: the sum of five, from its callees' answers.
+-- Assumes nothing.
 use Rattle.sha256_block.specs.Fips180.{T1}
 use borrow.Author.Needs.{needs}
 use Rattle.sha256_block.proofs.t1.Statement.{statement}
@@ -6,11 +8,11 @@ use Rattle.sha256_block.proofs.t1.Tie as tie
 array-read-add5 : tie.Need-array-read-add5
 array-read-add5 c = search needs
 
-array-read-big1 : tie.Need-array-read-big1
-array-read-big1 c = search needs
+array-read-big-sigma1 : tie.Need-array-read-big-sigma1
+array-read-big-sigma1 c = search needs
 
-big1-requires : tie.Need-big1-requires
-big1-requires c κs = search needs
+big-sigma1-requires : tie.Need-big-sigma1-requires
+big-sigma1-requires c κs = search needs
 
 array-read-ch : tie.Need-array-read-ch
 array-read-ch c = search needs
@@ -36,8 +38,8 @@ t1-spec =
     tie.close
     (tie.spec
     array-read-add5
-    array-read-big1
-    big1-requires
+    array-read-big-sigma1
+    big-sigma1-requires
     array-read-ch
     array-read-ch-2
     array-read-ch-3

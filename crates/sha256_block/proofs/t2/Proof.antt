@@ -1,13 +1,15 @@
+-- `sha256_block::t2` meets its contract: the sum of two, from its callees' answers.
+-- Assumes nothing.
 use Rattle.sha256_block.specs.Fips180.{T2}
 use borrow.Author.Needs.{needs}
 use Rattle.sha256_block.proofs.t2.Statement.{statement}
 use Rattle.sha256_block.proofs.t2.Tie as tie
 
-array-read-big0 : tie.Need-array-read-big0
-array-read-big0 c = search needs
+array-read-big-sigma0 : tie.Need-array-read-big-sigma0
+array-read-big-sigma0 c = search needs
 
-big0-requires : tie.Need-big0-requires
-big0-requires c κs = search needs
+big-sigma0-requires : tie.Need-big-sigma0-requires
+big-sigma0-requires c κs = search needs
 
 array-read-maj : tie.Need-array-read-maj
 array-read-maj c = search needs
@@ -32,8 +34,8 @@ pub t2-spec : {M : Type 1} → statement M
 t2-spec =
     tie.close
     (tie.spec
-    array-read-big0
-    big0-requires
+    array-read-big-sigma0
+    big-sigma0-requires
     array-read-maj
     array-read-maj-2
     array-read-maj-3
