@@ -8,4 +8,4 @@ use Rattle.area.specs.Cases.{Cases}
 
 pub cases : Cases
 unfolding unless sameName inBounds kdf zeros kdfInput attribute attributesFrom attributes readOn reading areaAnswer areaBuffer
-cases = (refl, refl, refl, refl, refl, refl, refl, refl, refl, refl, refl, refl, refl)
+cases = (refl, refl, refl, refl, refl, refl, refl, refl, refl, refl, refl, refl, refl, refl, refl)

@@ -1,7 +1,7 @@
 -- What the functions of the walk answer, in the terms of the area's format (specs/Area.antt). Only the code and its proofs need these.
 -- Assumes nothing.
 use Prim.Native.Nat.{ℕ, _+_}
-use mathlib.Core.Bool.{Bool, cond}
+use mathlib.Core.Bool.{cond}
 use mathlib.Core.List.{List}
 use lib.ListN.{length, take, drop}
 use lib.Dec.{eqb}
