@@ -1,5 +1,5 @@
-// HMAC-SHA-256 (RFC 2104). `mac` is the MAC of one message. A caller that streams a message, or has many under one key, makes
-// the key's two states once, absorbs each message into a copy of the inner one, and ends it with `seal`.
+// HMAC-SHA-256 (RFC 2104). `mac` is the MAC of one message. A caller that has a message in parts, or many under one key, makes the
+// key's two states once, absorbs each message into a copy of the inner one, and the digest of that into a copy of the outer one.
 ghost use mathlib.Core.Path.{_≡_};
 ghost use mathlib.Core.List.{_++_};
 ghost use Prim.Native.Nat.{_-_, _≤_};
@@ -8,7 +8,7 @@ ghost use Rattle.sha256_block.specs.Fips180.{sha256};
 ghost use Rattle.sha256.specs.Stream.{started, absorbed};
 ghost use Rattle.hmac.specs.Rfc2104 as Rfc2104;
 ghost use Rattle.hmac.specs.Rfc2104.{keyBlock, hmacSha256};
-ghost use Rattle.hmac.specs.Keyed.{innerState, outerState, sealed};
+ghost use Rattle.hmac.specs.Keyed.{innerState, outerState};
 use sha256::Sha256;
 
 // The bytes that the key's block is masked with, for the inner hash and for the outer one.
@@ -66,30 +66,22 @@ pub fn inner_state(block: [u8; Sha256::BLOCK]) -> Sha256
     after(masked(block, IPAD))
 }
 
-// The state that a message is sealed with, from the key's block.
+// The state that the inner hash's digest is absorbed into, from the key's block.
 pub fn outer_state(block: [u8; Sha256::BLOCK]) -> Sha256
     ensures { λ r. ⌜ r ≡ outerState block ⌝ }
 {
     after(masked(block, OPAD))
 }
 
-// The MAC, from a key's outer state and the inner state after the whole message. One state serves for both hashes.
-pub fn seal(outer: Sha256, inner: Sha256) -> [u8; Sha256::DIGEST]
-    ensures { λ r. ⌜ r ≡ sealed outer inner ⌝ }
-{
-    let mut s = inner;
-    let d = s.finish();
-    s = outer;
-    s = s.absorb(&d);
-    s.finish()
-}
-
-// The MAC of a message. The outer state is made when the inner one is done with.
+// The MAC of a message. One state serves for both hashes: the outer one begins when the inner one is done.
 pub fn mac(key: &[u8], message: &[u8]) -> [u8; Sha256::DIGEST]
     ensures { λ r. ⌜ r ≡ hmacSha256 (now (key .entry)) (now (message .entry)) ⌝ }
 {
     let block = key_block(key);
     let mut s = inner_state(block);
     s = s.absorb(message);
-    seal(outer_state(block), s)
+    let digest = s.finish();
+    s = outer_state(block);
+    s = s.absorb(&digest);
+    s.finish()
 }

@@ -37,7 +37,8 @@ fn absorb_part(s: Sha256, part: &[u8]) -> Sha256
     s.absorb(part)
 }
 
-// The MAC of a block's input, from a key's two states: the block before it, the text and the block's number.
+// The MAC of a block's input, from a key's two states: the block before it, the text and the block's number. One state serves for both
+// hashes.
 fn block(
     inner: Sha256,
     outer: Sha256,
@@ -57,7 +58,10 @@ fn block(
     s = absorb_part(s, c);
     s = absorb_part(s, d);
     s = s.absorb(&[number]);
-    hmac::seal(outer, s)
+    let digest = s.finish();
+    s = outer;
+    s = s.absorb(&digest);
+    s.finish()
 }
 
 // The lesser of two numbers.
