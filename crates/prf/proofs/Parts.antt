@@ -7,7 +7,7 @@ use native.Mathlib.Omega.{arith}
 use lib.ListN.{length, take, drop}
 use Rattle.sha256_block.specs.Fips180.{sha256}
 use Rattle.sha256.specs.declared.Sha256.{Sha256}
-use Rattle.sha256.specs.Stream.{absorbed}
+use Rattle.sha256.specs.Stream.{absorbed, finished}
 use Rattle.sha256.proofs.Stream.{absorbed-append}
 use Rattle.hmac.specs.Rfc2104.{keyBlock, hmacSha256}
 use Rattle.hmac.specs.Keyed.{innerState, outerState, sealed}
@@ -26,15 +26,16 @@ unfolding inputAfter
 absorbed-parts s p a b c d i = simp absorbed-append
 
 -- what comes of a key's two states after the last block of a buffer is the next block
-pub next-under-key : (key text out₀ out : List ℕ) (i from at : ℕ) {kb : List ℕ} {inner outer : Sha256} {r : List ℕ}
+pub next-under-key : (key text out₀ out : List ℕ) (i from at : ℕ) {kb : List ℕ} {inner outer : Sha256} {digest r : List ℕ}
     → kb ≡ keyBlock sha256 key → inner ≡ innerState kb → outer ≡ outerState kb
-    → r ≡ sealed outer (absorbed inner (inputAfter (take (at - from) (drop from out)) text (i + 1)))
+    → digest ≡ finished (absorbed inner (inputAfter (take (at - from) (drop from out)) text (i + 1))) → r ≡ finished (absorbed outer digest)
     → from ≡ 32 * (i - 1) → at ≡ 32 * i → out ≡ take at (blocks hmacSha256 key text i) ++ drop at out₀ → r ≡ block hmacSha256 key text (i + 1)
-next-under-key key text out₀ out i from at {r = r} ek ei eo er hf ha ho =
+unfolding sealed
+next-under-key key text out₀ out i from at {r = r} ek ei eo ed er hf ha ho =
     let previous : List ℕ = take (at - from) (drop from out) in
     let input : List ℕ = inputAfter previous text (i + 1) in
     next-block hmacSha256 hmacSha256-length key text out₀ previous r i
     (er
-    ∙ (λ j. sealed ((eo ∙ ap outerState ek) j) (absorbed ((ei ∙ ap innerState ek) j) input))
+    ∙ (λ j. finished (absorbed ((eo ∙ ap outerState ek) j) ((ed ∙ ap (λ (s : Sha256). finished (absorbed s input)) (ei ∙ ap innerState ek)) j)))
     ∙ sealed-law key input)
     (last-block hmacSha256 hmacSha256-length key text out₀ out i from at hf ha ho)

@@ -7,9 +7,8 @@ ghost use lib.ListN.{length, drop};
 ghost use lib.Seq.{paste};
 ghost use Rattle.refusal.specs.Checks.{_andThen_};
 ghost use Rattle.refusal.specs.Answers.{checkedAs, answerOf, answerTo, bufferAfter};
-ghost use Rattle.sha256.specs.Stream.{absorbed};
+ghost use Rattle.sha256.specs.Stream.{absorbed, finished};
 ghost use Rattle.hmac.specs.Rfc2104.{hmacSha256};
-ghost use Rattle.hmac.specs.Keyed.{sealed};
 ghost use Rattle.prf.specs.PrfPlus.{inputAfter, prfPlus, expandCheck};
 use refusal::Checked;
 use refusal::Refusal;
@@ -37,11 +36,9 @@ fn absorb_part(s: Sha256, part: &[u8]) -> Sha256
     s.absorb(part)
 }
 
-// The MAC of a block's input, from a key's two states: the block before it, the text and the block's number. One state serves for both
-// hashes.
-fn block(
+// The inner hash of a block's input: the block before it, the text and the block's number.
+fn inner_digest(
     inner: Sha256,
-    outer: Sha256,
     previous: &[u8],
     a: &[u8],
     b: &[u8],
@@ -49,7 +46,7 @@ fn block(
     d: &[u8],
     number: u8,
 ) -> [u8; Sha256::DIGEST]
-    ensures { λ r. ⌜ r ≡ sealed outer (absorbed inner (inputAfter (now (previous .entry)) (now (a .entry) ++ (now (b .entry) ++ (now (c .entry) ++ now (d .entry)))) number)) ⌝ }
+    ensures { λ r. ⌜ r ≡ finished (absorbed inner (inputAfter (now (previous .entry)) (now (a .entry) ++ (now (b .entry) ++ (now (c .entry) ++ now (d .entry)))) number)) ⌝ }
 {
     let mut s = inner;
     s = absorb_part(s, previous);
@@ -58,8 +55,14 @@ fn block(
     s = absorb_part(s, c);
     s = absorb_part(s, d);
     s = s.absorb(&[number]);
-    let digest = s.finish();
-    s = outer;
+    s.finish()
+}
+
+// The outer hash of the inner one's digest.
+fn outer_digest(outer: Sha256, digest: [u8; Sha256::DIGEST]) -> [u8; Sha256::DIGEST]
+    ensures { λ r. ⌜ r ≡ finished (absorbed outer digest) ⌝ }
+{
+    let mut s = outer;
     s = s.absorb(&digest);
     s.finish()
 }
@@ -96,7 +99,8 @@ fn fill(key: &[u8], a: &[u8], b: &[u8], c: &[u8], d: &[u8], n: usize, out: &mut 
     let mut at = 0;
     while at < n {
         i += 1;
-        let t = block(inner, outer, &out[from..at], a, b, c, d, i as u8);
+        let digest = inner_digest(inner, &out[from..at], a, b, c, d, i as u8);
+        let t = outer_digest(outer, digest);
         let m = least(Sha256::DIGEST, n - at);
         copy_at(&t, m, out, at);
         from = at;
