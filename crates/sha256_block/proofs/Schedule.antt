@@ -101,10 +101,10 @@ pub record Places (b : List ℕ) (t n i14 i9 i1 : ℕ) : Type 0 where
   pub at0 : getD (mixed b t n) n 0 ≡ W b (t + n)
   pub put : set (mixed b t n) n (W b (t + (n + 16))) ≡ mixed b t (suc n)
 
--- a store of `refill`
-pub stored : (b : List ℕ) (t n i14 i9 i1 : ℕ) {w : List ℕ} {v : ℕ} → Places b t n i14 i9 i1 → w ≡ mixed b t n
-    → v ≡ nextW (getD w i14 0) (getD w i9 0) (getD w i1 0) (getD w n 0) → set w n v ≡ mixed b t (suc n)
+-- a step of `refill`
+pub stored : (b : List ℕ) (t n i14 i9 i1 : ℕ) {w v : List ℕ} → Places b t n i14 i9 i1 → w ≡ mixed b t n
+    → v ≡ set w n (nextW (getD w i14 0) (getD w i9 0) (getD w i1 0) (getD w n 0)) → v ≡ mixed b t (suc n)
 stored b t n i14 i9 i1 {w} p e ev =
     let g : (k : ℕ) → getD w k 0 ≡ getD (mixed b t n) k 0 = λ k. ap (λ (l : List ℕ). getD l k 0) e in
-    let f = fresh b t n ev (g i14 ∙ p .at14) (g i9 ∙ p .at9) (g i1 ∙ p .at1) (g n ∙ p .at0) in
-    (λ i. set (e i) n (f i)) ∙ p .put
+    let f = fresh b t n refl (g i14 ∙ p .at14) (g i9 ∙ p .at9) (g i1 ∙ p .at1) (g n ∙ p .at0) in
+    ev ∙ (λ i. set (e i) n (f i)) ∙ p .put

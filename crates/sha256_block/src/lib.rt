@@ -2,7 +2,7 @@
 ghost use mathlib.Core.Path.{_≡_};
 ghost use mathlib.Core.List.{List};
 ghost use Prim.Native.Nat.{ℕ, _+_, _*_, _/_, _<_, _≤_, _%_, _^_};
-ghost use lib.ListN.{getD, length};
+ghost use lib.ListN.{getD, length, set};
 ghost use Rattle.sha256_block.specs.Fips180 as Fips180;
 ghost use Rattle.sha256_block.specs.Steps as Steps;
 use constants::K0;
@@ -129,26 +129,35 @@ fn next_word(w2: u32, w7: u32, w15: u32, w16: u32) -> u32
     add4(small_sigma1(w2), w7, small_sigma0(w15), w16)
 }
 
+// The next word of the schedule, in the place i16 of the oldest in the window: i2, i7 and i15 are the places of the words 2, 7 and 15
+// before it.
+fn put_next(w: &mut [u32; 16], i2: usize, i7: usize, i15: usize, i16: usize)
+    requires { ⌜ (i2 < 16) × (i7 < 16) × (i15 < 16) × (i16 < 16) ⌝ }
+    ensures { λ _. ⌜ now (w .exit) ≡ set (now (w .entry)) i16 (Fips180.nextW (getD (now (w .entry)) i2 0) (getD (now (w .entry)) i7 0) (getD (now (w .entry)) i15 0) (getD (now (w .entry)) i16 0)) ⌝ }
+{
+    w[i16] = next_word(w[i2], w[i7], w[i15], w[i16]);
+}
+
 // The next sixteen words of the schedule, in the place of the last sixteen.
 fn refill(w: &mut [u32; 16])
     ensures { λ _. ⌜ ((b : List ℕ) (t : ℕ) → now (w .entry) ≡ Steps.window b t → now (w .exit) ≡ Steps.window b (t + 16)) ⌝ }
 {
-    w[0] = next_word(w[14], w[9], w[1], w[0]);
-    w[1] = next_word(w[15], w[10], w[2], w[1]);
-    w[2] = next_word(w[0], w[11], w[3], w[2]);
-    w[3] = next_word(w[1], w[12], w[4], w[3]);
-    w[4] = next_word(w[2], w[13], w[5], w[4]);
-    w[5] = next_word(w[3], w[14], w[6], w[5]);
-    w[6] = next_word(w[4], w[15], w[7], w[6]);
-    w[7] = next_word(w[5], w[0], w[8], w[7]);
-    w[8] = next_word(w[6], w[1], w[9], w[8]);
-    w[9] = next_word(w[7], w[2], w[10], w[9]);
-    w[10] = next_word(w[8], w[3], w[11], w[10]);
-    w[11] = next_word(w[9], w[4], w[12], w[11]);
-    w[12] = next_word(w[10], w[5], w[13], w[12]);
-    w[13] = next_word(w[11], w[6], w[14], w[13]);
-    w[14] = next_word(w[12], w[7], w[15], w[14]);
-    w[15] = next_word(w[13], w[8], w[0], w[15]);
+    put_next(w, 14, 9, 1, 0);
+    put_next(w, 15, 10, 2, 1);
+    put_next(w, 0, 11, 3, 2);
+    put_next(w, 1, 12, 4, 3);
+    put_next(w, 2, 13, 5, 4);
+    put_next(w, 3, 14, 6, 5);
+    put_next(w, 4, 15, 7, 6);
+    put_next(w, 5, 0, 8, 7);
+    put_next(w, 6, 1, 9, 8);
+    put_next(w, 7, 2, 10, 9);
+    put_next(w, 8, 3, 11, 10);
+    put_next(w, 9, 4, 12, 11);
+    put_next(w, 10, 5, 13, 12);
+    put_next(w, 11, 6, 14, 13);
+    put_next(w, 12, 7, 15, 14);
+    put_next(w, 13, 8, 0, 15);
 }
 
 // The two sums of a round.
