@@ -7,8 +7,9 @@ ghost use lib.ListN.{length, drop};
 ghost use lib.Seq.{paste};
 ghost use Rattle.refusal.specs.Checks.{_andThen_};
 ghost use Rattle.refusal.specs.Answers.{checkedAs, answerOf, answerTo, bufferAfter};
-ghost use Rattle.sha256.specs.Stream.{absorbed, finished};
+ghost use Rattle.sha256.specs.Stream.{absorbed};
 ghost use Rattle.hmac.specs.Rfc2104.{hmacSha256};
+ghost use Rattle.hmac.specs.Keyed.{hashAfter};
 ghost use Rattle.prf.specs.PrfPlus.{inputAfter, prfPlus, expandCheck};
 use refusal::Checked;
 use refusal::Refusal;
@@ -36,9 +37,9 @@ fn absorb_part(s: Sha256, part: &[u8]) -> Sha256
     s.absorb(part)
 }
 
-// The inner hash of a block's input: the block before it, the text and the block's number.
+// The inner hash of a block's input: the block before it, the text and the block's number. `inner` is the hash value that the key gives it.
 fn inner_digest(
-    inner: Sha256,
+    inner: [u32; 8],
     previous: &[u8],
     a: &[u8],
     b: &[u8],
@@ -46,9 +47,9 @@ fn inner_digest(
     d: &[u8],
     number: u8,
 ) -> [u8; Sha256::DIGEST]
-    ensures { λ r. ⌜ r ≡ finished (absorbed inner (inputAfter (now (previous .entry)) (now (a .entry) ++ (now (b .entry) ++ (now (c .entry) ++ now (d .entry)))) number)) ⌝ }
+    ensures { λ r. ⌜ r ≡ hashAfter inner (inputAfter (now (previous .entry)) (now (a .entry) ++ (now (b .entry) ++ (now (c .entry) ++ now (d .entry)))) number) ⌝ }
 {
-    let mut s = inner;
+    let mut s = Sha256::after_block(inner);
     s = absorb_part(s, previous);
     s = absorb_part(s, a);
     s = absorb_part(s, b);
@@ -58,11 +59,11 @@ fn inner_digest(
     s.finish()
 }
 
-// The outer hash of the inner one's digest.
-fn outer_digest(outer: Sha256, digest: [u8; Sha256::DIGEST]) -> [u8; Sha256::DIGEST]
-    ensures { λ r. ⌜ r ≡ finished (absorbed outer digest) ⌝ }
+// The outer hash of the inner one's digest. `outer` is the hash value that the key gives it.
+fn outer_digest(outer: [u32; 8], digest: [u8; Sha256::DIGEST]) -> [u8; Sha256::DIGEST]
+    ensures { λ r. ⌜ r ≡ hashAfter outer digest ⌝ }
 {
-    let mut s = outer;
+    let mut s = Sha256::after_block(outer);
     s = s.absorb(&digest);
     s.finish()
 }
@@ -92,8 +93,8 @@ fn fill(key: &[u8], a: &[u8], b: &[u8], c: &[u8], d: &[u8], n: usize, out: &mut 
     ensures { λ _. ⌜ now (out .exit) ≡ prfPlus hmacSha256 (now (key .entry)) (now (a .entry) ++ (now (b .entry) ++ (now (c .entry) ++ now (d .entry)))) n ++ drop n (now (out .entry)) ⌝ }
 {
     let key_block = hmac::key_block(key);
-    let inner = hmac::inner_state(key_block);
-    let outer = hmac::outer_state(key_block);
+    let inner = hmac::inner_value(key_block);
+    let outer = hmac::outer_value(key_block);
     let mut i: usize = 0;
     let mut from = 0;
     let mut at = 0;

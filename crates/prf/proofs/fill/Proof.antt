@@ -27,11 +27,11 @@ abbrev μ-loop : tie.MeasureT-loop
 key-block-requires : tie.Need-key-block-requires Inv-loop μ-loop
 key-block-requires c κs = search needs
 
-inner-state-requires : tie.Need-inner-state-requires Inv-loop μ-loop
-inner-state-requires c κs = search needs
+inner-value-requires : tie.Need-inner-value-requires Inv-loop μ-loop
+inner-value-requires c κs = search needs
 
-outer-state-requires : tie.Need-outer-state-requires Inv-loop μ-loop
-outer-state-requires c κs = search needs
+outer-value-requires : tie.Need-outer-value-requires Inv-loop μ-loop
+outer-value-requires c κs = search needs
 
 loop-holds : tie.Need-loop-holds Inv-loop μ-loop
 loop-holds c = (omega arith, omega arith, omega arith, refl, refl)
@@ -92,7 +92,7 @@ loop-again c =
     let m = c .before .before .before .before .before .least .result in
     let size : m ≡ min 32 (s .n - l .at) = c .before .before .before .before .before .least .ensures in
     let here : l .at ≡ 32 * l .i = omega arith in
-    let b = next-under-key key text (now (s .out)) (l .out) (l .i) (l .from) (l .at) (keyed .before .before .key-block .ensures) (keyed .before .inner-state .ensures) (keyed .outer-state .ensures) (k .before .inner-digest .ensures) (k .outer-digest .ensures) (l .inv .0) here (l .inv .4) in (
+    let b = next-under-key key text (now (s .out)) (l .out) (l .i) (l .from) (l .at) (keyed .before .before .key-block .ensures) (keyed .before .inner-value .ensures) (keyed .outer-value .ensures) (k .before .inner-digest .ensures) (k .outer-digest .ensures) (l .inv .0) here (l .inv .4) in (
       omega arith,
       omega arith,
       omega arith,
@@ -119,8 +119,8 @@ fill-spec =
     Inv-loop
     μ-loop
     key-block-requires
-    inner-state-requires
-    outer-state-requires
+    inner-value-requires
+    outer-value-requires
     loop-holds
     add-i
     sub-inner-digest
