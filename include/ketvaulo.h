@@ -52,6 +52,12 @@ kv_outcome kv_visited_master_key(const uint8_t *vrk, size_t vrk_len, const uint8
 /* The V-rRK: prf+ with S "EAP Re-authentication Root Key", no length. Refusals: 1, 6. */
 kv_outcome kv_visited_reauth_key(const uint8_t *vmsk, size_t vmsk_len, uint8_t *out, size_t out_len);
 
+/* A name of a key, which is no secret: the first 8 bytes of SHA-256 over the Session-ID and then the label. Returns 8.
+ * Refusals, in this order: 9 Session-ID not 1 to 255 bytes; 2 label not 1 to 255 bytes; 3 a label byte outside 32 to 126; 6 `out` has
+ * fewer than 8 bytes. */
+kv_outcome kv_key_name(const uint8_t *session_id, size_t session_id_len, const uint8_t *label, size_t label_len,
+                       uint8_t *out, size_t out_len);
+
 /* What the peer's first round returns. `ask` is 0 for Carry On (the first offer is taken into use) and 1 for Ask (the value at
  * `position`, counted from 0, is asked of the server). On a refusal every field but `refusal` is 0; `position` is 0 on Carry On. */
 typedef struct {

@@ -26,7 +26,7 @@ is() {
         passed=$((passed + 1))
     else
         failed=$((failed + 1))
-        echo "$1: status $status, wrote '$(tr '\n' '|' <"$scratch/written")', not '$(tr '\n' '|' <"$scratch/expected")'"
+        echo "$1: status $status, wrote '$(head -c 200 "$scratch/written" | tr '\n\0' '|.')', not '$(tr '\n' '|' <"$scratch/expected")'"
     fi
 }
 

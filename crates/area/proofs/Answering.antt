@@ -1,14 +1,12 @@
 -- Laws of the call: what it answers and leaves in the buffer, by what its walk came to.
 -- Assumes nothing.
 use Prim.Native.Nat.{ℕ, _≤_, _<_}
-use mathlib.Core.Path.{_≡_, refl, sym, ap, _∙_}
-use mathlib.Core.Bool.{Bool, true, false}
+use mathlib.Core.Path.{_≡_, sym}
 use mathlib.Core.List.{List, [], _++_}
 use borrow.Author.Tests.{le-leb, lt-leb}
 use lib.ListN.{length, take, drop}
-use lib.Dec.{leb}
 use Rattle.refusal.specs.Checks.{Reason, bare, unless}
-use Rattle.area.specs.Area.{attributes, Reading, whole, refusal, readOn, reading, answered, refused, answerTo, bufferTo, areaAnswer, areaBuffer}
+use Rattle.area.specs.Area.{attributes, whole, refusal, readOn, reading, answered, refused, areaAnswer, areaBuffer}
 use Rattle.area.specs.Names.{sameName}
 use Rattle.area.specs.declared.Name.the-variants.{Missing}
 

@@ -1,21 +1,17 @@
 -- Laws of one attribute: what each test of its length, its type and its padding makes of it.
 -- Assumes nothing.
-use Prim.Native.Nat.{ℕ, suc, _+_, _-_, _*_, _/_, _≤_, _<_}
-use mathlib.Core.Path.{_≡_, refl, sym, ap, _∙_}
-use mathlib.Core.Bool.{Bool, true, false, cond, _&&_}
-use mathlib.Core.List.{List, [], _∷_}
+use Prim.Native.Nat.{ℕ, _+_, _-_, _≤_, _<_}
+use mathlib.Core.Path.{_≡_, refl, sym}
+use mathlib.Core.Bool.{Bool, true, false, _&&_}
+use mathlib.Core.List.{List}
 use native.Mathlib.Omega.{arith}
-use borrow.Author.Tests.{le-leb, lt-leb, leb-true, leb-false, eq-eqb, ne-eqb}
-use lib.ListN.{length, getD, take, drop}
+use borrow.Author.Tests.{le-leb, lt-leb, leb-true, eq-eqb, ne-eqb}
+use lib.ListN.{length}
 use lib.Dec.{leb, eqb}
 use Rattle.refusal.specs.declared.Refusal.the-variants.{AttributeBounds, KdfLength, KdfInput}
 use Rattle.area.specs.Area.{typeOf, wordsOf, numberIn, inBytes, inBounds, kdf, zeros, wordsFor, padding, kdfInput, attribute}
 use Rattle.area.specs.Steps.{stepOn}
-use Rattle.area.specs.declared.Attribute.{Attribute}
 use Rattle.area.specs.declared.Attribute.the-variants.{Offer, Named, Other, Faulty}
-use Rattle.area.specs.declared.Words.{Words}
-use Rattle.area.specs.declared.Bytes.{Bytes}
-use Rattle.area.specs.declared.Step.{Step}
 use Rattle.area.specs.declared.Step.the-variants.{End, Met}
 
 -- fewer than four bytes hold no attribute
@@ -82,11 +78,11 @@ unfolding stepOn
 step-end at bytes h = rw (eq-eqb (length bytes) 0 h)
 
 pub step-in : (at : ℕ) (bytes : List ℕ) → (length bytes ≡ 0 → ⊥) → inBounds bytes ≡ true
-    → Met (attribute at bytes) (record { at = at + inBytes (wordsOf bytes) .0 }) ≡ stepOn at bytes
+    → Met (attribute at bytes) (at + inBytes (wordsOf bytes) .0) ≡ stepOn at bytes
 unfolding stepOn
 step-in at bytes n h = rw (ne-eqb (length bytes) 0 n, h)
 
 pub step-out : (at : ℕ) (bytes : List ℕ) → (length bytes ≡ 0 → ⊥) → inBounds bytes ≡ false
-    → Met (Faulty AttributeBounds) (record { at = at + length bytes }) ≡ stepOn at bytes
+    → Met (Faulty AttributeBounds) (at + length bytes) ≡ stepOn at bytes
 unfolding stepOn
 step-out at bytes n h = rw (ne-eqb (length bytes) 0 n, h)

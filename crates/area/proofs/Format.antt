@@ -1,25 +1,23 @@
 -- Laws of the area's format: what a step of the walk leaves to be read, and that the name of an area that is read whole lies within it.
 -- Assumes nothing.
-use Prim.Native.Nat.{ℕ, zero, suc, _+_, _-_, _*_, _/_, _≤_, _<_}
-use mathlib.Core.Path.{_≡_, refl, sym, ap, _∙_}
-use mathlib.Core.Bool.{Bool, true, false, cond, _&&_}
+use Prim.Native.Nat.{ℕ, zero, suc, _+_, _-_, _*_, _≤_, _<_}
+use mathlib.Core.Path.{_≡_, refl, ap, _∙_}
+use mathlib.Core.Bool.{Bool, true, false, cond}
 use mathlib.Core.List.{List, [], _∷_, _++_}
 use native.Mathlib.Omega.{arith}
 use native.Mathlib.Nat.{add-zero}
 use borrow.Author.Tests.{leb-true, eqb-true}
-use lib.ListN.{length, getD, take, drop, length-drop}
+use lib.ListN.{length, getD, drop, length-drop}
 use lib.Seq.{drop-drop, drop-length}
 use lib.Dec.{leb, ltb, eqb, eqb·suc-zero}
 use Rattle.refusal.proofs.Passing.{and-left, and-right}
 use Rattle.refusal.specs.Checks.{bare}
 use Rattle.refusal.specs.declared.Refusal.the-variants.{AttributeBounds, KdfLength, KdfInput}
-use Rattle.area.specs.Area.{typeOf, wordsOf, numberIn, inBytes, inBounds, kdf, zeros, wordsFor, padding, kdfInput, attribute, attributesFrom, attributes, Reading, whole, refusal, ended, readOn}
+use Rattle.area.specs.Area.{typeOf, wordsOf, numberIn, inBytes, inBounds, kdf, zeros, wordsFor, padding, kdfInput, attribute, attributesFrom, attributes, whole, refusal, ended, readOn}
 use Rattle.area.specs.Steps.{stepOn, stepAt}
 use Rattle.area.specs.declared.Attribute.{Attribute}
 use Rattle.area.specs.declared.Attribute.the-variants.{Offer, Named, Other, Faulty}
 use Rattle.area.specs.declared.Bytes.{Bytes}
-use Rattle.area.specs.declared.Cursor.{Cursor}
-use Rattle.area.specs.declared.Step.{Step}
 use Rattle.area.specs.declared.Step.the-variants.{End, Met}
 use Rattle.area.specs.declared.Name.{Name}
 use Rattle.area.specs.declared.Name.the-variants.{Missing, Found}
@@ -43,17 +41,19 @@ unfolding inBounds
 not-past bytes h = leb-true _ _ (and-right (leb 1 (wordsOf bytes .0)) _ (and-right (leb 2 (length bytes)) _ h))
 
 -- a step on to n, past the attribute a, leaves the attributes after it
-record Onward (at : ℕ) (bytes : List ℕ) (a : Attribute) (n : Cursor) : Type 0 where
-  ahead : at < n .at
-  within : n .at ≤ at + length bytes
-  on : attributesFrom 0 at bytes ≡ a ∷ attributesFrom 0 (n .at) (drop (n .at - at) bytes)
+record Onward (at : ℕ) (bytes : List ℕ) (a : Attribute) (n : ℕ) : Type 0 where
+  ahead : at < n
+  within : n ≤ at + length bytes
+  on : attributesFrom 0 at bytes ≡ a ∷ attributesFrom 0 n (drop (n - at) bytes)
 
-same-step : (at : ℕ) (bytes : List ℕ) {p a : Attribute} {q n : Cursor} → Met p q ≡ Met a n → Onward at bytes p q → Onward at bytes a n
+-- of two that are the same, one
+same-step : (at : ℕ) (bytes : List ℕ) {p a : Attribute} {q n : ℕ} → Met p q ≡ Met a n → Onward at bytes p q → Onward at bytes a n
 same-step at bytes {p} {a} {q} {n} e o =
     let e₁ : p ≡ a = cc in
     let e₂ : q ≡ n = cc in
     rw (e₁, e₂) at o
 
+-- passing an attribute of k bytes, from its second byte on, and passing all bytes
 past : (k at x : ℕ) (rest : List ℕ) → 1 ≤ k → attributesFrom (k - 1) (suc at) rest ≡ attributesFrom 0 (at + k) (drop (at + k - at) (x ∷ rest))
 past k at x rest h =
     let e₁ : at + k - at ≡ suc (k - 1) = omega arith in
@@ -66,8 +66,9 @@ past-all at bytes =
     let e : at + length bytes - at ≡ length bytes = omega arith in
     rw (e, drop-length)
 
+-- past an attribute within the area, and past one that is not, after which nothing follows
 onward-in : (at x : ℕ) (rest : List ℕ) → inBounds (x ∷ rest) ≡ true
-    → Onward at (x ∷ rest) (attribute at (x ∷ rest)) (record { at = at + inBytes (wordsOf (x ∷ rest)) .0 })
+    → Onward at (x ∷ rest) (attribute at (x ∷ rest)) (at + inBytes (wordsOf (x ∷ rest)) .0)
 unfolding attributesFrom
 onward-in at x rest h =
     let l₁ : 1 ≤ getD (x ∷ rest) 1 0 = not-empty (x ∷ rest) h in
@@ -75,42 +76,42 @@ onward-in at x rest h =
     record { ahead = omega arith; within = omega arith; on = rw h (ap (λ (l : List Attribute). attribute at (x ∷ rest) ∷ l) (past (4 * getD (x ∷ rest) 1 0) at x rest (omega arith))) }
 
 onward-out : (at x : ℕ) (rest : List ℕ) → inBounds (x ∷ rest) ≡ false
-    → Onward at (x ∷ rest) (Faulty AttributeBounds) (record { at = at + suc (length rest) })
+    → Onward at (x ∷ rest) (Faulty AttributeBounds) (at + suc (length rest))
 unfolding attributesFrom
 onward-out at x rest h = record { ahead = omega arith; within = omega arith; on = rw h (ap (λ (l : List Attribute). Faulty AttributeBounds ∷ l) (past-all at (x ∷ rest))) }
 
-onward : (at : ℕ) (bytes : List ℕ) (a : Attribute) (n : Cursor) → stepOn at bytes ≡ Met a n → Onward at bytes a n
+onward : (at : ℕ) (bytes : List ℕ) (a : Attribute) (n : ℕ) → stepOn at bytes ≡ Met a n → Onward at bytes a n
 unfolding stepOn
 onward at [] a n e = let z : _≡_ {A = ℕ} 0 1 = cc in record { ahead = omega arith; within = omega arith; on = cc }
 onward at (x ∷ rest) a n e = go (inBounds (x ∷ rest)) refl (rw eqb·suc-zero at e)
   where
     go : (t : Bool) → inBounds (x ∷ rest) ≡ t
-        → cond t (Met (attribute at (x ∷ rest)) (record { at = at + inBytes (wordsOf (x ∷ rest)) .0 })) (Met (Faulty AttributeBounds) (record { at = at + suc (length rest) })) ≡ Met a n
+        → cond t (Met (attribute at (x ∷ rest)) (at + inBytes (wordsOf (x ∷ rest)) .0)) (Met (Faulty AttributeBounds) (at + suc (length rest))) ≡ Met a n
         → Onward at (x ∷ rest) a n
     go true h e = same-step at (x ∷ rest) e (onward-in at x rest h)
     go false h e = same-step at (x ∷ rest) e (onward-out at x rest h)
 
 -- the same of the bytes from an offset of the area on
-pub record Met-next (area : List ℕ) (at : ℕ) (a : Attribute) (n : Cursor) : Type 0 where
-  pub ahead : at < n .at
-  pub within : n .at ≤ length area
-  pub on : attributesFrom 0 at (drop at area) ≡ a ∷ attributesFrom 0 (n .at) (drop (n .at) area)
+pub record Met-next (area : List ℕ) (at : ℕ) (a : Attribute) (n : ℕ) : Type 0 where
+  pub ahead : at < n
+  pub within : n ≤ length area
+  pub on : attributesFrom 0 at (drop at area) ≡ a ∷ attributesFrom 0 n (drop n area)
 
-pub next : (area : List ℕ) (at : ℕ) (a : Attribute) (n : Cursor) → at ≤ length area → stepAt area at ≡ Met a n → Met-next area at a n
+pub next : (area : List ℕ) (at : ℕ) (a : Attribute) (n : ℕ) → at ≤ length area → stepAt area at ≡ Met a n → Met-next area at a n
 next area at a n h e =
     let o = onward at (drop at area) a n e in
     let l : length (drop at area) ≡ length area - at = length-drop at area in
-    let w : n .at ≤ at + length (drop at area) = o .within in
-    let f : at < n .at = o .ahead in
-    let k : at + (n .at - at) ≡ n .at = omega arith in
-    record { ahead = f; within = omega arith; on = o .on ∙ ap (λ (b : List ℕ). a ∷ attributesFrom 0 (n .at) b) (drop-drop (n .at - at) at area ∙ ap (λ (i : ℕ). drop i area) k) }
+    let w : n ≤ at + length (drop at area) = o .within in
+    let f : at < n = o .ahead in
+    let k : at + (n - at) ≡ n = omega arith in
+    record { ahead = f; within = omega arith; on = o .on ∙ ap (λ (b : List ℕ). a ∷ attributesFrom 0 n b) (drop-drop (n - at) at area ∙ ap (λ (i : ℕ). drop i area) k) }
 
 -- at the end nothing is met
 pub at-end : (area : List ℕ) (at : ℕ) → stepAt area at ≡ End → attributesFrom 0 at (drop at area) ≡ []
 unfolding stepOn attributesFrom
 at-end area at e = go (drop at area) e
   where
-    tested : (t : Bool) (x : ℕ) (rest : List ℕ) → cond t (Met (attribute at (x ∷ rest)) (record { at = at + inBytes (wordsOf (x ∷ rest)) .0 })) (Met (Faulty AttributeBounds) (record { at = at + suc (length rest) })) ≡ End → attributesFrom 0 at (x ∷ rest) ≡ []
+    tested : (t : Bool) (x : ℕ) (rest : List ℕ) → cond t (Met (attribute at (x ∷ rest)) (at + inBytes (wordsOf (x ∷ rest)) .0)) (Met (Faulty AttributeBounds) (at + suc (length rest))) ≡ End → attributesFrom 0 at (x ∷ rest) ≡ []
     tested true x rest e = cc
     tested false x rest e = cc
 
@@ -144,10 +145,12 @@ abbrev NameWithin : ℕ → Name → Type 0
 NameWithin size Missing = Unit
 NameWithin size (Found at len) = at + len .0 ≤ size
 
+-- which the number alone decides
 name-same : {m n : ℕ} (name : Name) → m ≡ n → NameWithin m name → NameWithin n name
 name-same Missing e w = tt
 name-same (Found a l) e w = omega arith
 
+-- at the end the answer has the name that was met
 at-the-end : (offers : List ℕ) (name : Name) (size : ℕ) {o : List ℕ} {a l : ℕ} → NameWithin size name → ended offers name ≡ whole o a l → a + l ≤ size
 at-the-end offers Missing size w e = let z : _≡_ {A = ℕ} 0 1 = cc in omega arith
 at-the-end offers (Found at len) size {o} {a} {l} w e = go (eqb (length offers) 0) e
@@ -175,6 +178,7 @@ one-more (Offer v) later offers name size {o} {a} {l} here rest w e = go (ltb (l
 one-more (Named i n) later offers Missing size here rest w e = rest offers (Found i n) (here i n refl) e
 one-more (Named i n) later offers (Found i₁ n₁) size here rest w e = let z : _≡_ {A = ℕ} 0 1 = cc in omega arith
 
+-- by induction on the bytes
 found-within : (left at : ℕ) (bytes offers : List ℕ) (name : Name) {o : List ℕ} {a l : ℕ} → NameWithin (at + length bytes) name
     → readOn offers name (attributesFrom left at bytes) ≡ whole o a l → a + l ≤ at + length bytes
 unfolding attributesFrom readOn

@@ -1,9 +1,9 @@
 -- Laws of the offers that the walk keeps at the start of a buffer: what one attribute more makes of them, what the end does, and how they
 -- are copied.
 -- Assumes nothing.
-use Prim.Native.Nat.{ℕ, zero, suc, _+_, _≤_, _<_}
-use mathlib.Core.Path.{_≡_, refl, sym, ap, _∙_}
-use mathlib.Core.Bool.{Bool, true, false, cond}
+use Prim.Native.Nat.{ℕ, suc, _+_, _≤_, _<_}
+use mathlib.Core.Path.{_≡_, sym, _∙_}
+use mathlib.Core.Bool.{true, false}
 use mathlib.Core.List.{List, [], _∷_, _++_, append-assoc}
 use native.Mathlib.Omega.{arith}
 use native.Mathlib.Numerals.{add-one}
@@ -12,7 +12,7 @@ use lib.ListN.{length, getD, take, drop, set}
 use lib.Seq.{length-take-le, take-suc-set, take-suc, drop-cons, set-at}
 use lib.Dec.{ltb, eqb}
 use Rattle.refusal.specs.Checks.{bare}
-use Rattle.area.specs.Area.{readOn, Reading, whole, refusal, ended}
+use Rattle.area.specs.Area.{readOn, whole, refusal, ended}
 use Rattle.area.specs.declared.Attribute.{Attribute}
 use Rattle.area.specs.declared.Attribute.the-variants.{Offer}
 use Rattle.area.specs.declared.Bytes.{Bytes}

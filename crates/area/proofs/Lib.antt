@@ -6,3 +6,4 @@ pub mod Answering
 pub mod Using
 pub mod Names
 pub mod Counts
+pub mod Cases

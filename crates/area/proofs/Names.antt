@@ -1,7 +1,7 @@
 -- Laws of bytes that are all zero, and of names that are the same: one for each way on in their loops; and that names are the same exactly
 -- when their bytes are.
 -- Assumes nothing.
-use Prim.Native.Nat.{ℕ, zero, suc, _+_, _≤_, _<_}
+use Prim.Native.Nat.{ℕ, suc, _+_, _≤_, _<_}
 use mathlib.Core.Path.{_≡_, refl, sym, ap, _∙_}
 use mathlib.Core.Bool.{Bool, true, false, _&&_}
 use mathlib.Core.List.{List, [], _∷_}
@@ -13,7 +13,7 @@ use lib.Seq.{drop-cons}
 use lib.Dec.{eqb}
 use Rattle.refusal.proofs.Passing.{and-left, and-right}
 use Rattle.area.specs.Area.{zeros}
-use Rattle.area.specs.Names.{sameName}
+use Rattle.area.specs.Names.{sameName, SameExactly}
 
 zeros-step : (s : List ℕ) (i : ℕ) → i < length s → zeros (drop i s) ≡ (eqb (getD s i 0) 0 && zeros (drop (i + 1) s))
 unfolding zeros
@@ -62,8 +62,7 @@ same-not [] (y ∷ t) n = refl
 same-not (x ∷ s) [] n = refl
 same-not (x ∷ s) (y ∷ t) n = rw (sym (same-not s t (λ e. n (ap suc e)))) (sym (and-false (eqb x y)))
 
--- names are the same exactly when their bytes are
-pub same-bytes : (s t : List ℕ) → sameName s t ≡ true → s ≡ t
+same-bytes : (s t : List ℕ) → sameName s t ≡ true → s ≡ t
 unfolding sameName
 same-bytes [] [] e = refl
 same-bytes [] (y ∷ t) e = cc
@@ -73,7 +72,11 @@ same-bytes (x ∷ s) (y ∷ t) e =
     let q : s ≡ t = same-bytes s t (and-right (eqb x y) _ e) in
     cc
 
-pub same-self : (s : List ℕ) → sameName s s ≡ true
+same-self : (s : List ℕ) → sameName s s ≡ true
 unfolding sameName
 same-self [] = refl
 same-self (x ∷ s) = rw (eq-eqb x x refl, same-self s)
+
+-- names are the same exactly when they are equal
+pub same-exactly : SameExactly
+same-exactly s t = (same-bytes s t, λ e. rw (← e) (same-self s))

@@ -1,12 +1,12 @@
 -- A law for callers: an accepted reading's count is within the buffer that was lent.
 -- Assumes nothing.
 use Prim.Native.Nat.{ℕ, _≤_}
-use mathlib.Core.Path.{_≡_, refl, sym, ap, _∙_}
+use mathlib.Core.Path.{_≡_, ap}
 use mathlib.Core.Bool.{Bool}
-use mathlib.Core.List.{List, [], _++_}
+use mathlib.Core.List.{List}
 use native.Mathlib.Omega.{arith}
-use lib.ListN.{length, drop, length-append}
-use Rattle.area.specs.Area.{Reading, whole, refusal, reading, AreaAnswer, answered, answerTo, bufferTo, areaAnswer, areaBuffer}
+use lib.ListN.{length, length-append}
+use Rattle.area.specs.Area.{Reading, whole, refusal, reading, answered, answerTo, bufferTo, areaAnswer, areaBuffer}
 
 pub count-within : (area own out last : List ℕ) {count at len : ℕ} {same : Bool} → answered count at len same ≡ areaAnswer area own (length out) → last ≡ areaBuffer area out → count ≤ length last
 unfolding areaAnswer areaBuffer

@@ -2,7 +2,7 @@
 -- in it, and what reading it answers and leaves in the buffer that is lent for the offers.
 -- Assumes nothing.
 use Prim.Native.Nat.{ℕ, zero, suc, _+_, _-_, _*_, _/_}
-use mathlib.Core.Bool.{Bool, true, false, cond, _&&_}
+use mathlib.Core.Bool.{Bool, true, cond, _&&_}
 use mathlib.Core.List.{List, [], _∷_, _++_}
 use lib.ListN.{length, getD, take, drop}
 use lib.Dec.{leb, ltb, eqb}
@@ -55,8 +55,8 @@ wordsFor n = 1 + (n + 3) / 4
 abbrev pub padding : List ℕ → ℕ → List ℕ
 padding bytes n = take (inBytes (wordsOf bytes) .0 - (4 + n)) (drop (4 + n) bytes)
 
--- AT_KDF_INPUT at an offset: type, length, name length in two bytes, name, zero padding (18: its length disagrees with the name length; 18 too:
--- its padding is not zero)
+-- AT_KDF_INPUT at an offset: type, length, name length in two bytes, name, zero padding (18: its length disagrees with the name length,
+-- and after that 18: its padding is not zero)
 unfoldable pub kdfInput : ℕ → List ℕ → Attribute
 kdfInput at bytes =
     cond (eqb (wordsOf bytes .0) (wordsFor (numberIn bytes)))

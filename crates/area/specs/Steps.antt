@@ -1,7 +1,7 @@
 -- What the functions of the walk answer, in the terms of the area's format (specs/Area.antt). Only the code and its proofs need these.
 -- Assumes nothing.
 use Prim.Native.Nat.{ℕ, _+_}
-use mathlib.Core.Bool.{Bool, cond}
+use mathlib.Core.Bool.{cond}
 use mathlib.Core.List.{List}
 use lib.ListN.{length, take, drop}
 use lib.Dec.{eqb}
@@ -22,8 +22,8 @@ unfoldable pub stepOn : ℕ → List ℕ → Step
 stepOn at bytes =
     cond (eqb (length bytes) 0) End
     (cond (inBounds bytes)
-    (Met (attribute at bytes) (record { at = at + inBytes (wordsOf bytes) .0 }))
-    (Met (Faulty AttributeBounds) (record { at = at + length bytes })))
+    (Met (attribute at bytes) (at + inBytes (wordsOf bytes) .0))
+    (Met (Faulty AttributeBounds) (at + length bytes)))
 
 -- what the walk meets at an offset of the area
 abbrev pub stepAt : List ℕ → ℕ → Step

@@ -26,15 +26,16 @@ enum Attribute {
     Faulty(Refusal),
 }
 
-// The position of the walk: the offset of the next attribute.
-struct Cursor {
+// The walk's place: the area, and the offset of the next attribute in it.
+struct Reader<'a> {
+    area: &'a [u8],
     at: usize,
 }
 
-// What the walk meets at its position: the area's end, or an attribute and the position after it.
+// What a reader meets at its place: the area's end, or an attribute and the offset after it.
 enum Step {
     End,
-    Met(Attribute, Cursor),
+    Met(Attribute, usize),
 }
 
 // The name, once the walk has met it.
@@ -149,7 +150,8 @@ fn kdf_input(bytes: &[u8], at: usize) -> Attribute
     ensures { λ r. ⌜ r ≡ kdfInput at (now (bytes .entry)) ⌝ }
 {
     let size = in_bytes(length_in(bytes)).0;
-    let start = 4 + (number_in(bytes) as usize);
+    let name = Bytes(number_in(bytes) as usize);
+    let start = 4 + name.0;
     if size < start {
         return Attribute::Faulty(Refusal::KdfInput);
     }
@@ -159,7 +161,7 @@ fn kdf_input(bytes: &[u8], at: usize) -> Attribute
     if zeros(&bytes[start..size]) {
         Attribute::Named {
             at: at + 4,
-            len: Bytes(start - 4),
+            len: name,
         }
     } else {
         Attribute::Faulty(Refusal::KdfInput)
@@ -189,11 +191,11 @@ fn step_on(bytes: &[u8], at: usize) -> Step
         return Step::End;
     }
     if in_bounds(bytes) {
-        let size = in_bytes(length_in(bytes)).0;
-        Step::Met(attribute_at(bytes, at), Cursor { at: at + size })
+        let next = at + in_bytes(length_in(bytes)).0;
+        Step::Met(attribute_at(bytes, at), next)
     } else {
-        let at = at + bytes.len();
-        Step::Met(Attribute::Faulty(Refusal::AttributeBounds), Cursor { at })
+        let end = at + bytes.len();
+        Step::Met(Attribute::Faulty(Refusal::AttributeBounds), end)
     }
 }
 
@@ -203,6 +205,31 @@ fn step_at(area: &[u8], at: usize) -> Step
     ensures { λ r. ⌜ r ≡ stepAt (now (area .entry)) at ⌝ }
 {
     step_on(&area[at..], at)
+}
+
+impl<'a> Reader<'a> {
+    // A reader at an offset of the area.
+    fn new(area: &'a [u8], at: usize) -> Self
+        ensures { λ r. ⌜ (r .area ≡ area .entry) × (r .at ≡ at) ⌝ }
+    {
+        Reader { area, at }
+    }
+
+    // What stands at the reader's place.
+    fn next(self) -> Step
+        requires { ⌜ self .at ≤ length (now (self .area)) ⌝ }
+        ensures { λ r. ⌜ r ≡ stepAt (now (self .entry .area)) (self .entry .at) ⌝ }
+    {
+        step_at(self.area, self.at)
+    }
+}
+
+// What a reader meets at an offset of the area. Its parameters are plain, so that its callers need not hold a reader.
+fn meet(area: &[u8], at: usize) -> Step
+    requires { ⌜ at ≤ length (now area) ⌝ }
+    ensures { λ r. ⌜ r ≡ stepAt (now (area .entry)) at ⌝ }
+{
+    Reader::new(area, at).next()
 }
 
 // Takes one attribute in: an offer is kept, unless it is the eighteenth, and a name, unless it is the second.
@@ -262,19 +289,19 @@ fn walk(area: &[u8], kept: &mut [u16]) -> Walked
     ensures count { λ r. ⌜ walkedCount r ≤ 17 ⌝ }
     ensures walked { λ r. ⌜ walkedAs r (now (kept .exit)) ≡ readOn [] Missing (attributes (now (area .entry))) ⌝ }
 {
-    let mut cursor = Cursor { at: 0 };
+    let mut at = 0;
     let mut seen = Seen {
         count: 0,
         name: Name::Missing,
     };
     loop {
-        match step_at(area, cursor.at) {
+        match meet(area, at) {
             Step::End => return ended(seen),
             Step::Met(met, next) => match add(seen, met, kept) {
                 Added::Stopped(why) => return Walked::Stopped(why),
                 Added::Kept(more) => {
                     seen = more;
-                    cursor = next;
+                    at = next;
                 }
             },
         }
@@ -289,10 +316,10 @@ fn same_name(a: &[u8], b: &[u8]) -> bool
         return false;
     }
     let mut same = true;
-    let mut i = 0;
-    while i < a.len() {
-        same = same & (a[i] == b[i]);
-        i += 1;
+    let mut k = 0;
+    while k < a.len() {
+        same = same & (a[k] == b[k]);
+        k += 1;
     }
     same
 }

@@ -9,6 +9,7 @@ ghost use Rattle.sha256_block.specs.Fips180.{sha256};
 ghost use Rattle.hmac.specs.Rfc2104.{hmacSha256};
 ghost use Rattle.usage.specs.Requests.{forUsage, forVrk, requestAnswer, requestBuffer};
 ghost use Rattle.visited.specs.Visited.{vmskCheck, vmskKey, reauthCheck, reauthKey};
+ghost use Rattle.key_name.specs.Ndf64.{nameCheck, nameOf};
 ghost use Rattle.offers.specs.Answers.{firstRoundOf, firstRound, serverAnswer, serverBuffer, renewedOf, renewedAnswer};
 ghost use Rattle.area.specs.Area.{areaAnswerOf, areaAnswer, areaBuffer};
 ghost use Rattle.ketvaulo.specs.Outcomes.{outcomeOf, firstRoundOutcome, positionIn, renewedOutcome, flagOf, areaOutcome, countIn};
@@ -112,6 +113,15 @@ pub extern "C" fn kv_visited_reauth_key(vmsk: &[u8], out: &mut [u8]) -> Outcome
     ensures buffer { λ _. ⌜ now (out .exit) ≡ bufferAfter (reauthCheck (now (vmsk .entry)) (length (now (out .entry)))) 64 (reauthKey (now (vmsk .entry))) (now (out .entry)) ⌝ }
 {
     returned(visited::visited_reauth_key(vmsk, out))
+}
+
+// Source document 001: the name of a Session-ID and a label, 8 bytes.
+#[no_mangle]
+pub extern "C" fn kv_key_name(session_id: &[u8], label: &[u8], out: &mut [u8]) -> Outcome
+    ensures answer { λ r. ⌜ r ≡ outcomeOf (answerTo (nameCheck (now («session_id» .entry)) (now (label .entry)) (length (now (out .entry)))) 8) ⌝ }
+    ensures buffer { λ _. ⌜ now (out .exit) ≡ bufferAfter (nameCheck (now («session_id» .entry)) (now (label .entry)) (length (now (out .entry)))) 8 (nameOf (now («session_id» .entry)) (now (label .entry))) (now (out .entry)) ⌝ }
+{
+    returned(key_name::key_name(session_id, label, out))
 }
 
 // What the peer's first round returns to C. `ask` is 0 for Carry On and 1 for Ask; every field but the number is 0 on a refusal.

@@ -92,7 +92,7 @@ or-true : (a b : Bool) → b ≡ true → (a || b) ≡ true
 or-true true b e = refl
 or-true false b e = e
 
--- a value that has a mark which the first of the list has not, is not that first
+-- a value that passes a test which the first of the list does not pass is not that first
 not-first : (p : ℕ → Bool) (value : ℕ) (list : List ℕ) → p value ≡ true → p (getD list 0 0) ≡ false → isFirst value list ≡ false
 unfolding isFirst
 not-first p value [] h k = refl
@@ -129,8 +129,8 @@ reply-after-first first others reply once = (forth, back)
         let other = not-first (λ v. stands v others) reply (first ∷ others) h (or-none _ _ once) in
         both-pass _ _ (test-holds _ _ (rw other)) (test-holds _ _ (or-true (eqb first reply) _ h))
 
--- what a first round that ended in an Ask tells
-record Asked (offers supported : List ℕ) (value position : ℕ) : Type 0 where
+-- what a first round that ended in an Ask says of its list and its value: 10 and 11 pass, and the value is an offer after the first
+record Asked (offers : List ℕ) (value : ℕ) : Type 0 where
   listed : (check10 offers andThen check11 offers) ≡ pass
   later : isFirst value offers ≡ false
   offered : stands value offers ≡ true
@@ -143,28 +143,28 @@ asked-at : (offers : List ℕ) (i : ℕ) {value position : ℕ} → firstRoundAt
 asked-at offers zero e = let z : _≡_ {A = ℕ} 0 1 = cc in (omega arith, cc)
 asked-at offers (suc i) e = (omega arith, cc)
 
-asked : (offers supported : List ℕ) (value position : ℕ) → firstRound offers supported ≡ ask value position → Asked offers supported value position
+asked : (offers supported : List ℕ) (value position : ℕ) → firstRound offers supported ≡ ask value position → Asked offers value
 unfolding firstRound chooseCheck
 asked offers supported value position e =
     let i = firstSupported offers supported in
     let p = round-passed (chooseCheck offers supported) offers i e in
     let at = asked-at offers i (rw p at e) in
     let inside = ltb-true i (length offers) (test-passed _ _ (last-passed _ _ p)) in
-    let mark = rw (at .1) at (first-here offers supported inside) in
+    let passes = rw (at .1) at (first-here offers supported inside) in
     record {
       listed = before-passed _ _ p;
-      later = not-first (λ v. stands v supported) value offers mark (none-before offers supported 0 (at .0));
+      later = not-first (λ v. stands v supported) value offers passes (none-before offers supported 0 (at .0));
       offered = rw (at .1) at (stands-at offers i inside);
     }
 
-reply-passed : (offers supported : List ℕ) (value position : ℕ) → Asked offers supported value position → (check10 offers andThen check11 offers andThen check13 offers value andThen check14 offers value) ≡ pass
-reply-passed offers supported value position a =
+reply-passed : (offers : List ℕ) (value : ℕ) → Asked offers value → (check10 offers andThen check11 offers andThen check13 offers value andThen check14 offers value) ≡ pass
+reply-passed offers value a =
     both-pass _ _ (both-pass _ _ (a .listed) (test-holds _ _ (rw (a .later)))) (test-holds _ _ (a .offered))
 
 pub unaltered-accepted : UnalteredAccepted
 unfolding serverAnswer serverBuffer renewedAnswer negotiated answerCheck renewedCheck
 unaltered-accepted offers supported value position buffer e room =
-    let replied = reply-passed offers supported value position (asked offers supported value position e) in
+    let replied = reply-passed offers value (asked offers supported value position e) in
     let served : answerCheck offers value (length buffer) ≡ pass = both-pass _ _ replied (test-holds _ _ (le-leb _ _ room)) in
     let renewed : renewedCheck offers value (renewedList offers value) ≡ pass = both-pass _ _ replied (test-holds _ _ (equal-same (renewedList offers value))) in
     let whole = take-at (renewedList offers value) (drop (length offers + 1) buffer) (length offers + 1) (sym (add-one (length offers))) in

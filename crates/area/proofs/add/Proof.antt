@@ -1,4 +1,5 @@
--- `area::add` meets its contract.
+-- `area::add` meets its contract: in each arm the attribute that was matched says which clause of `readOn` holds. An offer is kept after those
+-- before it (`offer-kept`).
 -- Assumes nothing.
 use native.Mathlib.Omega.{arith}
 use denote.Ref.{now}

@@ -1,4 +1,4 @@
--- `area::attribute_at` meets its contract.
+-- `area::attribute_at` meets its contract: the type that was matched says which case of `attribute` holds.
 -- Assumes nothing.
 use mathlib.Core.Path.{_∙_}
 use denote.Ref.{now}

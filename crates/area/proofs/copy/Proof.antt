@@ -1,4 +1,4 @@
--- `area::copy` meets its contract.
+-- `area::copy` meets its contract. The loop's invariant: the values copied so far, and after them what stood there.
 -- Assumes nothing.
 use Prim.Native.Nat.{_≤_, _-_}
 use mathlib.Core.Path.{_≡_, refl}

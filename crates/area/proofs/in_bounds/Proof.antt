@@ -1,4 +1,4 @@
--- `area::in_bounds` meets its contract.
+-- `area::in_bounds` meets its contract: fewer than four bytes hold no attribute, and with four the two tests are the definition's.
 -- Assumes nothing.
 use mathlib.Core.Path.{sym}
 use denote.Ref.{now}

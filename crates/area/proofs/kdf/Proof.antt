@@ -1,4 +1,4 @@
--- `area::kdf` meets its contract.
+-- `area::kdf` meets its contract: the test of the length says which case of `kdf` holds.
 -- Assumes nothing.
 use Rattle.area.proofs.Attributes.{kdf-read, kdf-refused}
 use borrow.Author.Needs.{needs}

@@ -1,4 +1,4 @@
--- `area::length_in` meets its contract.
+-- `area::length_in` meets its contract: an element of the slice is a byte.
 -- Assumes nothing.
 use mathlib.Core.Path.{refl}
 use native.Mathlib.Omega.{arith}

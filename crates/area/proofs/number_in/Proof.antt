@@ -1,4 +1,4 @@
--- `area::number_in` meets its contract.
+-- `area::number_in` meets its contract: two bytes make a number of 16 bits.
 -- Assumes nothing.
 use native.Mathlib.Omega.{arith}
 use borrow.Author.Needs.{needs}

@@ -1,8 +1,9 @@
--- `area::read_area` meets its contract.
+-- `area::read_area` meets its contract: what the walk came to settles the answer and the buffer, and the name that it found lies within the area
+-- (`name-within`).
 -- Assumes nothing.
 use borrow.Author.Needs.{needs}
-use Prim.Native.Nat.{ℕ, _+_, _-_, _≤_}
-use mathlib.Core.Path.{_≡_, sym, ap, _∙_}
+use Prim.Native.Nat.{_+_, _-_, _≤_}
+use mathlib.Core.Path.{_≡_, sym, _∙_}
 use mathlib.Core.List.{[]}
 use native.Mathlib.Omega.{arith}
 use denote.Ref.{now}

@@ -1,4 +1,4 @@
--- `area::step_at` meets its contract.
+-- `area::step_at` meets its contract: the part of the area from an offset to its end is what `drop` leaves.
 -- Assumes nothing.
 use borrow.Author.Needs.{needs}
 use Prim.Native.Nat.{_-_}

@@ -1,9 +1,10 @@
--- `area::step_on` meets its contract.
+-- `area::step_on` meets its contract: the tests say which case of `stepOn` holds. An attribute within the area has four bytes, and the offset after it
+-- is at most the area's length (`within`).
 -- Assumes nothing.
-use borrow.Author.Needs.{needs}
-use Prim.Native.Nat.{ℕ, _≤_}
+use Prim.Native.Nat.{_≤_}
 use mathlib.Core.Path.{_≡_, sym, ap, _∙_}
 use native.Mathlib.Omega.{arith}
+use borrow.Author.Needs.{needs}
 use denote.Ref.{now}
 use lib.ListN.{length}
 use Rattle.area.specs.Area.{wordsOf, inBytes}
@@ -14,10 +15,10 @@ use Rattle.area.proofs.step_on.Statement.{statement}
 use Rattle.area.proofs.step_on.Tie as tie
 
 -- an attribute within the area has a length, and ends in it
-within : (c : tie.Then2) → (1 ≤ wordsOf (now (c .before .before .before .before .args .bytes)) .0) × (inBytes (wordsOf (now (c .before .before .before .before .args .bytes))) .0 ≤ length (now (c .before .before .before .before .args .bytes)))
-within c =
-    let h = sym (c .before .in-bounds .ensures) ∙ c .if2 .taken in
-    (not-empty _ h, not-past _ h)
+within : (c : tie.Then2)
+    → (1 ≤ wordsOf (now (c .before .before .before .before .args .bytes)) .0)
+    × (inBytes (wordsOf (now (c .before .before .before .before .args .bytes))) .0 ≤ length (now (c .before .before .before .before .args .bytes)))
+within c = let h = sym (c .before .in-bounds .ensures) ∙ c .if2 .taken in (not-empty _ h, not-past _ h)
 
 -- what the conversion gives
 size : (c : tie.After-in-bytes) → c .in-bytes .result .0 ≡ inBytes (wordsOf (now (c .before .before .before .before .before .before .args .bytes))) .0
@@ -30,25 +31,25 @@ in-bounds-requires : tie.Need-in-bounds-requires
 in-bounds-requires c κs = search needs
 
 length-in-requires : tie.Need-length-in-requires
-length-in-requires c κs = let h = within (c) in omega (arith, h .0, h .1)
+length-in-requires c κs = let h = within c in omega arith
 
 in-bytes-requires : tie.Need-in-bytes-requires
 in-bytes-requires c κs = search needs
 
+add-next : tie.Need-add-next
+add-next c = let h = within (c .before .before .before) in omega (arith, size (c .before), c .before .before .before .before .before .before .before .pre)
+
 attribute-at-requires : tie.Need-attribute-at-requires
-attribute-at-requires c κs = let h = within (c .before .before) in let p = c .before .before .before .before .before .before .pre in (omega (arith, h .0, h .1), (h .1, p))
+attribute-at-requires c κs = let h = within (c .before .before .before) in (omega arith, (h .1, c .before .before .before .before .before .before .before .pre))
 
-add-t12 : tie.Need-add-t12
-add-t12 c = let h = within (c .before .before .before) in omega (arith, h .1, size (c .before), c .before .before .before .before .before .before .before .pre)
-
-add-at : tie.Need-add-at
-add-at c = search needs
+add-end : tie.Need-add-end
+add-end c = search needs
 
 returns-2 : tie.Need-returns-2
 returns-2 c =
-    let k = c .before .before .before in
+    let k = c .before .before .before .before in
     let a = k .before .before .before .before .args in
-    rw (c .attribute-at .ensures, size (c .before)) (step-in (a .at) (now (a .bytes)) (k .before .before .if1 .left) (sym (k .before .in-bounds .ensures) ∙ k .if2 .taken))
+    rw (c .attribute-at .ensures, size (c .before .before)) (step-in (a .at) (now (a .bytes)) (k .before .before .if1 .left) (sym (k .before .in-bounds .ensures) ∙ k .if2 .taken))
 
 returns-3 : tie.Need-returns-3
 returns-3 c =
@@ -63,8 +64,8 @@ step-on-spec =
     in-bounds-requires
     length-in-requires
     in-bytes-requires
+    add-next
     attribute-at-requires
-    add-t12
-    add-at
+    add-end
     returns-2
     returns-3)

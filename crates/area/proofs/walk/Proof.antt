@@ -1,7 +1,8 @@
--- `area::walk` meets its contract.
+-- `area::walk` meets its contract. The loop's invariant: reading the area is reading on from the offset, past what was met so far (`ReadTo`); the
+-- measure is what is left of the area.
 -- Assumes nothing.
 use borrow.Author.Needs.{needs}
-use Prim.Native.Nat.{ℕ, _-_, _≤_, _<_}
+use Prim.Native.Nat.{_-_, _≤_}
 use mathlib.Core.Path.{_≡_, refl, sym, _∙_}
 use mathlib.Core.List.{[]}
 use native.Mathlib.Omega.{arith}
@@ -16,32 +17,32 @@ use Rattle.area.proofs.walk.Statement.{statement}
 use Rattle.area.proofs.walk.Tie as tie
 
 abbrev Inv-loop : tie.InvT-loop
-Inv-loop area kept₀ cursor₀ seen₀ kept cursor seen = (cursor .at ≤ length area) × (seen .count ≤ 17) × (length kept ≡ length kept₀) × ReadTo area (cursor .at) seen kept
+Inv-loop area kept₀ at₀ seen₀ kept at seen = (at ≤ length area) × (seen .count ≤ 17) × (length kept ≡ length kept₀) × ReadTo area at seen kept
 
 abbrev μ-loop : tie.MeasureT-loop
-μ-loop area kept₀ cursor₀ seen₀ kept cursor seen = length area - cursor .at
+μ-loop area kept₀ at₀ seen₀ kept at seen = length area - at
 
 -- the step that was made
-met : (c : tie.After-add Inv-loop μ-loop) → Met-next (now (c .before .before .before .before .before .before .before .before .before .args .area)) (c .before .before .before .before .before .before .loop .cursor .at) (c .before .before .before .met .given .0 .0) (c .before .before .before .met .given .0 .1 .0)
+met : (c : tie.After-add Inv-loop μ-loop) → Met-next (now (c .before .before .before .before .before .before .before .before .before .args .area)) (c .before .before .before .before .before .before .loop .at) (c .before .before .before .met .given .0 .0) (c .before .before .before .met .given .0 .1 .0)
 met c =
     let k = c .before .before .before in
     let l = k .before .before .before .loop in
-    next _ (l .cursor .at) _ _ (l .inv .0) (sym (k .before .before .step-at .ensures) ∙ k .met .given .1)
+    next _ (l .at) _ _ (l .inv .0) (sym (k .before .before .meet .ensures) ∙ k .met .given .1)
 
 -- what is left to be read after the attribute was taken in
 on : (c : tie.After-add Inv-loop μ-loop)
     → readOn [] Missing (attributes (now (c .before .before .before .before .before .before .before .before .before .args .area)))
-    ≡ addedOn (c .add .result) (c .add .last .1 .1 .0) (attributesFrom 0 (c .before .before .before .met .given .0 .1 .0 .at) (drop (c .before .before .before .met .given .0 .1 .0 .at) (now (c .before .before .before .before .before .before .before .before .before .args .area))))
+    ≡ addedOn (c .add .result) (c .add .last .1 .1 .0) (attributesFrom 0 (c .before .before .before .met .given .0 .1 .0) (drop (c .before .before .before .met .given .0 .1 .0) (now (c .before .before .before .before .before .before .before .before .before .args .area))))
 on c =
     let k = c .before .before .before in
     let l = k .before .before .before .loop in
-    goes-on _ (l .cursor .at) (l .seen) (l .kept) _ _ _ (c .add .result) (l .inv .3) (l .inv .0) (sym (k .before .before .step-at .ensures) ∙ k .met .given .1) (c .add .ensures .1)
+    goes-on _ (l .at) (l .seen) (l .kept) _ _ _ (c .add .result) (l .inv .3) (l .inv .0) (sym (k .before .before .meet .ensures) ∙ k .met .given .1) (c .add .ensures .1)
 
 loop-holds : tie.Need-loop-holds Inv-loop μ-loop
 loop-holds c = (omega arith, omega arith, refl, starts (now (c .before .before .args .area)) (now (c .before .before .args .kept)))
 
-step-at-requires : tie.Need-step-at-requires Inv-loop μ-loop
-step-at-requires c κs = omega arith
+meet-requires : tie.Need-meet-requires Inv-loop μ-loop
+meet-requires c κs = omega arith
 
 enum-told : tie.Need-enum-told Inv-loop μ-loop
 enum-told c = search needs
@@ -56,9 +57,9 @@ returns : tie.Need-returns Inv-loop μ-loop
 returns c =
     let l = c .before .before .before .before .loop in
     let a = c .before .before .before .before .before .before .before .args in
-    let s = c .before .before .before .step-at in
+    let s = c .before .before .before .meet in
     let room : l .seen .count ≤ length (l .kept) = omega (arith, c .before .before .before .before .before .before .before .pre) in
-    (omega arith, c .ended .ensures .1 (l .kept) room ∙ sym (ends (now (a .area)) (l .cursor .at) (l .seen) (l .kept) (l .inv .3) (sym (s .ensures) ∙ c .before .enum-told .given .1)))
+    (omega arith, c .ended .ensures .1 (l .kept) room ∙ sym (ends (now (a .area)) (l .at) (l .seen) (l .kept) (l .inv .3) (sym (s .ensures) ∙ c .before .enum-told .given .1)))
 
 enum-known-met : tie.Need-enum-known-met Inv-loop μ-loop
 enum-known-met c = search needs
@@ -99,7 +100,7 @@ walk-spec =
     Inv-loop
     μ-loop
     loop-holds
-    step-at-requires
+    meet-requires
     enum-told
     ended-requires
     same-length

@@ -1,4 +1,4 @@
--- `area::zeros` meets its contract.
+-- `area::zeros` meets its contract. The loop's invariant: all bytes are zero exactly if those not yet looked at are.
 -- Assumes nothing.
 use Prim.Native.Nat.{_≤_, _-_}
 use mathlib.Core.Path.{_≡_, refl}

@@ -1,11 +1,9 @@
 -- `visited::visited_master_key` meets its contract: its tests are one chain, and the parts after the domain are empty.
 -- Assumes nothing.
-use mathlib.Core.List.{append-nil}
 use borrow.Author.Needs.{needs}
 use denote.Ref.{now}
 use lib.ListN.{length}
-use Rattle.visited.specs.Visited.{vmskText, vmskKey}
-use Rattle.visited.proofs.Tests.{master-tests}
+use Rattle.visited.proofs.Tests.{master-tests, answer-by, master-buffer}
 use Rattle.visited.proofs.visited_master_key.Statement.{statement}
 use Rattle.visited.proofs.visited_master_key.Tie as tie
 
@@ -25,13 +23,12 @@ same-length : tie.Need-same-length
 same-length c = search needs
 
 returns : tie.Need-returns
-unfolding vmskKey vmskText
 returns c =
     let e = c .before .before in
     let k = e .before .before .before .before in
     let s = k .before .before .before .before .before .args in
     let tests = master-tests (now (s .vrk)) (now (s .server)) (now (s .domain)) (length (now (s .out))) (k .check-visited .ensures) in
-    (rw tests at (e .expand .ensures .0), rw (tests, append-nil (now (s .domain))) at (e .expand .ensures .1))
+    (answer-by 64 tests (e .expand .ensures .0), master-buffer (now (s .vrk)) (now (s .server)) (now (s .domain)) (now (s .out)) tests (e .expand .ensures .1))
 
 pub visited-master-key-spec : {M : Type 1} → statement M
 visited-master-key-spec =

@@ -4,7 +4,7 @@ use borrow.Author.Needs.{needs}
 use denote.Ref.{now}
 use lib.ListN.{length}
 use Rattle.visited.specs.Visited.{reauthText, reauthKey}
-use Rattle.visited.proofs.Tests.{reauth-tests}
+use Rattle.visited.proofs.Tests.{reauth-tests, answer-by, buffer-by}
 use Rattle.visited.proofs.visited_reauth_key.Statement.{statement}
 use Rattle.visited.proofs.visited_reauth_key.Tie as tie
 
@@ -33,7 +33,7 @@ returns c =
     let k = e .before .before .before .before .before .before .before in
     let s = k .before .before .before .args in
     let tests = reauth-tests (now (s .vmsk)) (length (now (s .out))) (k .check-root-key .ensures) in
-    (rw tests at (e .expand .ensures .0), rw tests at (e .expand .ensures .1))
+    (answer-by 64 tests (e .expand .ensures .0), buffer-by 64 (reauthKey (now (s .vmsk))) (now (s .out)) tests (e .expand .ensures .1))
 
 pub visited-reauth-key-spec : {M : Type 1} → statement M
 visited-reauth-key-spec =

@@ -1,0 +1,6 @@
+mod Four
+mod Mix
+pub mod Rounds
+mod Steps
+mod Words
+pub mod Xor

@@ -1,0 +1,40 @@
+-- FIPS 197 sections 5.1 and 5.3: the cipher and the inverse cipher of AES-128 (Nr = 10), under the round keys ks, counted from 0.
+-- Assumes nothing.
+use mathlib.Core.List.{List, []}
+use Prim.Native.Nat.{ℕ, zero, suc}
+use lib.ListN.{getD}
+use Rattle.aes128.specs.State.{State, subBytes, invSubBytes, shiftRows, invShiftRows, mixColumns, invMixColumns, addRoundKey}
+
+-- Figure 5, a round with the round key k.
+unfoldable pub round : State → State → State
+round k s = addRoundKey (mixColumns (shiftRows (subBytes s))) k
+
+-- The rounds 1 to n.
+unfoldable pub rounds : List State → ℕ → State → State
+rounds ks zero s = s
+rounds ks (suc n) s = round (getD ks (suc n) []) (rounds ks n s)
+
+-- The last round, which mixes no columns.
+unfoldable pub lastRound : State → State → State
+lastRound k s = addRoundKey (shiftRows (subBytes s)) k
+
+-- Figure 5.
+unfoldable pub cipher : List State → State → State
+cipher ks s = lastRound (getD ks 10 []) (rounds ks 9 (addRoundKey s (getD ks 0 [])))
+
+-- Figure 12, a round of the inverse cipher with the round key k.
+unfoldable pub invRound : State → State → State
+invRound k s = invMixColumns (addRoundKey (invSubBytes (invShiftRows s)) k)
+
+-- The rounds n down to 1.
+unfoldable pub invRounds : List State → ℕ → State → State
+invRounds ks zero s = s
+invRounds ks (suc n) s = invRounds ks n (invRound (getD ks (suc n) []) s)
+
+-- Its last round.
+unfoldable pub invLastRound : State → State → State
+invLastRound k s = addRoundKey (invSubBytes (invShiftRows s)) k
+
+-- Figure 12.
+unfoldable pub invCipher : List State → State → State
+invCipher ks s = invLastRound (getD ks 0 []) (invRounds ks 9 (addRoundKey s (getD ks 10 [])))

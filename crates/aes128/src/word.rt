@@ -1,0 +1,62 @@
+// A column of the state as one word of 32 bits, so that its four bytes are mixed at once.
+ghost use mathlib.Core.Path.{_≡_};
+ghost use Rattle.aes128.specs.State.{mixByte, invMixByte, eachRow, mixColumn};
+ghost use Rattle.aes128.specs.Words.{wordOf, columnOf, doubled, turned1, turned2};
+
+// The word of four bytes, the first the lowest.
+fn word(a: u8, b: u8, c: u8, d: u8) -> u32
+    ensures { λ r. ⌜ r ≡ wordOf a b c d ⌝ }
+{
+    (((d as u32) * 256 + (c as u32)) * 256 + (b as u32)) * 256 + (a as u32)
+}
+
+// The four bytes of a word.
+fn column(x: u32) -> [u8; 4]
+    ensures { λ r. ⌜ r ≡ columnOf x ⌝ }
+{
+    [
+        (x % 256) as u8,
+        (x / 256 % 256) as u8,
+        (x / 65536 % 256) as u8,
+        (x / 16777216) as u8,
+    ]
+}
+
+// Each byte of a word doubled in the field.
+fn double(x: u32) -> u32
+    ensures { λ r. ⌜ r ≡ doubled x ⌝ }
+{
+    ((x & 0x7f7f7f7f) * 2) ^ ((x / 128 & 0x01010101) * 27)
+}
+
+// The bytes of a word moved on by one place.
+fn turn1(x: u32) -> u32
+    ensures { λ r. ⌜ r ≡ turned1 x ⌝ }
+{
+    x / 256 + x % 256 * 16777216
+}
+
+// The bytes of a word moved on by two places.
+fn turn2(x: u32) -> u32
+    ensures { λ r. ⌜ r ≡ turned2 x ⌝ }
+{
+    x / 65536 + x % 65536 * 65536
+}
+
+// The mixed column of four bytes. Byte by byte it is {02}(a + b) + b + (c + d).
+pub fn mixed(a: u8, b: u8, c: u8, d: u8) -> [u8; 4]
+    ensures { λ r. ⌜ r ≡ eachRow mixByte a b c d ⌝ }
+{
+    let x = word(a, b, c, d);
+    let t = turn1(x);
+    let y = x ^ t;
+    column((double(y) ^ t) ^ turn2(y))
+}
+
+// The column whose mixing undoes the mixing of a, b, c, d: {04}(a + c) is added to a and c, {04}(b + d) to b and d.
+pub fn premixed(a: u8, b: u8, c: u8, d: u8) -> [u8; 4]
+    ensures { λ r. ⌜ mixColumn r ≡ eachRow invMixByte a b c d ⌝ }
+{
+    let x = word(a, b, c, d);
+    column(x ^ double(double(x ^ turn2(x))))
+}

@@ -1,0 +1,4 @@
+// The S-box of FIPS 197: the field of bytes and the rule of each table (specs/), the two tables, and the proof of every entry
+// (proofs/Tables.antt). The definitions and laws are the whole crate. The code that looks bytes up is in the crate aes128,
+// whose tables are these; they are proved here, so that the tests over whole tables are not computed again with every
+// change of the cipher.

@@ -1,0 +1,127 @@
+-- What is wrapped is unwrapped again, with the initial value; and bytes that unwrap with the initial value are what wrapping their key gives. Both hold under any
+-- KEK of bytes, for a key of any length: the passes run over its whole blocks of eight.
+-- Assumes nothing.
+use mathlib.Core.Path.{_≡_, refl, sym, ap, ap₂, _∙_}
+use mathlib.Core.List.{List, [], _∷_, _++_}
+use Prim.Native.Nat.{ℕ, _+_, _-_, _*_, _/_, _≤_, _<_}
+use native.Mathlib.Omega.{arith}
+use lib.ListN.{length, take, drop, length-append, length-drop, take-append-drop}
+use lib.Seq.{length-take-le, take-at, drop-at}
+use Rattle.aes128.specs.State.{State, Block, block, column}
+use Rattle.aes128.specs.Cipher.{cipher, invCipher}
+use Rattle.aes128.proofs.Rounds.{Keys, cipher-block, invCipher-block, uncipher, recipher, expandKey-keys}
+use Rattle.keywrap.specs.Calls.{Bytes, keyLength}
+use Rattle.keywrap.specs.Rfc3394.{initialValue, Registers, wrapPasses, unwrapPasses, keyState, roundKeys, wrapRegisters, wrapped, unwrapRegisters, unwrappedIv, unwrappedKey}
+use Rattle.keywrap.proofs.Bytes.{bytes-append, bytes-take, bytes-drop, half-of, half-bytes, half-length, initial-half}
+use Rattle.keywrap.proofs.Steps.{Ready, registers≡, passes-ready, unpasses-ready, unpasses-passes, passes-unpasses}
+
+module _ (kek : List ℕ) (k : Bytes kek) where
+  keys : Keys (roundKeys kek)
+  unfolding roundKeys
+  keys =
+      expandKey-keys (keyState kek)
+      (block (column (k 0) (k 1) (k 2) (k 3)) (column (k 4) (k 5) (k 6) (k 7)) (column (k 8) (k 9) (k 10) (k 11)) (column (k 12) (k 13) (k 14) (k 15)))
+
+  E : State → State
+  E = cipher (roundKeys kek)
+
+  D : State → State
+  D = invCipher (roundKeys kek)
+
+  keepsE : (s : State) → Block s → Block (E s)
+  unfolding E
+  keepsE s b = cipher-block (roundKeys kek) keys b
+
+  keepsD : (s : State) → Block s → Block (D s)
+  unfolding D
+  keepsD s b = invCipher-block (roundKeys kek) keys b
+
+  undone : (s : State) → Block s → D (E s) ≡ s
+  unfolding E D
+  undone s b = uncipher (roundKeys kek) keys b
+
+  redone : (s : State) → Block s → E (D s) ≡ s
+  unfolding E D
+  redone s b = recipher (roundKeys kek) keys b
+
+  -- ---- the registers
+
+  module _ (key : List ℕ) (b : Bytes key) where
+    whole-blocks : length key / 8 * 8 ≤ length key
+    whole-blocks = omega arith
+
+    before : Ready (length key) (initialValue, key)
+    before = record { first = initial-half; bytes = b; count = refl }
+
+    wrap-ready : Ready (length key) (wrapRegisters kek key)
+    unfolding wrapRegisters E
+    wrap-ready = passes-ready E D keepsE keepsD undone redone (length key) (length key / 8) whole-blocks 6 (initialValue, key) before
+
+    unwrap-wrap : unwrapPasses (invCipher (roundKeys kek)) (length key / 8) 6 (wrapRegisters kek key) ≡ (initialValue, key)
+    unfolding wrapRegisters E D
+    unwrap-wrap = unpasses-passes E D keepsE keepsD undone redone (length key) (length key / 8) whole-blocks 6 (initialValue, key) before
+
+    -- the wrapped key is 8 bytes longer than the key
+    pub length-wrapped : length (wrapped kek key) ≡ length key + 8
+    unfolding wrapped
+    length-wrapped = let f = half-length (wrap-ready .first) in let s = wrap-ready .count in simp length-append (omega arith)
+
+    pub bytes-wrapped : Bytes (wrapped kek key)
+    unfolding wrapped
+    bytes-wrapped = bytes-append (wrapRegisters kek key .0) (wrapRegisters kek key .1) (half-bytes (wrap-ready .first)) (wrap-ready .bytes)
+
+    -- unwrapping starts where wrapping ended
+    again : unwrapRegisters kek (wrapped kek key) ≡ (initialValue, key)
+    unfolding unwrapRegisters wrapped
+    again =
+        let a : List ℕ = wrapRegisters kek key .0 in
+        let r : List ℕ = wrapRegisters kek key .1 in
+        let f = half-length (wrap-ready .first) in
+        let s = wrap-ready .count in
+        let n : (length (a ++ r) - 8) / 8 ≡ length key / 8 = simp length-append (ap (λ (m : ℕ). m / 8) (omega arith)) in
+        ap₂ (λ (m : ℕ) (x : Registers). unwrapPasses (invCipher (roundKeys kek)) m 6 x) n (registers≡ (take-at a r 8 f) (drop-at a r 8 f))
+        ∙ unwrap-wrap
+
+    -- unwrapping a wrapped key yields the initial value and the key
+    pub unwrap-initial : unwrappedIv kek (wrapped kek key) ≡ initialValue
+    unfolding unwrappedIv
+    unwrap-initial = ap (λ (x : Registers). x .0) again
+
+    pub unwrap-key : unwrappedKey kek (wrapped kek key) ≡ key
+    unfolding unwrappedKey
+    unwrap-key = ap (λ (x : Registers). x .1) again
+
+  module _ (w : List ℕ) (b : Bytes w) (long : 8 ≤ length w) where
+    rest-blocks : (length w - 8) / 8 * 8 ≤ length w - 8
+    rest-blocks = omega arith
+
+    received : Ready (length w - 8) (take 8 w, drop 8 w)
+    received = record { first = half-of (take 8 w) (length-take-le 8 w long) (bytes-take 8 w b); bytes = bytes-drop 8 w b; count = length-drop 8 w }
+
+    unwrap-ready : Ready (length w - 8) (unwrapRegisters kek w)
+    unfolding unwrapRegisters D
+    unwrap-ready = unpasses-ready E D keepsE keepsD undone redone (length w - 8) ((length w - 8) / 8) rest-blocks 6 (take 8 w, drop 8 w) received
+
+    wrap-unwrap : wrapPasses (cipher (roundKeys kek)) ((length w - 8) / 8) 6 (unwrapRegisters kek w) ≡ (take 8 w, drop 8 w)
+    unfolding unwrapRegisters E D
+    wrap-unwrap = passes-unpasses E D keepsE keepsD undone redone (length w - 8) ((length w - 8) / 8) rest-blocks 6 (take 8 w, drop 8 w) received
+
+    pub length-unwrappedIv : length (unwrappedIv kek w) ≡ 8
+    unfolding unwrappedIv
+    length-unwrappedIv = half-length (unwrap-ready .first)
+
+    pub length-unwrappedKey : length (unwrappedKey kek w) ≡ keyLength w
+    unfolding unwrappedKey
+    length-unwrappedKey = unwrap-ready .count
+
+    pub bytes-unwrappedKey : Bytes (unwrappedKey kek w)
+    unfolding unwrappedKey
+    bytes-unwrappedKey = unwrap-ready .bytes
+
+    -- bytes that unwrap with the initial value are the wrapping of their key
+    pub wrap-again : unwrappedIv kek w ≡ initialValue → wrapped kek (unwrappedKey kek w) ≡ w
+    unfolding unwrappedIv unwrappedKey wrapped wrapRegisters
+    wrap-again e =
+        let q : wrapPasses (cipher (roundKeys kek)) (length (unwrapRegisters kek w .1) / 8) 6 (initialValue, unwrapRegisters kek w .1) ≡ (take 8 w, drop 8 w)
+        = ap₂ (λ (m : ℕ) (a : List ℕ). wrapPasses (cipher (roundKeys kek)) (m / 8) 6 (a, unwrapRegisters kek w .1)) (unwrap-ready .count) (sym e) ∙ wrap-unwrap in
+        ap (λ (x : Registers). x .0 ++ x .1) q ∙ take-append-drop 8 w

@@ -1,0 +1,4 @@
+pub mod Bytes
+pub mod Laws
+mod Parts
+mod Steps

@@ -1,0 +1,97 @@
+-- `keywrap::unwrap_pass` meets its contract.
+-- Assumes nothing.
+use borrow.Rule.Slice.PartMut.{same-len-mid}
+use Rattle.keywrap.specs.Rfc3394.{Registers, unwrapPass}
+use Rattle.aes128.specs.Cipher.{invCipher}
+use Rattle.keywrap.proofs.Parts.{unpass-less}
+use lib.ListN.{length}
+use denote.Ref.{now}
+use Prim.Native.Nat.{ℕ, _+_, _-_, _*_, _≤_, _<_}
+use mathlib.Core.Path.{_≡_, refl, sym, ap, ap₂, _∙_}
+use native.Mathlib.Omega.{arith}
+use borrow.Author.Needs.{needs}
+use Rattle.keywrap.proofs.unwrap_pass.Statement.{statement}
+use Rattle.keywrap.proofs.unwrap_pass.Tie as tie
+
+abbrev Inv-loop : tie.InvT-loop
+Inv-loop ks b₀ n c x₀ i₀ b x i = (i ≤ n) × (length b ≡ length b₀) × (unwrapPass (invCipher ks) c i (x, b) ≡ unwrapPass (invCipher ks) c n (x₀, b₀))
+
+abbrev μ-loop : tie.MeasureT-loop
+μ-loop ks b₀ n c x₀ i₀ b x i = i
+
+loop-holds : tie.Need-loop-holds Inv-loop μ-loop
+loop-holds c = (omega arith, refl, refl)
+
+cast-t : tie.Need-cast-t Inv-loop μ-loop
+cast-t c = omega arith
+
+add-t : tie.Need-add-t Inv-loop μ-loop
+add-t c = omega arith
+
+sub-i : tie.Need-sub-i Inv-loop μ-loop
+sub-i c = omega arith
+
+mul-at : tie.Need-mul-at Inv-loop μ-loop
+mul-at c = omega arith
+
+add-end : tie.Need-add-end Inv-loop μ-loop
+add-end c = omega arith
+
+sub-unwrap-step : tie.Need-sub-unwrap-step Inv-loop μ-loop
+sub-unwrap-step c = omega arith
+
+part-unwrap-step-start : tie.Need-part-unwrap-step-start Inv-loop μ-loop
+part-unwrap-step-start c = omega arith
+
+part-unwrap-step-end : tie.Need-part-unwrap-step-end Inv-loop μ-loop
+part-unwrap-step-end c = omega arith
+
+unwrap-step-requires : tie.Need-unwrap-step-requires Inv-loop μ-loop
+unwrap-step-requires c κs = search needs
+
+loop-less : tie.Need-loop-less Inv-loop μ-loop
+loop-less c = omega arith
+
+loop-again : tie.Need-loop-again Inv-loop μ-loop
+loop-again c =
+    let k = c .before .before in
+    let l = k .before .before .before .loop in
+    let s = k .before .before .before .before .before .args in (
+      omega arith,
+      same-len-mid {X = ℕ} ((l .i - 1) * 8) ((l .i - 1) * 8 + 8 - (l .i - 1) * 8) (l .b) (k .unwrap-step .last .1 .1 .0) (k .unwrap-step .kept .1 .1 .0) ∙ l .inv .1,
+      unpass-less (invCipher (now (s .ks))) (s .c) (l .i) ((l .i - 1) * 8) ((l .i - 1) * 8 + 8 - (l .i - 1) * 8) (l .x) (l .b) _ _ (omega arith) refl (omega arith) (k .unwrap-step .ensures .0) (k .unwrap-step .ensures .1) ∙ l .inv .2,
+    )
+
+same-length : tie.Need-same-length Inv-loop μ-loop
+same-length c = search needs
+
+returns : tie.Need-returns Inv-loop μ-loop
+unfolding unwrapPass
+returns c =
+    let l = c .before .loop in
+    let s = c .before .before .before .args in
+    let e : l .i ≡ 0 = omega arith in
+    let q : _≡_ {A = Registers} (l .x, l .b) (unwrapPass (invCipher (now (s .ks))) (s .c) (s .n) (_, now (s .b))) =
+    ap (λ (m : ℕ). unwrapPass (invCipher (now (s .ks))) (s .c) m (l .x, l .b)) (sym e) ∙ l .inv .2 in
+    (ap (λ (w : Registers). w .0) q, ap (λ (w : Registers). w .1) q)
+
+pub unwrap-pass-spec : {M : Type 1} → statement M
+unwrap-pass-spec =
+    tie.close
+    (tie.spec
+    Inv-loop
+    μ-loop
+    loop-holds
+    cast-t
+    add-t
+    sub-i
+    mul-at
+    add-end
+    sub-unwrap-step
+    part-unwrap-step-start
+    part-unwrap-step-end
+    unwrap-step-requires
+    loop-less
+    loop-again
+    same-length
+    returns)

@@ -1,0 +1,91 @@
+-- `keywrap::unwrap_passes` meets its contract.
+-- Assumes nothing.
+use Rattle.keywrap.specs.Rfc3394.{Registers, unwrapPasses}
+use Rattle.aes128.specs.Cipher.{invCipher}
+use Rattle.keywrap.proofs.Parts.{unpasses-less, count-less}
+use mathlib.Core.List.{List}
+use lib.ListN.{length}
+use denote.Ref.{now}
+use Prim.Native.Nat.{ℕ, _+_, _-_, _*_, _≤_, _<_}
+use mathlib.Core.Path.{_≡_, refl, sym, ap, ap₂, _∙_}
+use native.Mathlib.Omega.{arith}
+use borrow.Author.Needs.{needs}
+use Rattle.keywrap.proofs.unwrap_passes.Statement.{statement}
+use Rattle.keywrap.proofs.unwrap_passes.Tie as tie
+
+abbrev Inv-loop : tie.InvT-loop
+Inv-loop ks b₀ n x₀ c₀ j₀ b x c j = (j ≤ 6) × (c ≤ 144) × (c ≡ n * j) × (length b ≡ length b₀) × (unwrapPasses (invCipher ks) n j (x, b) ≡ unwrapPasses (invCipher ks) n 6 (x₀, b₀))
+
+abbrev μ-loop : tie.MeasureT-loop
+μ-loop ks b₀ n x₀ c₀ j₀ b x c j = j
+
+cast-c : tie.Need-cast-c Inv-loop μ-loop
+cast-c c = search needs
+
+mul-c : tie.Need-mul-c Inv-loop μ-loop
+mul-c c = search needs
+
+loop-holds : tie.Need-loop-holds Inv-loop μ-loop
+loop-holds c = (omega arith, omega arith, omega arith, refl, refl)
+
+cast-c-2 : tie.Need-cast-c-2 Inv-loop μ-loop
+cast-c-2 c = search needs
+
+sub-c : tie.Need-sub-c Inv-loop μ-loop
+sub-c c =
+    let l = c .before .loop in
+    let h = count-less (c .before .before .before .args .n) (l .j) (l .c) (omega arith) (l .inv .2) in
+    omega (arith, h .0)
+
+sub-j : tie.Need-sub-j Inv-loop μ-loop
+sub-j c = search needs
+
+unwrap-pass-requires : tie.Need-unwrap-pass-requires Inv-loop μ-loop
+unwrap-pass-requires c κs = search needs
+
+loop-less : tie.Need-loop-less Inv-loop μ-loop
+loop-less c = search needs
+
+loop-again : tie.Need-loop-again Inv-loop μ-loop
+loop-again c =
+    let k = c .before .before in
+    let l = k .before .before .before .loop in
+    let s = k .before .before .before .before .before .args in
+    let h = count-less (s .n) (l .j) (l .c) (omega arith) (l .inv .2) in (
+      omega arith,
+      omega arith,
+      h .1,
+      k .unwrap-pass .kept .1 .1 .0 ∙ l .inv .3,
+      unpasses-less (invCipher (now (s .ks))) (s .n) (l .j) _ (l .x) (l .b) _ _ (omega arith) (h .1) (k .unwrap-pass .ensures .0) (k .unwrap-pass .ensures .1) ∙ l .inv .4,
+    )
+
+same-length : tie.Need-same-length Inv-loop μ-loop
+same-length c = search needs
+
+returns : tie.Need-returns Inv-loop μ-loop
+unfolding unwrapPasses
+returns c =
+    let l = c .before .loop in
+    let s = c .before .before .before .args in
+    let e : l .j ≡ 0 = omega arith in
+    let q : _≡_ {A = Registers} (l .x, l .b) (unwrapPasses (invCipher (now (s .ks))) (s .n) 6 (_, now (s .b))) =
+    ap (λ (m : ℕ). unwrapPasses (invCipher (now (s .ks))) (s .n) m (l .x, l .b)) (sym e) ∙ l .inv .4 in
+    (ap (λ (w : Registers). w .0) q, ap (λ (w : Registers). w .1) q)
+
+pub unwrap-passes-spec : {M : Type 1} → statement M
+unwrap-passes-spec =
+    tie.close
+    (tie.spec
+    Inv-loop
+    μ-loop
+    cast-c
+    mul-c
+    loop-holds
+    cast-c-2
+    sub-c
+    sub-j
+    unwrap-pass-requires
+    loop-less
+    loop-again
+    same-length
+    returns)

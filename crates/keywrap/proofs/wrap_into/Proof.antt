@@ -1,0 +1,75 @@
+-- `keywrap::wrap_into` meets its contract.
+-- Assumes nothing.
+use Rattle.keywrap.proofs.Parts.{wrapped-in-place}
+use lib.ListN.{length}
+use denote.Ref.{now}
+use Prim.Native.Nat.{_+_, _-_}
+use native.Mathlib.Omega.{arith}
+use borrow.Author.Needs.{needs}
+use Rattle.keywrap.proofs.wrap_into.Statement.{statement}
+use Rattle.keywrap.proofs.wrap_into.Tie as tie
+
+add-end : tie.Need-add-end
+add-end c = search needs
+
+sub-copy : tie.Need-sub-copy
+sub-copy c = search needs
+
+part-copy-start : tie.Need-part-copy-start
+part-copy-start c = search needs
+
+part-copy-end : tie.Need-part-copy-end
+part-copy-end c = search needs
+
+copy-requires : tie.Need-copy-requires
+copy-requires c κs = search needs
+
+key-state-requires : tie.Need-key-state-requires
+key-state-requires c κs = search needs
+
+expand-key-requires : tie.Need-expand-key-requires
+expand-key-requires c κs = search needs
+
+sub-wrap-passes : tie.Need-sub-wrap-passes
+sub-wrap-passes c = search needs
+
+part-wrap-passes-start : tie.Need-part-wrap-passes-start
+part-wrap-passes-start c = search needs
+
+part-wrap-passes-end : tie.Need-part-wrap-passes-end
+part-wrap-passes-end c = search needs
+
+wrap-passes-requires : tie.Need-wrap-passes-requires
+wrap-passes-requires c κs = search needs
+
+put-front-requires : tie.Need-put-front-requires
+put-front-requires c κs = search needs
+
+same-length : tie.Need-same-length
+same-length c = search needs
+
+returns : tie.Need-returns
+returns c =
+    let s = c .before .before .before .before .before .before .before .before .before .before .before .before .before .before .before .before .before .args in
+    wrapped-in-place _ (now (s .key)) (now (s .out)) _ _ (length (now (s .key)) + 8 - 8) _ (search needs) (omega arith)
+    (c .before .before .before .before .before .before .before .before .before .before .before .before .before .copy .ensures) (c .before .before .before .before .before .before .before .before .before .before .key-state .ensures) (c .before .before .before .before .before .before .before .before .before .expand-key .ensures) _ _ _
+    (c .before .before .before .before .before .before .wrap-passes .ensures .0) (c .before .before .before .before .before .before .wrap-passes .ensures .1) (c .before .before .put-front .ensures)
+
+pub wrap-into-spec : {M : Type 1} → statement M
+wrap-into-spec =
+    tie.close
+    (tie.spec
+    add-end
+    sub-copy
+    part-copy-start
+    part-copy-end
+    copy-requires
+    key-state-requires
+    expand-key-requires
+    sub-wrap-passes
+    part-wrap-passes-start
+    part-wrap-passes-end
+    wrap-passes-requires
+    put-front-requires
+    same-length
+    returns)

@@ -1,0 +1,79 @@
+-- `keywrap::wrap_passes` meets its contract.
+-- Assumes nothing.
+use Rattle.keywrap.specs.Rfc3394.{Registers, wrapPasses}
+use Rattle.aes128.specs.Cipher.{cipher}
+use Rattle.keywrap.proofs.Parts.{passes-more, count-more}
+use mathlib.Core.List.{List}
+use lib.ListN.{length}
+use denote.Ref.{now}
+use Prim.Native.Nat.{ℕ, _+_, _-_, _*_, _≤_, _<_}
+use mathlib.Core.Path.{_≡_, refl, sym, ap, ap₂, _∙_}
+use native.Mathlib.Omega.{arith}
+use borrow.Author.Needs.{needs}
+use Rattle.keywrap.proofs.wrap_passes.Statement.{statement}
+use Rattle.keywrap.proofs.wrap_passes.Tie as tie
+
+abbrev Inv-loop : tie.InvT-loop
+Inv-loop ks b₀ n x₀ c₀ j₀ b x c j = (j ≤ 6) × (c ≤ 24 * j) × (c ≡ n * j) × (length b ≡ length b₀) × _≡_ {A = Registers} (x, b) (wrapPasses (cipher ks) n j (x₀, b₀))
+
+abbrev μ-loop : tie.MeasureT-loop
+μ-loop ks b₀ n x₀ c₀ j₀ b x c j = 6 - j
+
+loop-holds : tie.Need-loop-holds Inv-loop μ-loop
+unfolding wrapPasses
+loop-holds c = (omega arith, omega arith, omega arith, refl, refl)
+
+wrap-pass-requires : tie.Need-wrap-pass-requires Inv-loop μ-loop
+wrap-pass-requires c κs = search needs
+
+cast-c : tie.Need-cast-c Inv-loop μ-loop
+cast-c c = search needs
+
+add-c : tie.Need-add-c Inv-loop μ-loop
+add-c c = search needs
+
+add-j : tie.Need-add-j Inv-loop μ-loop
+add-j c = search needs
+
+loop-less : tie.Need-loop-less Inv-loop μ-loop
+loop-less c = search needs
+
+loop-again : tie.Need-loop-again Inv-loop μ-loop
+loop-again c =
+    let k = c .before .before in
+    let l = k .before .before .before .loop in
+    let s = k .before .before .before .before .before .args in (
+      omega arith,
+      omega arith,
+      ap (λ (m : ℕ). m + s .n) (l .inv .2) ∙ sym (count-more (s .n) (l .j)),
+      k .wrap-pass .kept .1 .1 .0 ∙ l .inv .3,
+      passes-more (cipher (now (s .ks))) _ (s .n) (l .j) (l .c) _ _ _ _ (l .inv .2) (l .inv .4) (k .wrap-pass .ensures .0) (k .wrap-pass .ensures .1),
+    )
+
+same-length : tie.Need-same-length Inv-loop μ-loop
+same-length c = search needs
+
+returns : tie.Need-returns Inv-loop μ-loop
+returns c =
+    let l = c .before .loop in
+    let s = c .before .before .before .args in
+    let e : l .j ≡ 6 = omega arith in (
+      ap (λ (w : Registers). w .0) (l .inv .4) ∙ ap (λ (m : ℕ). wrapPasses (cipher (now (s .ks))) (s .n) m (_, now (s .b)) .0) e,
+      ap (λ (w : Registers). w .1) (l .inv .4) ∙ ap (λ (m : ℕ). wrapPasses (cipher (now (s .ks))) (s .n) m (_, now (s .b)) .1) e,
+    )
+
+pub wrap-passes-spec : {M : Type 1} → statement M
+wrap-passes-spec =
+    tie.close
+    (tie.spec
+    Inv-loop
+    μ-loop
+    loop-holds
+    wrap-pass-requires
+    cast-c
+    add-c
+    add-j
+    loop-less
+    loop-again
+    same-length
+    returns)
