@@ -1,5 +1,5 @@
-// SHA-256 of a message (FIPS 180-4): a hash in progress, passed by value, that absorbs a message piece by piece, and the hash of a
-// message at once. Secrets take no branch and no index here: both go by lengths alone.
+// SHA-256 of a message (FIPS 180-4): a hash in progress, passed by value, that absorbs the message piece by piece, and the hash of a
+// message at once. No branch and no index goes by the bytes absorbed, only by their count.
 ghost use mathlib.Core.Path.{_≡_};
 ghost use mathlib.Core.List.{_∷_, _++_};
 ghost use Prim.Native.Nat.{_+_, _-_, _*_, _/_, _<_, _≤_, _%_, _^_};
@@ -41,7 +41,7 @@ fn bytes(x: u32) -> [u8; 4]
     ]
 }
 
-// Writes a word to the digest from index `at` on. (By a copy of four bytes, which is compiled to one store.)
+// Writes a word to the digest from index `at` on: by a copy of four bytes, which is compiled to one store.
 fn put_word(out: &mut [u8; 32], at: usize, x: u32)
     requires { ⌜ (at + 4 ≤ 32) × (length (now out) ≡ 32) ⌝ }
     ensures { λ _. ⌜ now (out .exit) ≡ paste (now (out .entry)) at (Fips180.be32 x) 4 ⌝ }
@@ -68,7 +68,7 @@ fn to_bytes(h: [u32; 8]) -> [u8; 32]
     r
 }
 
-// Writes `part` into the block from index `at` on.
+// Writes `part` into the block from index `at` on: by a loop, which is compiled to a copy.
 fn fill(block: &mut [u8; 64], at: usize, part: &[u8])
     requires { ⌜ (at + length (now part) ≤ 64) × (length (now block) ≡ 64) ⌝ }
     ensures { λ _. ⌜ now (block .exit) ≡ paste (now (block .entry)) at (now (part .entry)) (length (now (part .entry))) ⌝ }
@@ -105,7 +105,7 @@ fn put_length(block: &mut [u8; 64], count: u64)
     block[63] = (bits % 256) as u8;
 }
 
-// The last hash value, from the last block but for its length.
+// The last hash value, from a last block that lacks only the length.
 fn last(h: [u32; 8], block: &mut [u8; 64], count: u64) -> [u32; 8]
     requires { ⌜ length (now block) ≡ 64 ⌝ }
     ensures { λ r. ⌜ r ≡ Fips180.compress h (take 56 (now (block .entry)) ++ Fips180.be64 (8 * count % 2 ^ 64)) ⌝ }
