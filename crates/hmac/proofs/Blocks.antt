@@ -6,12 +6,15 @@ use mathlib.Core.Bool.{Bool, cond}
 use mathlib.Core.List.{List, _++_, map, append-nil}
 use native.Mathlib.Nat.{zero-add}
 use native.Mathlib.Numerals.{add-one}
+use native.Mathlib.Decide.{decLt}
 use native.Mathlib.Omega.{arith}
 use borrow.Author.Tests.{le-leb, lt-leb}
 use lib.Bits.{bitXor}
 use lib.Dec.{leb}
-use lib.ListN.{length, getD, set, take, drop, replicate, length-map, List·getD-map, drop-of-length-le}
+use lib.ListN.{length, getD, set, take, drop, replicate, length-map, List·getD-map, length-append, length-replicate, drop-of-length-le}
 use lib.Seq.{paste, paste-suc, take-all, take-length}
+use Rattle.sha256_block.specs.Fips180.{sha256}
+use Rattle.sha256.proofs.Stream.{sha256-length}
 use Rattle.hmac.specs.Rfc2104.{masked, shortKey, keyBlock}
 
 -- a turn of a copy from the front
@@ -45,6 +48,10 @@ masked-all b c e =
     let l : length (map f b) ≤ 64 = omega (arith, length-map b f) in
     (λ i. take-all 64 (map f b) l i ++ drop-of-length-le b {i = 64} (omega arith) i) ∙ append-nil (map f b)
 
+pub masked-length : (b : List ℕ) (c : ℕ) → length (masked b c) ≡ length b
+unfolding masked
+masked-length b c = length-map b (λ x. bitXor x c)
+
 -- the key's block, by the key's length, under any hash
 module _ (hash : List ℕ → List ℕ) where
   pub key-short : (k : List ℕ) {r : List ℕ} → length k ≤ 64 → r ≡ k ++ replicate (64 - length k) 0 → r ≡ keyBlock hash k
@@ -58,3 +65,18 @@ module _ (hash : List ℕ → List ℕ) where
   key-long k h f e =
       let s : cond (leb (length k) 64) k (hash k) ≡ hash k = ap (λ (t : Bool). cond t k (hash k)) (lt-leb (length k) 64 h) in
       e ∙ ap (λ (l : List ℕ). l ++ replicate (64 - length l) 0) (f ∙ sym s)
+
+-- the key's block has 64 bytes: a key over 64 bytes becomes one of 32
+pub keyBlock-length : (k : List ℕ) → length (keyBlock sha256 k) ≡ 64
+unfolding keyBlock shortKey
+keyBlock-length k =
+    length-append (shortKey sha256 k) (replicate (64 - length (shortKey sha256 k)) 0)
+    ∙ ap (λ (n : ℕ). length (shortKey sha256 k) + n) (length-replicate (64 - length (shortKey sha256 k)) 0)
+    ∙ filled (length (shortKey sha256 k)) (short (decLt 64 (length k)))
+  where
+    filled : (n : ℕ) → n ≤ 64 → n + (64 - n) ≡ 64
+    filled n h = omega arith
+
+    short : Dec (64 < length k) → length (cond (leb (length k) 64) k (sha256 k)) ≤ 64
+    short (yes h) = rw (lt-leb (length k) 64 h) (omega (arith, sha256-length k))
+    short (no h) = let l : length k ≤ 64 = omega arith in rw (le-leb (length k) 64 l) l

@@ -1,25 +1,22 @@
--- HMAC-SHA-256 by a key's two hash states is RFC 2104's HMAC, since a hash absorbs a joined list part by part; and a MAC has 32 bytes.
+-- HMAC-SHA-256 by the hash values after a key's two blocks is RFC 2104's HMAC, since both are blocks of 64 bytes; and a MAC has 32 bytes.
 -- Assumes nothing.
 use Prim.Native.Nat.{ℕ}
-use mathlib.Core.Path.{_≡_, sym, ap, _∙_}
+use mathlib.Core.Path.{_≡_, ap, _∙_}
 use mathlib.Core.List.{List, _++_}
 use lib.ListN.{length}
 use Rattle.sha256_block.specs.Fips180.{sha256}
-use Rattle.sha256.specs.Stream.{absorbed, finished, started}
-use Rattle.sha256.proofs.Stream.{absorbed-append, digest-law, sha256-length}
+use Rattle.sha256.proofs.Stream.{sha256-length}
+use Rattle.sha256.proofs.Resumed.{after-block-law}
 use Rattle.hmac.specs.Rfc2104.{masked, keyBlock, ipad, opad, hmac, hmacSha256}
-use Rattle.hmac.specs.Keyed.{innerState, outerState, sealed}
+use Rattle.hmac.specs.Keyed.{innerValue, outerValue, hashAfter, sealed}
+use Rattle.hmac.proofs.Blocks.{masked-length, keyBlock-length}
 
--- the hash of a block and what comes after it
-after-block : (b m : List ℕ) → finished (absorbed (absorbed started b) m) ≡ sha256 (b ++ m)
-after-block b m = ap finished (sym (absorbed-append started b m)) ∙ digest-law (b ++ m)
-
-pub sealed-law : (k m : List ℕ) → sealed (outerState (keyBlock sha256 k)) (absorbed (innerState (keyBlock sha256 k)) m) ≡ hmacSha256 k m
-unfolding sealed innerState outerState hmacSha256 hmac
+pub sealed-law : (k m : List ℕ) → sealed (innerValue (keyBlock sha256 k)) (outerValue (keyBlock sha256 k)) m ≡ hmacSha256 k m
+unfolding sealed hashAfter innerValue outerValue hmacSha256 hmac
 sealed-law k m =
-    let i : List ℕ = masked (keyBlock sha256 k) ipad in
-    let o : List ℕ = masked (keyBlock sha256 k) opad in
-    after-block o (finished (absorbed (absorbed started i) m)) ∙ ap (λ (d : List ℕ). sha256 (o ++ d)) (after-block i m)
+    let b : List ℕ = keyBlock sha256 k in
+    let l : (pad : ℕ) → length (masked b pad) ≡ 64 = λ pad. masked-length b pad ∙ keyBlock-length k in
+    after-block-law (masked b opad) _ (l opad) ∙ ap (λ (d : List ℕ). sha256 (masked b opad ++ d)) (after-block-law (masked b ipad) m (l ipad))
 
 pub hmacSha256-length : (k m : List ℕ) → length (hmacSha256 k m) ≡ 32
 unfolding hmacSha256 hmac

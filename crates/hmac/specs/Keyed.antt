@@ -1,20 +1,24 @@
--- HMAC-SHA-256 by states of the hash: the two states that a key's block gives, and the MAC that they give for a message.
--- `sealed-law` of proofs/Laws.antt shows that it is RFC 2104's `hmacSha256`.
+-- HMAC-SHA-256 by the hash values after a key's two blocks (RFC 2104, section 4: these are kept, and each message begins with them).
+-- `sealed-law` of proofs/Laws.antt shows that it is section 2's `hmacSha256`.
 -- Assumes nothing.
 use Prim.Native.Nat.{ℕ}
 use mathlib.Core.List.{List}
-use Rattle.sha256.specs.declared.Sha256.{Sha256}
-use Rattle.sha256.specs.Stream.{absorbed, finished, started}
+use Rattle.sha256_block.specs.Fips180.{compress, H0}
+use Rattle.sha256.specs.Stream.{absorbed, finished, afterBlock}
 use Rattle.hmac.specs.Rfc2104.{masked, ipad, opad}
 
--- the inner hash after the key's block masked with ipad: a message is absorbed into it
-unfoldable pub innerState : List ℕ → Sha256
-innerState block = absorbed started (masked block ipad)
+-- the hash value after K XOR ipad, from the key's block K
+unfoldable pub innerValue : List ℕ → List ℕ
+innerValue block = compress H0 (masked block ipad)
 
--- the outer hash after the key's block masked with opad
-unfoldable pub outerState : List ℕ → Sha256
-outerState block = absorbed started (masked block opad)
+-- the hash value after K XOR opad
+unfoldable pub outerValue : List ℕ → List ℕ
+outerValue block = compress H0 (masked block opad)
 
--- the outer hash of what the inner hash, after the whole message, comes to
-unfoldable pub sealed : Sha256 → Sha256 → List ℕ
-sealed outer inner = finished (absorbed outer (finished inner))
+-- the hash of a block, of which only the hash value is known, and what comes after it
+unfoldable pub hashAfter : List ℕ → List ℕ → List ℕ
+hashAfter value rest = finished (absorbed (afterBlock value) rest)
+
+-- the MAC: the outer hash of what the inner hash comes to
+unfoldable pub sealed : List ℕ → List ℕ → List ℕ → List ℕ
+sealed inner outer message = hashAfter outer (hashAfter inner message)

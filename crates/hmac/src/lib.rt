@@ -1,14 +1,13 @@
-// HMAC-SHA-256 (RFC 2104). `mac` is the MAC of one message. A caller that has a message in parts, or many under one key, makes the
-// key's two states once, absorbs each message into a copy of the inner one, and the digest of that into a copy of the outer one.
+// HMAC-SHA-256 (RFC 2104). `mac` is the MAC of one message. A caller that has a message in parts, or many under one key, keeps the hash
+// values after the key's two blocks (section 4), and starts the inner and the outer hash of each message with them.
 ghost use mathlib.Core.Path.{_≡_};
 ghost use mathlib.Core.List.{_++_};
 ghost use Prim.Native.Nat.{_-_, _≤_};
 ghost use lib.ListN.{length, replicate};
-ghost use Rattle.sha256_block.specs.Fips180.{sha256};
-ghost use Rattle.sha256.specs.Stream.{started, absorbed};
+ghost use Rattle.sha256_block.specs.Fips180.{sha256, compress, H0};
 ghost use Rattle.hmac.specs.Rfc2104 as Rfc2104;
 ghost use Rattle.hmac.specs.Rfc2104.{keyBlock, hmacSha256};
-ghost use Rattle.hmac.specs.Keyed.{innerState, outerState};
+ghost use Rattle.hmac.specs.Keyed.{innerValue, outerValue};
 use sha256::Sha256;
 
 // The bytes that the key's block is masked with, for the inner hash and for the outer one.
@@ -39,13 +38,13 @@ fn masked(block: [u8; Sha256::BLOCK], pad: u8) -> [u8; Sha256::BLOCK]
     r
 }
 
-// The hash after one block.
-fn after(block: [u8; Sha256::BLOCK]) -> Sha256
-    ensures { λ r. ⌜ r ≡ absorbed started block ⌝ }
+// The hash value after one block.
+fn value_after(block: [u8; Sha256::BLOCK]) -> [u32; 8]
+    ensures { λ r. ⌜ r ≡ compress H0 block ⌝ }
 {
     let mut s = Sha256::new();
     s = s.absorb(&block);
-    s
+    s.value()
 }
 
 // A key as a block: one over a block is hashed first.
@@ -59,29 +58,29 @@ pub fn key_block(key: &[u8]) -> [u8; Sha256::BLOCK]
     filled(&short)
 }
 
-// The state that a message is absorbed into, from the key's block.
-pub fn inner_state(block: [u8; Sha256::BLOCK]) -> Sha256
-    ensures { λ r. ⌜ r ≡ innerState block ⌝ }
+// The hash value that the inner hash of a message starts with, from the key's block.
+pub fn inner_value(block: [u8; Sha256::BLOCK]) -> [u32; 8]
+    ensures { λ r. ⌜ r ≡ innerValue block ⌝ }
 {
-    after(masked(block, IPAD))
+    value_after(masked(block, IPAD))
 }
 
-// The state that the inner hash's digest is absorbed into, from the key's block.
-pub fn outer_state(block: [u8; Sha256::BLOCK]) -> Sha256
-    ensures { λ r. ⌜ r ≡ outerState block ⌝ }
+// The hash value that the outer hash starts with, from the key's block.
+pub fn outer_value(block: [u8; Sha256::BLOCK]) -> [u32; 8]
+    ensures { λ r. ⌜ r ≡ outerValue block ⌝ }
 {
-    after(masked(block, OPAD))
+    value_after(masked(block, OPAD))
 }
 
-// The MAC of a message. One state serves for both hashes: the outer one begins when the inner one is done.
+// The MAC of a message. One hash in progress serves for both: the outer one begins when the inner one is done.
 pub fn mac(key: &[u8], message: &[u8]) -> [u8; Sha256::DIGEST]
     ensures { λ r. ⌜ r ≡ hmacSha256 (now (key .entry)) (now (message .entry)) ⌝ }
 {
     let block = key_block(key);
-    let mut s = inner_state(block);
+    let mut s = Sha256::after_block(inner_value(block));
     s = s.absorb(message);
     let digest = s.finish();
-    s = outer_state(block);
+    s = Sha256::after_block(outer_value(block));
     s = s.absorb(&digest);
     s.finish()
 }

@@ -9,7 +9,7 @@ ghost use Rattle.refusal.specs.Checks.{_andThen_};
 ghost use Rattle.refusal.specs.Answers.{checkedAs, answerOf, answerTo, bufferAfter};
 ghost use Rattle.sha256.specs.Stream.{absorbed};
 ghost use Rattle.hmac.specs.Rfc2104.{hmacSha256};
-ghost use Rattle.hmac.specs.Keyed.{sealed};
+ghost use Rattle.hmac.specs.Keyed.{hashAfter};
 ghost use Rattle.prf.specs.PrfPlus.{inputAfter, prfPlus, expandCheck};
 use refusal::Checked;
 use refusal::Refusal;
@@ -37,11 +37,9 @@ fn absorb_part(s: Sha256, part: &[u8]) -> Sha256
     s.absorb(part)
 }
 
-// The MAC of a block's input, from a key's two states: the block before it, the text and the block's number. One state serves for both
-// hashes.
-fn block(
-    inner: Sha256,
-    outer: Sha256,
+// The inner hash of a block's input: the block before it, the text and the block's number. `inner` is the hash value that the key gives it.
+fn inner_digest(
+    inner: [u32; 8],
     previous: &[u8],
     a: &[u8],
     b: &[u8],
@@ -49,17 +47,23 @@ fn block(
     d: &[u8],
     number: u8,
 ) -> [u8; Sha256::DIGEST]
-    ensures { λ r. ⌜ r ≡ sealed outer (absorbed inner (inputAfter (now (previous .entry)) (now (a .entry) ++ (now (b .entry) ++ (now (c .entry) ++ now (d .entry)))) number)) ⌝ }
+    ensures { λ r. ⌜ r ≡ hashAfter inner (inputAfter (now (previous .entry)) (now (a .entry) ++ (now (b .entry) ++ (now (c .entry) ++ now (d .entry)))) number) ⌝ }
 {
-    let mut s = inner;
+    let mut s = Sha256::after_block(inner);
     s = absorb_part(s, previous);
     s = absorb_part(s, a);
     s = absorb_part(s, b);
     s = absorb_part(s, c);
     s = absorb_part(s, d);
     s = s.absorb(&[number]);
-    let digest = s.finish();
-    s = outer;
+    s.finish()
+}
+
+// The outer hash of the inner one's digest. `outer` is the hash value that the key gives it.
+fn outer_digest(outer: [u32; 8], digest: [u8; Sha256::DIGEST]) -> [u8; Sha256::DIGEST]
+    ensures { λ r. ⌜ r ≡ hashAfter outer digest ⌝ }
+{
+    let mut s = Sha256::after_block(outer);
     s = s.absorb(&digest);
     s.finish()
 }
@@ -89,14 +93,15 @@ fn fill(key: &[u8], a: &[u8], b: &[u8], c: &[u8], d: &[u8], n: usize, out: &mut 
     ensures { λ _. ⌜ now (out .exit) ≡ prfPlus hmacSha256 (now (key .entry)) (now (a .entry) ++ (now (b .entry) ++ (now (c .entry) ++ now (d .entry)))) n ++ drop n (now (out .entry)) ⌝ }
 {
     let key_block = hmac::key_block(key);
-    let inner = hmac::inner_state(key_block);
-    let outer = hmac::outer_state(key_block);
+    let inner = hmac::inner_value(key_block);
+    let outer = hmac::outer_value(key_block);
     let mut i: usize = 0;
     let mut from = 0;
     let mut at = 0;
     while at < n {
         i += 1;
-        let t = block(inner, outer, &out[from..at], a, b, c, d, i as u8);
+        let digest = inner_digest(inner, &out[from..at], a, b, c, d, i as u8);
+        let t = outer_digest(outer, digest);
         let m = least(Sha256::DIGEST, n - at);
         copy_at(&t, m, out, at);
         from = at;

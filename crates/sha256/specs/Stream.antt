@@ -34,3 +34,7 @@ absorbed s (x ∷ xs) = absorbed (absorb1 s x) xs
 -- the digest of all that was absorbed: the padding is absorbed after it
 unfoldable pub finished : Sha256 → List ℕ
 finished s = digest (absorbed s (padding (s .count)) .h)
+
+-- one block absorbed, of which only the hash value is known
+abbrev pub afterBlock : List ℕ → Sha256
+afterBlock value = record { h = value; block = replicate 64 0; count = 64 }

@@ -207,6 +207,24 @@ impl Sha256 {
         let count = self.count;
         sealed(h, &mut block, count)
     }
+
+    // The hash value of the whole blocks absorbed.
+    pub fn value(self) -> [u32; 8]
+        ensures { λ r. ⌜ r ≡ self .h ⌝ }
+    {
+        self.h
+    }
+
+    // The hash after one block, from its hash value: what HMAC keeps of a key and starts each message with.
+    pub fn after_block(value: [u32; 8]) -> Self
+        ensures { λ r. ⌜ r ≡ Stream.afterBlock value ⌝ }
+    {
+        Sha256 {
+            h: value,
+            block: [0; 64],
+            count: 64,
+        }
+    }
 }
 
 // The hash value after the message's whole blocks.

@@ -1,7 +1,7 @@
 -- `hmac::mac` meets its contract.
 -- Assumes nothing.
 use denote.Ref.{now}
-use Rattle.hmac.specs.Keyed.{sealed}
+use Rattle.hmac.specs.Keyed.{hashAfter, sealed}
 use Rattle.hmac.proofs.Laws.{sealed-law}
 use borrow.Author.Needs.{needs}
 use Rattle.hmac.proofs.mac.Statement.{statement}
@@ -10,8 +10,11 @@ use Rattle.hmac.proofs.mac.Tie as tie
 key-block-requires : tie.Need-key-block-requires
 key-block-requires c κs = search needs
 
-inner-state-requires : tie.Need-inner-state-requires
-inner-state-requires c κs = search needs
+inner-value-requires : tie.Need-inner-value-requires
+inner-value-requires c κs = search needs
+
+after-block-requires : tie.Need-after-block-requires
+after-block-requires c κs = search needs
 
 absorb-requires : tie.Need-absorb-requires
 absorb-requires c κs = search needs
@@ -19,8 +22,11 @@ absorb-requires c κs = search needs
 finish-requires : tie.Need-finish-requires
 finish-requires c κs = search needs
 
-outer-state-requires : tie.Need-outer-state-requires
-outer-state-requires c κs = search needs
+outer-value-requires : tie.Need-outer-value-requires
+outer-value-requires c κs = search needs
+
+after-block-requires-2 : tie.Need-after-block-requires-2
+after-block-requires-2 c κs = search needs
 
 slice-aggregate-absorb : tie.Need-slice-aggregate-absorb
 slice-aggregate-absorb c = search needs
@@ -32,9 +38,9 @@ finish-requires-2 : tie.Need-finish-requires-2
 finish-requires-2 c κs = search needs
 
 returns : tie.Need-returns
-unfolding sealed
+unfolding sealed hashAfter
 returns c =
-    let a = c .before .before .before .before .before .before .before .before .before .before .args in
+    let a = c .before .before .before .before .before .before .before .before .before .before .before .before .args in
     let law = sealed-law (now (a .key)) (now (a .message)) in
     cc
 
@@ -43,10 +49,12 @@ mac-spec =
     tie.close
     (tie.spec
     key-block-requires
-    inner-state-requires
+    inner-value-requires
+    after-block-requires
     absorb-requires
     finish-requires
-    outer-state-requires
+    outer-value-requires
+    after-block-requires-2
     slice-aggregate-absorb
     absorb-requires-2
     finish-requires-2

@@ -27,11 +27,11 @@ abbrev μ-loop : tie.MeasureT-loop
 key-block-requires : tie.Need-key-block-requires Inv-loop μ-loop
 key-block-requires c κs = search needs
 
-inner-state-requires : tie.Need-inner-state-requires Inv-loop μ-loop
-inner-state-requires c κs = search needs
+inner-value-requires : tie.Need-inner-value-requires Inv-loop μ-loop
+inner-value-requires c κs = search needs
 
-outer-state-requires : tie.Need-outer-state-requires Inv-loop μ-loop
-outer-state-requires c κs = search needs
+outer-value-requires : tie.Need-outer-value-requires Inv-loop μ-loop
+outer-value-requires c κs = search needs
 
 loop-holds : tie.Need-loop-holds Inv-loop μ-loop
 loop-holds c = (omega arith, omega arith, omega arith, refl, refl)
@@ -39,20 +39,23 @@ loop-holds c = (omega arith, omega arith, omega arith, refl, refl)
 add-i : tie.Need-add-i Inv-loop μ-loop
 add-i c = search needs
 
-sub-block : tie.Need-sub-block Inv-loop μ-loop
-sub-block c = search needs
+sub-inner-digest : tie.Need-sub-inner-digest Inv-loop μ-loop
+sub-inner-digest c = search needs
 
-part-block-start : tie.Need-part-block-start Inv-loop μ-loop
-part-block-start c = search needs
+part-inner-digest-start : tie.Need-part-inner-digest-start Inv-loop μ-loop
+part-inner-digest-start c = search needs
 
-part-block-end : tie.Need-part-block-end Inv-loop μ-loop
-part-block-end c = search needs
+part-inner-digest-end : tie.Need-part-inner-digest-end Inv-loop μ-loop
+part-inner-digest-end c = search needs
 
-cast-block : tie.Need-cast-block Inv-loop μ-loop
-cast-block c = search needs
+cast-inner-digest : tie.Need-cast-inner-digest Inv-loop μ-loop
+cast-inner-digest c = search needs
 
-block-requires : tie.Need-block-requires Inv-loop μ-loop
-block-requires c κs = search needs
+inner-digest-requires : tie.Need-inner-digest-requires Inv-loop μ-loop
+inner-digest-requires c κs = search needs
+
+outer-digest-requires : tie.Need-outer-digest-requires Inv-loop μ-loop
+outer-digest-requires c κs = search needs
 
 sub-least : tie.Need-sub-least Inv-loop μ-loop
 sub-least c = search needs
@@ -68,8 +71,9 @@ copy-at-requires c κs = search needs
 
 add-at : tie.Need-add-at Inv-loop μ-loop
 add-at c =
-    let start = c .before .before .before .before .before .before .before .before .before .before .before .before .before .before .before .before .before .before .before .before in
-    let most : start .args .n ≤ 8160 = start .pre .0 in
+    let most : c .before .before .before .before .before .before .before .before .before .before .before .before .before .before .before .before .before .before .before .before .before .args .n ≤ 8160 = c .before .before .before .before .before .before .before .before .before .before .before .before .before .before .before .before .before .before .before .before .before .pre .0 in
+    let inv = c .before .before .before .before .before .before .before .before .before .before .before .loop .inv .1 in
+    let size = c .before .before .before .before .before .least .ensures in
     search needs
 
 loop-less : tie.Need-loop-less Inv-loop μ-loop
@@ -78,8 +82,8 @@ loop-less c = search needs
 loop-again : tie.Need-loop-again Inv-loop μ-loop
 loop-again c =
     let k = c .before .before .before .before .before .before in
-    let l = k .before .before .before .before .loop in
-    let keyed = k .before .before .before .before .before in
+    let l = k .before .before .before .before .before .loop in
+    let keyed = k .before .before .before .before .before .before in
     let start = keyed .before .before .before .before .before .before .before .before .before in
     let s = start .args in
     let room : s .n ≤ length (now (s .out)) = start .pre .1 in
@@ -88,12 +92,12 @@ loop-again c =
     let m = c .before .before .before .before .before .least .result in
     let size : m ≡ min 32 (s .n - l .at) = c .before .before .before .before .before .least .ensures in
     let here : l .at ≡ 32 * l .i = omega arith in
-    let b = next-under-key key text (now (s .out)) (l .out) (l .i) (l .from) (l .at) (keyed .before .before .key-block .ensures) (keyed .before .inner-state .ensures) (keyed .outer-state .ensures) (k .block .ensures) (l .inv .0) here (l .inv .4) in (
+    let b = next-under-key key text (now (s .out)) (l .out) (l .i) (l .from) (l .at) (keyed .before .before .key-block .ensures) (keyed .before .inner-value .ensures) (keyed .outer-value .ensures) (k .before .inner-digest .ensures) (k .outer-digest .ensures) (l .inv .0) here (l .inv .4) in (
       omega arith,
       omega arith,
       omega arith,
       c .before .before .copy-at .kept .1 .1 .0 ∙ l .inv .3,
-      next-out hmacSha256 hmacSha256-length key text (now (s .out)) (l .out) _ (k .block .result) (l .i) m (l .at) here (omega arith) (l .inv .4) b (c .before .before .copy-at .ensures),
+      next-out hmacSha256 hmacSha256-length key text (now (s .out)) (l .out) _ (k .outer-digest .result) (l .i) m (l .at) here (omega arith) (l .inv .4) b (c .before .before .copy-at .ensures),
     )
 
 same-length : tie.Need-same-length Inv-loop μ-loop
@@ -115,15 +119,16 @@ fill-spec =
     Inv-loop
     μ-loop
     key-block-requires
-    inner-state-requires
-    outer-state-requires
+    inner-value-requires
+    outer-value-requires
     loop-holds
     add-i
-    sub-block
-    part-block-start
-    part-block-end
-    cast-block
-    block-requires
+    sub-inner-digest
+    part-inner-digest-start
+    part-inner-digest-end
+    cast-inner-digest
+    inner-digest-requires
+    outer-digest-requires
     sub-least
     least-requires
     slice-aggregate-copy-at

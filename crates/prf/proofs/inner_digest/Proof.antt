@@ -1,11 +1,15 @@
--- `prf::block` meets its contract: the parts absorbed one after another are the block's input absorbed.
+-- `prf::inner_digest` meets its contract: the parts absorbed one after another are the block's input absorbed.
 -- Assumes nothing.
 use denote.Ref.{now}
-use Rattle.hmac.specs.Keyed.{sealed}
+use Rattle.sha256.specs.Stream.{afterBlock}
+use Rattle.hmac.specs.Keyed.{hashAfter}
 use Rattle.prf.proofs.Parts.{absorbed-parts}
 use borrow.Author.Needs.{needs}
-use Rattle.prf.proofs.block.Statement.{statement}
-use Rattle.prf.proofs.block.Tie as tie
+use Rattle.prf.proofs.inner_digest.Statement.{statement}
+use Rattle.prf.proofs.inner_digest.Tie as tie
+
+after-block-requires : tie.Need-after-block-requires
+after-block-requires c κs = search needs
 
 absorb-part-requires : tie.Need-absorb-part-requires
 absorb-part-requires c κs = search needs
@@ -31,26 +35,18 @@ absorb-requires c κs = search needs
 finish-requires : tie.Need-finish-requires
 finish-requires c κs = search needs
 
-slice-aggregate-absorb-2 : tie.Need-slice-aggregate-absorb-2
-slice-aggregate-absorb-2 c = search needs
-
-absorb-requires-2 : tie.Need-absorb-requires-2
-absorb-requires-2 c κs = search needs
-
-finish-requires-2 : tie.Need-finish-requires-2
-finish-requires-2 c κs = search needs
-
 returns : tie.Need-returns
-unfolding sealed
+unfolding hashAfter
 returns c =
-    let s = c .before .before .before .before .before .before .before .before .before .before .before .before .before .before .before .before .args in
-    let law = absorbed-parts (s .inner) (now (s .previous)) (now (s .a)) (now (s .b)) (now (s .c)) (now (s .d)) (s .number) in
+    let s = c .before .before .before .before .before .before .before .before .before .before .before .before .before .before .args in
+    let law = absorbed-parts (afterBlock (s .inner)) (now (s .previous)) (now (s .a)) (now (s .b)) (now (s .c)) (now (s .d)) (s .number) in
     cc
 
-pub block-spec : {M : Type 1} → statement M
-block-spec =
+pub inner-digest-spec : {M : Type 1} → statement M
+inner-digest-spec =
     tie.close
     (tie.spec
+    after-block-requires
     absorb-part-requires
     absorb-part-requires-2
     absorb-part-requires-3
@@ -59,7 +55,4 @@ block-spec =
     slice-aggregate-absorb
     absorb-requires
     finish-requires
-    slice-aggregate-absorb-2
-    absorb-requires-2
-    finish-requires-2
     returns)
