@@ -1,10 +1,12 @@
 // Refusals by name and by number, the tests of a call in their order, and the answer of a call that writes (document 01, "Refusal
 // numbers"). Every other crate checks its input with these.
 ghost use mathlib.Core.Path.{_≡_};
-ghost use lib.ListN.{length};
+ghost use mathlib.Core.List.{_++_};
+ghost use Prim.Native.Nat.{_≤_};
+ghost use lib.ListN.{length, drop};
 ghost use Rattle.refusal.specs.Checks.{within, _andThen_, check1, check6};
 ghost use Rattle.refusal.specs.Checks;
-ghost use Rattle.refusal.specs.Answers.{numberOf, reasonOf, checkedAs};
+ghost use Rattle.refusal.specs.Answers.{numberOf, reasonOf, checkedAs, answerOf, answerTo, bufferAfter};
 
 // Why a call refuses. A refusal is document 01's term: a numbered answer that leaves every lent buffer as it was. `numberOf` of
 // specs/Answers.antt gives each its number, in this order from 1 on.
@@ -127,4 +129,32 @@ pub fn check_room(n: usize, room: usize) -> Checked
     ensures { λ r. ⌜ checkedAs r ≡ check6 n room ⌝ }
 {
     unless(n <= room, Refusal::Room)
+}
+
+// Copies bytes to the start of out.
+fn copy(bytes: &[u8], out: &mut [u8])
+    requires { ⌜ length (now bytes) ≤ length (now out) ⌝ }
+    ensures { λ _. ⌜ now (out .exit) ≡ now (bytes .entry) ++ drop (length (now (bytes .entry))) (now (out .entry)) ⌝ }
+{
+    let mut j = 0;
+    while j < bytes.len() {
+        out[j] = bytes[j];
+        j += 1;
+    }
+}
+
+// The answer of a call whose result is at hand, by its tests and then that of the room: the bytes go to the start of out, or nothing does.
+pub fn put(check: Checked, bytes: &[u8], out: &mut [u8]) -> Written
+    ensures answer { λ r. ⌜ answerOf r ≡ answerTo (checkedAs check andThen check6 (length (now (bytes .entry))) (length (now (out .entry)))) (length (now (bytes .entry))) ⌝ }
+    ensures buffer { λ _. ⌜ now (out .exit) ≡ bufferAfter (checkedAs check andThen check6 (length (now (bytes .entry))) (length (now (out .entry)))) (length (now (bytes .entry))) (now (bytes .entry)) (now (out .entry)) ⌝ }
+{
+    let n = bytes.len();
+    let all = then_check(check, check_room(n, out.len()));
+    match all {
+        Checked::Failed(reason) => Written::Refused(reason),
+        Checked::Passed => {
+            copy(bytes, out);
+            Written::Wrote(n)
+        }
+    }
 }

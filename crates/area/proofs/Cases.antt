@@ -1,0 +1,11 @@
+-- The worked cases, each by computation.
+-- Assumes nothing.
+use mathlib.Core.Path.{refl}
+use Rattle.refusal.specs.Checks.{unless}
+use Rattle.area.specs.Names.{sameName}
+use Rattle.area.specs.Area.{inBounds, kdf, zeros, kdfInput, attribute, attributesFrom, attributes, readOn, reading, areaAnswer, areaBuffer}
+use Rattle.area.specs.Cases.{Cases}
+
+pub cases : Cases
+unfolding unless sameName inBounds kdf zeros kdfInput attribute attributesFrom attributes readOn reading areaAnswer areaBuffer
+cases = (refl, refl, refl, refl, refl, refl, refl, refl, refl, refl, refl, refl, refl, refl, refl)

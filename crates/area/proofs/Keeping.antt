@@ -1,0 +1,59 @@
+-- Laws of the offers that the walk keeps at the start of a buffer: what one attribute more makes of them, what the end does, and how they
+-- are copied.
+-- Assumes nothing.
+use Prim.Native.Nat.{ℕ, suc, _+_, _≤_, _<_}
+use mathlib.Core.Path.{_≡_, sym, _∙_}
+use mathlib.Core.Bool.{true, false}
+use mathlib.Core.List.{List, [], _∷_, _++_, append-assoc}
+use native.Mathlib.Omega.{arith}
+use native.Mathlib.Numerals.{add-one}
+use borrow.Author.Tests.{lt-ltb, le-ltb, eq-eqb, ne-eqb}
+use lib.ListN.{length, getD, take, drop, set}
+use lib.Seq.{length-take-le, take-suc-set, take-suc, drop-cons, set-at}
+use lib.Dec.{ltb, eqb}
+use Rattle.refusal.specs.Checks.{bare}
+use Rattle.area.specs.Area.{readOn, whole, refusal, ended}
+use Rattle.area.specs.declared.Attribute.{Attribute}
+use Rattle.area.specs.declared.Attribute.the-variants.{Offer}
+use Rattle.area.specs.declared.Bytes.{Bytes}
+use Rattle.area.specs.declared.Name.{Name}
+use Rattle.area.specs.declared.Name.the-variants.{Found}
+
+-- an offer, where fewer than 17 are kept, is kept after them
+pub offer-kept : (count v : ℕ) (kept : List ℕ) (name : Name) (later : List Attribute) → 17 ≤ length kept → count < 17
+    → readOn (take count kept) name (Offer v ∷ later) ≡ readOn (take (count + 1) (set kept count v)) name later
+unfolding readOn
+offer-kept count v kept name later k h =
+    let l : length (take count kept) ≡ count = length-take-le count kept (omega arith) in
+    let t : ltb (length (take count kept)) 17 ≡ true = lt-ltb (length (take count kept)) 17 (omega arith) in
+    let i : count < length kept = omega arith in
+    rw (t, add-one, take-suc-set)
+
+-- where 17 are kept, it is refused
+pub offer-refused : (count v : ℕ) (kept : List ℕ) (name : Name) (later : List Attribute) → 17 ≤ length kept → count ≡ 17
+    → readOn (take count kept) name (Offer v ∷ later) ≡ refusal (bare 10)
+unfolding readOn
+offer-refused count v kept name later k h =
+    let l : length (take count kept) ≡ count = length-take-le count kept (omega arith) in
+    let t : ltb (length (take count kept)) 17 ≡ false = le-ltb (length (take count kept)) 17 (omega arith) in
+    rw t
+
+-- at the end, with a name
+pub no-offer : (count at : ℕ) (len : Bytes) (kept : List ℕ) → count ≤ length kept → count ≡ 0 → refusal (bare 10) ≡ ended (take count kept) (Found at len)
+no-offer count at len kept h e =
+    let l : length (take count kept) ≡ count = length-take-le count kept h in
+    let t : eqb (length (take count kept)) 0 ≡ true = eq-eqb (length (take count kept)) 0 (omega arith) in
+    rw t
+
+pub some-offer : (count at : ℕ) (len : Bytes) (kept : List ℕ) → count ≤ length kept → (count ≡ 0 → ⊥) → whole (take count kept) at (len .0) ≡ ended (take count kept) (Found at len)
+some-offer count at len kept h n =
+    let l : length (take count kept) ≡ count = length-take-le count kept h in
+    let t : eqb (length (take count kept)) 0 ≡ false = ne-eqb (length (take count kept)) 0 (λ e. n (sym l ∙ e)) in
+    rw t
+
+-- one value more is copied
+pub copied : (i : ℕ) (kept out before : List ℕ) → i < length kept → i < length before → out ≡ take i kept ++ drop i before
+    → set out i (getD kept i 0) ≡ take (i + 1) kept ++ drop (i + 1) before
+copied i kept out before h₁ h₂ e =
+    let l : length (take i kept) ≡ i = length-take-le i kept (omega arith) in
+    rw (e, add-one, drop-cons before i 0, take-suc kept i 0) (set-at (take i kept) _ _ _ i l ∙ sym (append-assoc (take i kept) (getD kept i 0 ∷ []) (drop (suc i) before)))

@@ -1,0 +1,4 @@
+pub mod Area
+pub mod Names
+pub mod Steps
+pub mod Cases

@@ -1,0 +1,13 @@
+-- `charset::between` meets its contract.
+-- Assumes nothing.
+use mathlib.Core.Path.{refl}
+use Rattle.refusal.specs.Checks.{within}
+use Rattle.charset.proofs.between.Statement.{statement}
+use Rattle.charset.proofs.between.Tie as tie
+
+returns : tie.Need-returns
+unfolding within
+returns c = refl
+
+pub between-spec : {M : Type 1} → statement M
+between-spec = tie.close (tie.spec returns)

@@ -1,0 +1,38 @@
+-- `hmac::key_block` meets its contract.
+-- Assumes nothing.
+use denote.Ref.{now}
+use Rattle.sha256_block.specs.Fips180.{sha256}
+use Rattle.hmac.proofs.Blocks.{key-short, key-long}
+use borrow.Author.Needs.{needs}
+use Rattle.hmac.proofs.key_block.Statement.{statement}
+use Rattle.hmac.proofs.key_block.Tie as tie
+
+filled-requires : tie.Need-filled-requires
+filled-requires c κs = search needs
+
+returns : tie.Need-returns
+returns c = key-short sha256 (now (c .before .before .before .args .key)) (c .before .if1 .taken) (c .filled .ensures)
+
+digest-requires : tie.Need-digest-requires
+digest-requires c κs = search needs
+
+slice-aggregate-filled : tie.Need-slice-aggregate-filled
+slice-aggregate-filled c = search needs
+
+filled-requires-2 : tie.Need-filled-requires-2
+filled-requires-2 c κs = search needs
+
+returns-2 : tie.Need-returns-2
+returns-2 c =
+    key-long sha256 (now (c .before .before .before .before .before .args .key)) (c .before .before .before .if1 .left) (c .before .before .digest .ensures) (c .filled2 .ensures)
+
+pub key-block-spec : {M : Type 1} → statement M
+key-block-spec =
+    tie.close
+    (tie.spec
+    filled-requires
+    returns
+    digest-requires
+    slice-aggregate-filled
+    filled-requires-2
+    returns-2)

@@ -1,0 +1,3 @@
+pub mod KeyAttribute
+pub mod Statements
+pub mod Writable

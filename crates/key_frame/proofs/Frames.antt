@@ -1,0 +1,172 @@
+-- What the tests of an attribute's frame say where they pass.
+-- Assumes nothing.
+use Prim.Native.Nat.{ℕ, _-_, _%_, _≤_, _<_}
+use mathlib.Core.Path.{_≡_, refl, sym, ap, _∙_}
+use mathlib.Core.Bool.{Bool, true, false, _&&_}
+use mathlib.Core.List.{List, [], _∷_}
+use native.Mathlib.Omega.{arith}
+use borrow.Author.Tests.{eqb-true, eqb-false, eq-eqb, le-leb, lt-leb, not-true}
+use lib.Dec.{leb, eqb}
+use lib.ListN.{length, getD}
+use Rattle.refusal.specs.Checks.{Reason, Check, pass, refuse, bare, unless, _andThen_, within}
+use Rattle.refusal.proofs.Passing.{and-left, and-right, within-low, within-high, before-passed, last-passed, test-passed}
+use Rattle.keywrap.specs.Rfc3394.{initialValue}
+use Rattle.keywrap.specs.Calls.{wrappable, sameBytes}
+use Rattle.key_frame.specs.KeyFrame.{ivIn, check20, lengthHolds, check25, check26, check27, frameCheck}
+
+-- tests after those that refuse, or that pass
+pub refused-then : (c d : Check) {x : Reason} → c ≡ refuse x → (c andThen d) ≡ refuse x
+unfolding _andThen_
+refused-then c d e = ap (λ (y : Check). y andThen d) e
+
+pub passed-then : (c d : Check) → c ≡ pass → (c andThen d) ≡ d
+unfolding _andThen_
+passed-then c d e = ap (λ (y : Check). y andThen d) e
+
+-- a test that holds passes
+pub test-holds : (t : Bool) (x : Reason) → t ≡ true → unless t x ≡ pass
+unfolding unless
+test-holds t x e = ap (λ (b : Bool). unless b x) e
+
+-- a length that a key to wrap may have
+pub record KeyLength (n : ℕ) : Type 0 where
+  pub low : 16 ≤ n
+  pub high : n ≤ 192
+  pub blocks : n % 8 ≡ 0
+
+pub key-length : (n : ℕ) → wrappable n ≡ true → KeyLength n
+unfolding wrappable
+key-length n e =
+    let w : within 16 192 n ≡ true = and-left _ _ e in
+    record {
+      low = within-low 16 192 n w;
+      high = within-high 16 192 n w;
+      blocks = eqb-true (n % 8) 0 (and-right (within 16 192 n) _ e);
+    }
+
+-- no key is so short
+pub too-short : (n : ℕ) → n < 16 → wrappable n ≡ false
+unfolding wrappable within
+too-short n h = rw (lt-leb 16 n h)
+
+-- an attribute whose length holds
+pub record AttributeLength (a : List ℕ) : Type 0 where
+  pub counted : getD a 1 0 ≡ length a
+  pub sized : wrappable (length a - 60) ≡ true
+  pub key : KeyLength (length a - 60)
+
+pub attribute-length : (a : List ℕ) → lengthHolds a ≡ true → AttributeLength a
+unfolding lengthHolds
+attribute-length a e =
+    let r : (eqb (getD a 1 0) (length a) && wrappable (length a - 60)) ≡ true = and-right (leb 2 (length a)) _ e in
+    let s : wrappable (length a - 60) ≡ true = and-right (eqb (getD a 1 0) (length a)) _ r in
+    record {
+      counted = eqb-true _ _ (and-left _ _ r);
+      sized = s;
+      key = key-length _ s;
+    }
+
+-- the length of fewer than 60 bytes does not hold
+and-false : (b : Bool) → (b && false) ≡ false
+and-false true = refl
+and-false false = refl
+
+pub no-length : (a : List ℕ) → length a < 60 → false ≡ lengthHolds a
+unfolding lengthHolds
+no-length a h =
+    let short : length a - 60 < 16 = omega arith in
+    rw (too-short (length a - 60) short, and-false, and-false)
+
+-- of 60 bytes and more it holds where the length byte counts them and the rest can be a key's
+pub length-of : (a : List ℕ) (x : ℕ) (b : Bool) → 60 ≤ length a → x ≡ getD a 1 0 → b ≡ wrappable (length a - 60) → (eqb x (length a) && b) ≡ lengthHolds a
+unfolding lengthHolds
+length-of a x b h e f =
+    let two : 2 ≤ length a = omega arith in
+    rw (e, f, le-leb 2 (length a) two)
+
+-- the tests of the frame, by the length
+pub frame-of : (a : List ℕ) {c : Check} → lengthHolds a ≡ true → c ≡ (check20 (getD a 0 0) andThen check25 a andThen check26 a andThen check27 a) → c ≡ frameCheck a
+unfolding frameCheck unless _andThen_
+frame-of a h e = rw h e
+
+pub frame-refused : (a : List ℕ) → lengthHolds a ≡ false → refuse (bare 24) ≡ frameCheck a
+unfolding frameCheck unless _andThen_
+frame-refused a h = rw h
+
+-- lists that are tested to be the same are, and a list passes the test against itself
+pub same-bytes : (l m : List ℕ) → sameBytes l m ≡ true → l ≡ m
+unfolding sameBytes
+same-bytes [] [] e = refl
+same-bytes [] (y ∷ m) e = cc
+same-bytes (x ∷ l) [] e = cc
+same-bytes (x ∷ l) (y ∷ m) e =
+    let p : x ≡ y = eqb-true x y (and-left (eqb x y) (sameBytes l m) e) in
+    let q : l ≡ m = same-bytes l m (and-right (eqb x y) (sameBytes l m) e) in
+    cc
+
+pub same-itself : (l : List ℕ) → sameBytes l l ≡ true
+unfolding sameBytes
+same-itself [] = refl
+same-itself (x ∷ l) = rw (eq-eqb x x refl, same-itself l)
+
+-- an attribute whose frame passes
+pub record Framed (a : List ℕ) : Type 0 where
+  pub size : AttributeLength a
+  pub kind : getD a 0 0 ≡ 0 → ⊥
+  pub reserved : getD a 2 0 ≡ 0
+  pub method : getD a 3 0 ≡ 0
+  pub iv : ivIn a ≡ initialValue
+
+pub framed : (a : List ℕ) → frameCheck a ≡ pass → Framed a
+unfolding frameCheck
+framed a e =
+    let c26 = before-passed _ _ e in
+    let c25 = before-passed _ _ c26 in
+    let c20 = before-passed _ _ c25 in
+    let c24 = before-passed _ _ c20 in
+    record {
+      size = attribute-length a (test-passed _ _ c24);
+      kind = eqb-false _ _ (not-true _ (test-passed _ _ (last-passed _ _ c20)));
+      reserved = eqb-true _ _ (test-passed _ _ (last-passed _ _ c25));
+      method = eqb-true _ _ (test-passed _ _ (last-passed _ _ c26));
+      iv = same-bytes _ _ (test-passed _ _ (last-passed _ _ e));
+    }
+
+-- the test of eight bytes, one by one
+and-true : (b : Bool) → (b && true) ≡ b
+and-true true = refl
+and-true false = refl
+
+and-assoc : (a b c : Bool) → ((a && b) && c) ≡ (a && (b && c))
+and-assoc true b c = refl
+and-assoc false b c = refl
+
+pub is-initial-of : (l : List ℕ) → length l ≡ 8 → (eqb (getD l 0 0) 166 && eqb (getD l 1 0) 166 && eqb (getD l 2 0) 166 && eqb (getD l 3 0) 166 && eqb (getD l 4 0) 166 && eqb (getD l 5 0) 166 && eqb (getD l 6 0) 166 && eqb (getD l 7 0) 166) ≡ sameBytes l initialValue
+unfolding sameBytes
+is-initial-of [] h = absurd (omega arith)
+is-initial-of (x0 ∷ []) h = absurd (omega arith)
+is-initial-of (x0 ∷ x1 ∷ []) h = absurd (omega arith)
+is-initial-of (x0 ∷ x1 ∷ x2 ∷ []) h = absurd (omega arith)
+is-initial-of (x0 ∷ x1 ∷ x2 ∷ x3 ∷ []) h = absurd (omega arith)
+is-initial-of (x0 ∷ x1 ∷ x2 ∷ x3 ∷ x4 ∷ []) h = absurd (omega arith)
+is-initial-of (x0 ∷ x1 ∷ x2 ∷ x3 ∷ x4 ∷ x5 ∷ []) h = absurd (omega arith)
+is-initial-of (x0 ∷ x1 ∷ x2 ∷ x3 ∷ x4 ∷ x5 ∷ x6 ∷ []) h = absurd (omega arith)
+is-initial-of (x0 ∷ x1 ∷ x2 ∷ x3 ∷ x4 ∷ x5 ∷ x6 ∷ x7 ∷ []) h = simp (and-assoc, and-true)
+is-initial-of (x0 ∷ x1 ∷ x2 ∷ x3 ∷ x4 ∷ x5 ∷ x6 ∷ x7 ∷ x8 ∷ l) h = absurd (omega arith)
+
+-- an attribute passes where each of its tests does
+pub frame-passes : (a : List ℕ) → 60 ≤ length a → getD a 1 0 ≡ length a → wrappable (length a - 60) ≡ true → check20 (getD a 0 0) ≡ pass → getD a 2 0 ≡ 0 → getD a 3 0 ≡ 0 → ivIn a ≡ initialValue
+    → frameCheck a ≡ pass
+unfolding frameCheck
+frame-passes a size counted sized kind reserved method iv =
+    let t : (eqb (getD a 1 0) (length a) && wrappable (length a - 60)) ≡ true = rw (eq-eqb (getD a 1 0) (length a) counted, sized) in
+    let c24 = test-holds _ (bare 24) (sym (length-of a _ _ size refl refl) ∙ t) in
+    let c20 = passed-then _ _ c24 ∙ kind in
+    let c25 = passed-then _ _ c20 ∙ test-holds _ (bare 25) (eq-eqb _ _ reserved) in
+    let c26 = passed-then _ _ c25 ∙ test-holds _ (bare 26) (eq-eqb _ _ method) in
+    passed-then _ _ c26 ∙ test-holds _ (bare 27) (rw iv (same-itself initialValue))
+
+-- and then its type does
+pub kind-passes : (a : List ℕ) → frameCheck a ≡ pass → check20 (getD a 0 0) ≡ pass
+unfolding frameCheck
+kind-passes a e = last-passed _ _ (before-passed _ _ (before-passed _ _ (before-passed _ _ e)))

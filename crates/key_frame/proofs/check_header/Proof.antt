@@ -1,0 +1,87 @@
+-- `key_frame::check_header` meets its contract: each test answers its check, and the combinators join them in their order.
+-- Assumes nothing.
+use borrow.Author.Needs.{needs}
+use Rattle.key_frame.proofs.check_header.Statement.{statement}
+use Rattle.key_frame.proofs.check_header.Tie as tie
+
+shared-slice-read-unless : tie.Need-shared-slice-read-unless
+shared-slice-read-unless c = search needs
+
+unless-requires : tie.Need-unless-requires
+unless-requires c κs = search needs
+
+shared-slice-read-unless-2 : tie.Need-shared-slice-read-unless-2
+shared-slice-read-unless-2 c = search needs
+
+unless-requires-2 : tie.Need-unless-requires-2
+unless-requires-2 c κs = search needs
+
+then-check-requires : tie.Need-then-check-requires
+then-check-requires c κs = search needs
+
+shared-slice-read-unless-3 : tie.Need-shared-slice-read-unless-3
+shared-slice-read-unless-3 c = search needs
+
+unless-requires-3 : tie.Need-unless-requires-3
+unless-requires-3 c κs = search needs
+
+then-check-requires-2 : tie.Need-then-check-requires-2
+then-check-requires-2 c κs = search needs
+
+sub-is-initial : tie.Need-sub-is-initial
+sub-is-initial c = search needs
+
+part-is-initial-start : tie.Need-part-is-initial-start
+part-is-initial-start c = search needs
+
+part-is-initial-end : tie.Need-part-is-initial-end
+part-is-initial-end c = search needs
+
+is-initial-requires : tie.Need-is-initial-requires
+is-initial-requires c κs = search needs
+
+unless-requires-4 : tie.Need-unless-requires-4
+unless-requires-4 c κs = search needs
+
+then-check-requires-3 : tie.Need-then-check-requires-3
+then-check-requires-3 c κs = search needs
+
+returns : tie.Need-returns
+returns c =
+    let p1 = c .before in
+    let p2 = p1 .before in
+    let p4 = p2 .before .before in
+    let p5 = p4 .before in
+    let p7 = p5 .before .before in
+    let p8 = p7 .before in
+    let p10 = p8 .before .before in
+    rw (
+      c .then-check3 .ensures,
+      p4 .then-check2 .ensures,
+      p7 .then-check .ensures,
+      p1 .unless4 .ensures,
+      p5 .unless3 .ensures,
+      p8 .unless2 .ensures,
+      p10 .unless .ensures,
+      p2 .is-initial .ensures,
+    )
+
+pub check-header-spec : {M : Type 1} → statement M
+check-header-spec =
+    tie.close
+    (tie.spec
+    shared-slice-read-unless
+    unless-requires
+    shared-slice-read-unless-2
+    unless-requires-2
+    then-check-requires
+    shared-slice-read-unless-3
+    unless-requires-3
+    then-check-requires-2
+    sub-is-initial
+    part-is-initial-start
+    part-is-initial-end
+    is-initial-requires
+    unless-requires-4
+    then-check-requires-3
+    returns)

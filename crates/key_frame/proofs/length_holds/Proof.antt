@@ -1,0 +1,25 @@
+-- `key_frame::length_holds` meets its contract: fewer than 60 bytes are no attribute; of more the two tests are the definition's.
+-- Assumes nothing.
+use Rattle.key_frame.proofs.Frames.{no-length, length-of}
+use borrow.Author.Needs.{needs}
+use Rattle.key_frame.proofs.length_holds.Statement.{statement}
+use Rattle.key_frame.proofs.length_holds.Tie as tie
+
+returns : tie.Need-returns
+returns c = no-length _ (c .if1 .taken)
+
+shared-slice-read-count : tie.Need-shared-slice-read-count
+shared-slice-read-count c = search needs
+
+count-requires : tie.Need-count-requires
+count-requires c κs = search needs
+
+is-wrappable-requires : tie.Need-is-wrappable-requires
+is-wrappable-requires c κs = search needs
+
+returns-2 : tie.Need-returns-2
+returns-2 c = length-of _ _ _ (c .before .before .before .if1 .left) (c .before .count .ensures) (c .is-wrappable .ensures)
+
+pub length-holds-spec : {M : Type 1} → statement M
+length-holds-spec =
+    tie.close (tie.spec returns shared-slice-read-count count-requires is-wrappable-requires returns-2)

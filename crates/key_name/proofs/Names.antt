@@ -1,0 +1,44 @@
+-- Laws of names: the hash of two parts absorbed one after the other, and what a call answers and leaves by what its tests came to.
+-- Assumes nothing.
+use Prim.Native.Nat.{ℕ}
+use mathlib.Core.Path.{_≡_, sym, ap, _∙_}
+use mathlib.Core.List.{List, _++_}
+use native.Mathlib.Omega.{arith}
+use lib.ListN.{length, take}
+use lib.Seq.{length-take-le}
+use Rattle.refusal.specs.Checks.{Reason, Check, pass, refuse, _andThen_, check6}
+use Rattle.refusal.specs.Answers.{Answer, answerTo, bufferAfter}
+use Rattle.charset.specs.Checks.{labelCheck}
+use Rattle.sha256_block.specs.Fips180.{sha256}
+use Rattle.sha256.specs.declared.Sha256.{Sha256}
+use Rattle.sha256.specs.Stream.{absorbed, finished, started}
+use Rattle.sha256.proofs.Stream.{absorbed-append, digest-law, sha256-length}
+use Rattle.key_name.specs.Ndf64.{check9, nameCheck, nameOf}
+
+pub two-parts : (xs ys : List ℕ) {s t u : Sha256} {r : List ℕ} → s ≡ started → t ≡ absorbed s xs → u ≡ absorbed t ys → r ≡ finished u → r ≡ sha256 (xs ++ ys)
+two-parts xs ys {s} {t} {u} {r} a b c d =
+    let whole : u ≡ absorbed started (xs ++ ys) = c ∙ ap (λ (v : Sha256). absorbed v ys) (b ∙ ap (λ (v : Sha256). absorbed v xs) a) ∙ sym (absorbed-append started xs ys) in
+    d ∙ ap finished whole ∙ digest-law (xs ++ ys)
+
+-- the part of a hash that is a name
+pub name-size : (m : List ℕ) {hash : List ℕ} → hash ≡ sha256 m → length (take 8 hash) ≡ 8
+name-size m {hash} h = length-take-le 8 hash (omega (arith, sha256-length m, ap length h))
+
+-- what a call answers and leaves, by what its tests before the room's came to: a refusal of theirs, or the hash's first 8 bytes
+module _ (session label buffer : List ℕ) where
+  pub refused-first : {x : Reason} → (check9 session andThen labelCheck label) ≡ refuse x → nameCheck session label (length buffer) ≡ refuse x
+  unfolding nameCheck _andThen_
+  refused-first e = rw e
+
+  pub name-put : {hash after : List ℕ} {a : Answer} → (check9 session andThen labelCheck label) ≡ pass → hash ≡ sha256 (session ++ label)
+      → (a ≡ answerTo (pass andThen check6 (length (take 8 hash)) (length buffer)) (length (take 8 hash))) × (after ≡ bufferAfter (pass andThen check6 (length (take 8 hash)) (length buffer)) (length (take 8 hash)) (take 8 hash) buffer)
+      → (a ≡ answerTo (nameCheck session label (length buffer)) 8) × (after ≡ bufferAfter (nameCheck session label (length buffer)) 8 (nameOf session label) buffer)
+  unfolding nameCheck nameOf
+  name-put {hash} e h p =
+      let size = name-size (session ++ label) h in
+      let fits : ℕ → Check = λ n. pass andThen check6 n (length buffer) in
+      let whole : Check → Check = λ c. c andThen check6 8 (length buffer) in (
+        p .0 ∙ ap (λ (n : ℕ). answerTo (fits n) n) size ∙ ap (λ (c : Check). answerTo (whole c) 8) (sym e),
+        p .1 ∙ ap (λ (n : ℕ). bufferAfter (fits n) n (take 8 hash) buffer) size ∙ ap (λ (c : Check). bufferAfter (whole c) 8 (take 8 hash) buffer) (sym e)
+            ∙ ap (λ (s : List ℕ). bufferAfter (check9 session andThen labelCheck label andThen check6 8 (length buffer)) 8 (take 8 s) buffer) h,
+      )

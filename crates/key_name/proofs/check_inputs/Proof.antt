@@ -1,0 +1,29 @@
+-- `key_name::check_inputs` meets its contract.
+-- Assumes nothing.
+use borrow.Author.Needs.{needs}
+use Rattle.key_name.proofs.check_inputs.Statement.{statement}
+use Rattle.key_name.proofs.check_inputs.Tie as tie
+
+in-range-requires : tie.Need-in-range-requires
+in-range-requires c κs = search needs
+
+unless-requires : tie.Need-unless-requires
+unless-requires c κs = search needs
+
+check-label-requires : tie.Need-check-label-requires
+check-label-requires c κs = search needs
+
+then-check-requires : tie.Need-then-check-requires
+then-check-requires c κs = search needs
+
+returns : tie.Need-returns
+returns c =
+    let p1 = c .before in
+    let p2 = p1 .before in
+    let p3 = p2 .before in
+    rw (c .then-check .ensures, p2 .unless .ensures, p1 .check-label .ensures, p3 .in-range .ensures)
+
+pub check-inputs-spec : {M : Type 1} → statement M
+check-inputs-spec =
+    tie.close
+    (tie.spec in-range-requires unless-requires check-label-requires then-check-requires returns)

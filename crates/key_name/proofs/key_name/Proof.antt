@@ -1,0 +1,63 @@
+-- `key_name::key_name` meets its contract: the room's test after its own is the chain, and what is put is the hash's first 8 bytes.
+-- Assumes nothing.
+use mathlib.Core.Path.{refl, sym, ap, _∙_}
+use borrow.Author.Needs.{needs}
+use denote.Ref.{now}
+use Rattle.refusal.specs.Answers.{checkedAs}
+use Rattle.key_name.proofs.Names.{name-size, refused-first, name-put}
+use Rattle.key_name.proofs.key_name.Statement.{statement}
+use Rattle.key_name.proofs.key_name.Tie as tie
+
+check-inputs-requires : tie.Need-check-inputs-requires
+check-inputs-requires c κs = search needs
+
+enum-known-why : tie.Need-enum-known-why
+enum-known-why c = search needs
+
+enum-told : tie.Need-enum-told
+enum-told c = search needs
+
+hash-of-requires : tie.Need-hash-of-requires
+hash-of-requires c κs = search needs
+
+array-share-prefix-hash : tie.Need-array-share-prefix-hash
+array-share-prefix-hash c = search needs
+
+slice-aggregate-put : tie.Need-slice-aggregate-put
+slice-aggregate-put c = sym (name-size _ (c .before .hash-of .ensures))
+
+put-requires : tie.Need-put-requires
+put-requires c κs = search needs
+
+returns : tie.Need-returns
+returns c =
+    let k = c .before .before .before in
+    let s = k .before .before .before .before .args in
+    rw (refused-first (now (s .session)) (now (s .label)) (now (s .out)) (sym (k .check-inputs .ensures) ∙ ap checkedAs (c .before .why .given .1))) (refl, refl)
+
+same-length : tie.Need-same-length
+same-length c = search needs
+
+returns-2 : tie.Need-returns-2
+returns-2 c =
+    let p = c .before .before in
+    let h = p .before .before .before in
+    let t = h .before in
+    let k = t .before .before in
+    let s = k .before .before .before .before .args in
+    name-put (now (s .session)) (now (s .label)) (now (s .out)) (sym (k .check-inputs .ensures) ∙ ap checkedAs (t .enum-told .given .1)) (h .hash-of .ensures) (p .put .ensures)
+
+pub key-name-spec : {M : Type 1} → statement M
+key-name-spec =
+    tie.close
+    (tie.spec
+    check-inputs-requires
+    enum-known-why
+    enum-told
+    hash-of-requires
+    array-share-prefix-hash
+    slice-aggregate-put
+    put-requires
+    returns
+    same-length
+    returns-2)

@@ -1,0 +1,52 @@
+-- `negotiation::say_list` is safe and ends.
+-- Assumes nothing.
+use Prim.Native.Nat.{_≤_, _-_}
+use borrow.Author.Needs.{needs}
+use lib.ListN.{length}
+use Rattle.negotiation.proofs.say_list.Statement.{statement}
+use Rattle.negotiation.proofs.say_list.Tie as tie
+
+abbrev Inv-loop : tie.InvT-loop
+Inv-loop list i₀ i = i ≤ length list
+
+abbrev μ-loop : tie.MeasureT-loop
+μ-loop list i₀ i = length list - i
+
+loop-holds : tie.Need-loop-holds Inv-loop μ-loop
+loop-holds c = search needs
+
+mul-say-value : tie.Need-mul-say-value Inv-loop μ-loop
+mul-say-value c = search needs
+
+shared-slice-read-say-value : tie.Need-shared-slice-read-say-value Inv-loop μ-loop
+shared-slice-read-say-value c = search needs
+
+say-value-requires : tie.Need-say-value-requires Inv-loop μ-loop
+say-value-requires c κs = search needs
+
+add-i : tie.Need-add-i Inv-loop μ-loop
+add-i c = search needs
+
+loop-less : tie.Need-loop-less Inv-loop μ-loop
+loop-less c = search needs
+
+loop-again : tie.Need-loop-again Inv-loop μ-loop
+loop-again c = search needs
+
+returns : tie.Need-returns Inv-loop μ-loop
+returns c = search needs
+
+pub say-list-spec : {M : Type 1} → statement M
+say-list-spec =
+    tie.close
+    (tie.spec
+    Inv-loop
+    μ-loop
+    loop-holds
+    mul-say-value
+    shared-slice-read-say-value
+    say-value-requires
+    add-i
+    loop-less
+    loop-again
+    returns)

@@ -1,0 +1,10 @@
+-- What the code's helpers give, said by the definitions of FIPS 180-4. Nothing here is part of the standard's reading.
+-- Assumes nothing.
+use mathlib.Core.List.{List, _++_}
+use Prim.Native.Nat.{ℕ, _/_}
+use lib.ListN.{length}
+use Rattle.sha256_block.specs.Fips180.{padding, blocks}
+
+-- the last hash value of a message of n bytes: h after its whole blocks, and x the bytes after these
+unfoldable pub closing : List ℕ → List ℕ → ℕ → List ℕ
+closing h x n = blocks (length (x ++ padding n) / 64) h (x ++ padding n)

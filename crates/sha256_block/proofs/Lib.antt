@@ -1,0 +1,4 @@
+pub mod Schedule
+mod Bits
+mod Rounds
+pub mod Blocks

@@ -1,0 +1,5 @@
+pub mod Accepting
+pub mod Answering
+pub mod Separation
+pub mod Requests
+pub mod Cases

@@ -1,0 +1,39 @@
+-- `usage::check_inputs` meets its contract.
+-- Assumes nothing.
+use borrow.Author.Needs.{needs}
+use Rattle.usage.proofs.check_inputs.Statement.{statement}
+use Rattle.usage.proofs.check_inputs.Tie as tie
+
+check-root-key-requires : tie.Need-check-root-key-requires
+check-root-key-requires c κs = search needs
+
+check-label-requires : tie.Need-check-label-requires
+check-label-requires c κs = search needs
+
+unless-requires : tie.Need-unless-requires
+unless-requires c κs = search needs
+
+then-check-requires : tie.Need-then-check-requires
+then-check-requires c κs = search needs
+
+then-check-requires-2 : tie.Need-then-check-requires-2
+then-check-requires-2 c κs = search needs
+
+returns : tie.Need-returns
+returns c =
+    let p1 = c .before in
+    let p2 = p1 .before in
+    let p3 = p2 .before in
+    let p4 = p3 .before in
+    rw (c .then-check2 .ensures, p1 .then-check .ensures, p2 .unless .ensures, p3 .check-label .ensures, p4 .check-root-key .ensures)
+
+pub check-inputs-spec : {M : Type 1} → statement M
+check-inputs-spec =
+    tie.close
+    (tie.spec
+    check-root-key-requires
+    check-label-requires
+    unless-requires
+    then-check-requires
+    then-check-requires-2
+    returns)

@@ -1,0 +1,54 @@
+-- `usage::usage_key` meets its contract: the expansion's tests after its own are the request's, and the text in parts is the request's.
+-- Assumes nothing.
+use Prim.Native.Nat.{ℕ}
+use mathlib.Core.Path.{_≡_}
+use borrow.Author.Needs.{needs}
+use denote.Ref.{now}
+use lib.ListN.{length}
+use Rattle.usage.specs.Rfc5295.{usageText}
+use Rattle.usage.specs.Requests.{Request, forUsage, textOf, keyOf}
+use Rattle.usage.proofs.Answering.{usage-tests, answered, left}
+use Rattle.usage.proofs.usage_key.Statement.{statement}
+use Rattle.usage.proofs.usage_key.Tie as tie
+
+check-inputs-requires : tie.Need-check-inputs-requires
+check-inputs-requires c κs = search needs
+
+two-bytes-requires : tie.Need-two-bytes-requires
+two-bytes-requires c κs = search needs
+
+slice-aggregate-expand : tie.Need-slice-aggregate-expand
+slice-aggregate-expand c = search needs
+
+slice-aggregate-expand-2 : tie.Need-slice-aggregate-expand-2
+slice-aggregate-expand-2 c = search needs
+
+expand-requires : tie.Need-expand-requires
+expand-requires c κs = search needs
+
+same-length : tie.Need-same-length
+same-length c = search needs
+
+returns : tie.Need-returns
+unfolding keyOf textOf usageText
+returns c =
+    let e = c .before .before in
+    let t = e .before .before .before .before in
+    let k = t .before in
+    let s = k .before .before .before .before .before .args in
+    let room : ℕ = length (now (s .out)) in
+    let tests = usage-tests (now (s .emsk)) (now (s .label)) (now (s .«data»)) (s .n) room (k .check-inputs .ensures) in
+    let r : Request = forUsage (now (s .label)) (now (s .«data»)) (s .n) room in
+    (answered (now (s .emsk)) r tests (e .expand .ensures .0), left (now (s .emsk)) r (now (s .out)) tests (rw (t .two-bytes .ensures) at (e .expand .ensures .1)))
+
+pub usage-key-spec : {M : Type 1} → statement M
+usage-key-spec =
+    tie.close
+    (tie.spec
+    check-inputs-requires
+    two-bytes-requires
+    slice-aggregate-expand
+    slice-aggregate-expand-2
+    expand-requires
+    same-length
+    returns)

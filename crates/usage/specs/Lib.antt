@@ -1,0 +1,3 @@
+pub mod Rfc5295
+pub mod Requests
+pub mod Statements

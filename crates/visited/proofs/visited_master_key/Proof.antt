@@ -1,0 +1,42 @@
+-- `visited::visited_master_key` meets its contract: its tests are one chain, and the parts after the domain are empty.
+-- Assumes nothing.
+use borrow.Author.Needs.{needs}
+use denote.Ref.{now}
+use lib.ListN.{length}
+use Rattle.visited.proofs.Tests.{master-tests, answer-by, master-buffer}
+use Rattle.visited.proofs.visited_master_key.Statement.{statement}
+use Rattle.visited.proofs.visited_master_key.Tie as tie
+
+check-visited-requires : tie.Need-check-visited-requires
+check-visited-requires c κs = search needs
+
+slice-aggregate-expand : tie.Need-slice-aggregate-expand
+slice-aggregate-expand c = search needs
+
+slice-aggregate-expand-2 : tie.Need-slice-aggregate-expand-2
+slice-aggregate-expand-2 c = search needs
+
+expand-requires : tie.Need-expand-requires
+expand-requires c κs = search needs
+
+same-length : tie.Need-same-length
+same-length c = search needs
+
+returns : tie.Need-returns
+returns c =
+    let e = c .before .before in
+    let k = e .before .before .before .before in
+    let s = k .before .before .before .before .before .args in
+    let tests = master-tests (now (s .vrk)) (now (s .server)) (now (s .domain)) (length (now (s .out))) (k .check-visited .ensures) in
+    (answer-by 64 tests (e .expand .ensures .0), master-buffer (now (s .vrk)) (now (s .server)) (now (s .domain)) (now (s .out)) tests (e .expand .ensures .1))
+
+pub visited-master-key-spec : {M : Type 1} → statement M
+visited-master-key-spec =
+    tie.close
+    (tie.spec
+    check-visited-requires
+    slice-aggregate-expand
+    slice-aggregate-expand-2
+    expand-requires
+    same-length
+    returns)

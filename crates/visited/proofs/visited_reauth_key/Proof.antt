@@ -1,0 +1,48 @@
+-- `visited::visited_reauth_key` meets its contract: its tests are one chain, and the parts after the label are empty.
+-- Assumes nothing.
+use borrow.Author.Needs.{needs}
+use denote.Ref.{now}
+use lib.ListN.{length}
+use Rattle.visited.specs.Visited.{reauthText, reauthKey}
+use Rattle.visited.proofs.Tests.{reauth-tests, answer-by, buffer-by}
+use Rattle.visited.proofs.visited_reauth_key.Statement.{statement}
+use Rattle.visited.proofs.visited_reauth_key.Tie as tie
+
+check-root-key-requires : tie.Need-check-root-key-requires
+check-root-key-requires c κs = search needs
+
+slice-aggregate-expand : tie.Need-slice-aggregate-expand
+slice-aggregate-expand c = search needs
+
+slice-aggregate-expand-2 : tie.Need-slice-aggregate-expand-2
+slice-aggregate-expand-2 c = search needs
+
+slice-aggregate-expand-3 : tie.Need-slice-aggregate-expand-3
+slice-aggregate-expand-3 c = search needs
+
+expand-requires : tie.Need-expand-requires
+expand-requires c κs = search needs
+
+same-length : tie.Need-same-length
+same-length c = search needs
+
+returns : tie.Need-returns
+unfolding reauthKey reauthText
+returns c =
+    let e = c .before .before in
+    let k = e .before .before .before .before .before .before .before in
+    let s = k .before .before .before .args in
+    let tests = reauth-tests (now (s .vmsk)) (length (now (s .out))) (k .check-root-key .ensures) in
+    (answer-by 64 tests (e .expand .ensures .0), buffer-by 64 (reauthKey (now (s .vmsk))) (now (s .out)) tests (e .expand .ensures .1))
+
+pub visited-reauth-key-spec : {M : Type 1} → statement M
+visited-reauth-key-spec =
+    tie.close
+    (tie.spec
+    check-root-key-requires
+    slice-aggregate-expand
+    slice-aggregate-expand-2
+    slice-aggregate-expand-3
+    expand-requires
+    same-length
+    returns)

@@ -1,0 +1,51 @@
+-- `visited::visited_root_key` meets its contract: its tests and its text are those of the request for a VRK.
+-- Assumes nothing.
+use borrow.Author.Needs.{needs}
+use denote.Ref.{now}
+use lib.ListN.{length}
+use Rattle.usage.specs.Rfc5295.{usageText}
+use Rattle.usage.specs.Requests.{Request, forVrk, vrkLabel, textOf, keyOf}
+use Rattle.usage.proofs.Answering.{answered, left}
+use Rattle.visited.proofs.Tests.{root-tests}
+use Rattle.visited.proofs.visited_root_key.Statement.{statement}
+use Rattle.visited.proofs.visited_root_key.Tie as tie
+
+check-root-key-requires : tie.Need-check-root-key-requires
+check-root-key-requires c κs = search needs
+
+slice-aggregate-expand : tie.Need-slice-aggregate-expand
+slice-aggregate-expand c = search needs
+
+slice-aggregate-expand-2 : tie.Need-slice-aggregate-expand-2
+slice-aggregate-expand-2 c = search needs
+
+slice-aggregate-expand-3 : tie.Need-slice-aggregate-expand-3
+slice-aggregate-expand-3 c = search needs
+
+expand-requires : tie.Need-expand-requires
+expand-requires c κs = search needs
+
+same-length : tie.Need-same-length
+same-length c = search needs
+
+returns : tie.Need-returns
+unfolding keyOf textOf usageText vrkLabel
+returns c =
+    let e = c .before .before in
+    let k = e .before .before .before .before .before .before .before in
+    let s = k .before .before .before .args in
+    let r : Request = forVrk (length (now (s .out))) in
+    let tests = root-tests (now (s .emsk)) (length (now (s .out))) (k .check-root-key .ensures) in
+    (answered (now (s .emsk)) r tests (e .expand .ensures .0), left (now (s .emsk)) r (now (s .out)) tests (e .expand .ensures .1))
+
+pub visited-root-key-spec : {M : Type 1} → statement M
+visited-root-key-spec =
+    tie.close
+    (tie.spec
+    check-root-key-requires
+    slice-aggregate-expand
+    slice-aggregate-expand-2
+    slice-aggregate-expand-3
+    expand-requires
+    same-length
+    returns)

@@ -1,0 +1,34 @@
+-- The visited-domain keys under a VRK and under a VMSK (source document 001, sections 4.2 and 5.1; document 01, "Visited keys"). The VRK
+-- itself is a request under the EMSK: `forVrk` of the crate usage's specs/Requests.antt.
+-- Assumes nothing.
+use Prim.Native.Nat.{ℕ}
+use mathlib.Core.List.{List, _++_}
+use Rattle.refusal.specs.Checks.{Check, _andThen_, check1, check6}
+use Rattle.charset.specs.Ascii.{ascii}
+use Rattle.charset.specs.Checks.{check7, check8}
+use Rattle.hmac.specs.Rfc2104.{hmacSha256}
+use Rattle.prf.specs.PrfPlus.{prfPlus}
+
+-- the text S of a VMSK: server ID then domain, with no length
+unfoldable pub vmskText : List ℕ → List ℕ → List ℕ
+vmskText server domain = server ++ domain
+
+-- the order of its tests: 1, 7, 8, 6
+unfoldable pub vmskCheck : List ℕ → List ℕ → List ℕ → ℕ → Check
+vmskCheck vrk server domain room = check1 vrk andThen check7 server andThen check8 domain andThen check6 64 room
+
+-- the VMSK: 64 bytes of prf+, with the VRK as K
+unfoldable pub vmskKey : List ℕ → List ℕ → List ℕ → List ℕ
+vmskKey vrk server domain = prfPlus hmacSha256 vrk (vmskText server domain) 64
+
+-- the text S of a V-rRK: its label alone
+unfoldable pub reauthText : List ℕ
+reauthText = ascii "EAP Re-authentication Root Key"
+
+-- the order of its tests: 1, 6
+unfoldable pub reauthCheck : List ℕ → ℕ → Check
+reauthCheck vmsk room = check1 vmsk andThen check6 64 room
+
+-- the V-rRK: 64 bytes of prf+, with the VMSK as K
+unfoldable pub reauthKey : List ℕ → List ℕ
+reauthKey vmsk = prfPlus hmacSha256 vmsk reauthText 64

@@ -1,0 +1,50 @@
+// The visited-domain keys of source document 001, as document 01 reads it ("Visited keys"): the VRK under the EMSK, a VMSK for a server
+// and its domain under the VRK, and the V-rRK under a VMSK. Each is 64 bytes of prf+ at the start of the output buffer; each call answers 64.
+ghost use mathlib.Core.Path.{_≡_};
+ghost use lib.ListN.{length};
+ghost use Rattle.refusal.specs.Checks.{_andThen_, check1};
+ghost use Rattle.refusal.specs.Answers.{checkedAs, answerOf, answerTo, bufferAfter};
+ghost use Rattle.charset.specs.Checks.{check7, check8};
+ghost use Rattle.usage.specs.Requests.{forVrk, requestAnswer, requestBuffer};
+ghost use Rattle.visited.specs.Visited.{vmskCheck, vmskKey, reauthCheck, reauthKey};
+use refusal::Checked;
+use refusal::Written;
+
+// The VRK: the usage key of its fixed label, no data and n = 64.
+pub fn visited_root_key(emsk: &[u8], out: &mut [u8]) -> Written
+    ensures answer { λ r. ⌜ answerOf r ≡ requestAnswer (now (emsk .entry)) (forVrk (length (now (out .entry)))) ⌝ }
+    ensures buffer { λ _. ⌜ now (out .exit) ≡ requestBuffer (now (emsk .entry)) (forVrk (length (now (out .entry)))) (now (out .entry)) ⌝ }
+{
+    let check = refusal::check_root_key(emsk);
+    let label = b"EAP Visited domain Root Key";
+    prf::expand(check, emsk, label, &[0], b"", &[0, 64], 64, out)
+}
+
+// The tests of a VMSK request before the expansion's: 1, 7, 8.
+fn check_visited(vrk: &[u8], server: &[u8], domain: &[u8]) -> Checked
+    ensures { λ r. ⌜ checkedAs r ≡ (check1 (now (vrk .entry)) andThen check7 (now (server .entry)) andThen check8 (now (domain .entry))) ⌝ }
+{
+    let key = refusal::check_root_key(vrk);
+    let id = charset::check_server_id(server);
+    let realm = charset::check_domain(domain);
+    refusal::then_check(refusal::then_check(key, id), realm)
+}
+
+// The VMSK of a server and a domain.
+pub fn visited_master_key(vrk: &[u8], server: &[u8], domain: &[u8], out: &mut [u8]) -> Written
+    ensures answer { λ r. ⌜ answerOf r ≡ answerTo (vmskCheck (now (vrk .entry)) (now (server .entry)) (now (domain .entry)) (length (now (out .entry)))) 64 ⌝ }
+    ensures buffer { λ _. ⌜ now (out .exit) ≡ bufferAfter (vmskCheck (now (vrk .entry)) (now (server .entry)) (now (domain .entry)) (length (now (out .entry)))) 64 (vmskKey (now (vrk .entry)) (now (server .entry)) (now (domain .entry))) (now (out .entry)) ⌝ }
+{
+    let check = check_visited(vrk, server, domain);
+    prf::expand(check, vrk, server, domain, b"", b"", 64, out)
+}
+
+// The V-rRK: its S is the label alone.
+pub fn visited_reauth_key(vmsk: &[u8], out: &mut [u8]) -> Written
+    ensures answer { λ r. ⌜ answerOf r ≡ answerTo (reauthCheck (now (vmsk .entry)) (length (now (out .entry)))) 64 ⌝ }
+    ensures buffer { λ _. ⌜ now (out .exit) ≡ bufferAfter (reauthCheck (now (vmsk .entry)) (length (now (out .entry)))) 64 (reauthKey (now (vmsk .entry))) (now (out .entry)) ⌝ }
+{
+    let check = refusal::check_root_key(vmsk);
+    let label = b"EAP Re-authentication Root Key";
+    prf::expand(check, vmsk, label, b"", b"", b"", 64, out)
+}

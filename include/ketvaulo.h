@@ -1,0 +1,106 @@
+/* Ketvaulo: the key library of a yard radio controller. Link with libketvaulo.a.
+ *
+ * Conventions. A slice is a pointer and then its length; a slice of length 0 may have a null pointer. No call keeps a pointer,
+ * allocates, or fails otherwise than by a refusal. `out` must not overlap an input of the same call. A call that is refused alters no
+ * byte of `out`; an accepted call alters only the bytes that it says it writes, from the start of `out`.
+ */
+#ifndef KETVAULO_H
+#define KETVAULO_H
+
+#include <stddef.h>
+#include <stdint.h>
+
+#ifdef __cplusplus
+extern "C" {
+#endif
+
+/* What a call that writes returns. `refusal` is 0 where the call is accepted, and then `value` is the count of what it wrote;
+ * else `refusal` is the number of the refusal, and `value` is 0. */
+typedef struct {
+    uint32_t refusal;
+    uint64_t value;
+} kv_outcome;
+
+/* The SHA-256 digest of a message (FIPS 180-4): 32 bytes. Refusals: 6 `out` has fewer than 32 bytes. */
+kv_outcome kv_sha256(const uint8_t *message, size_t message_len, uint8_t *out, size_t out_len);
+
+/* The HMAC-SHA-256 of a message under a key (RFC 2104): 32 bytes. Key and message have any length.
+ * Refusals: 6 `out` has fewer than 32 bytes. */
+kv_outcome kv_hmac_sha256(const uint8_t *key, size_t key_len, const uint8_t *message, size_t message_len, uint8_t *out,
+                          size_t out_len);
+
+/* The usage key of a label and optional data under an EMSK (RFC 5295): n bytes of prf+ with K the EMSK and S the label, one zero
+ * byte, the data, and n as two bytes, high byte first. n counts bytes; no data is data of length 0. Returns n.
+ * Refusals, in this order: 1 EMSK not 64 to 128 bytes; 2 label not 1 to 255 bytes; 3 a label byte outside 32 to 126; 4 data over
+ * 2,048 bytes; 5 n not 1 to 8,160; 6 `out` has fewer than n bytes. */
+kv_outcome kv_usage_key(const uint8_t *emsk, size_t emsk_len, const uint8_t *label, size_t label_len,
+                        const uint8_t *data, size_t data_len, uint64_t n, uint8_t *out, size_t out_len);
+
+/* The visited-domain keys of a handheld: the VRK under the EMSK, a VMSK for a server and its domain under the VRK, and the V-rRK
+ * under a VMSK. Each call writes 64 bytes and returns 64. Refusals of all three: 1 the root key is not 64 to 128 bytes, first;
+ * 6 `out` has fewer than 64 bytes, last. */
+
+/* The VRK: the usage key of the label "EAP Visited domain Root Key", no data, n = 64. Refusals: 1, 6. */
+kv_outcome kv_visited_root_key(const uint8_t *emsk, size_t emsk_len, uint8_t *out, size_t out_len);
+
+/* The VMSK: prf+ with S the server ID and then the domain, no length. Two pairs of server ID and domain that join to the same bytes
+ * have one VMSK. Refusals: 1; 7 server ID not 1 to 255 bytes, or a byte of it outside 33 to 126; 8 domain not 1 to 253 bytes, or a
+ * byte not a letter, digit, hyphen or dot; 6. */
+kv_outcome kv_visited_master_key(const uint8_t *vrk, size_t vrk_len, const uint8_t *server_id, size_t server_id_len,
+                                 const uint8_t *domain, size_t domain_len, uint8_t *out, size_t out_len);
+
+/* The V-rRK: prf+ with S "EAP Re-authentication Root Key", no length. Refusals: 1, 6. */
+kv_outcome kv_visited_reauth_key(const uint8_t *vmsk, size_t vmsk_len, uint8_t *out, size_t out_len);
+
+/* A name of a key, which is no secret: the first 8 bytes of SHA-256 over the Session-ID and then the label. Returns 8.
+ * Refusals, in this order: 9 Session-ID not 1 to 255 bytes; 2 label not 1 to 255 bytes; 3 a label byte outside 32 to 126; 6 `out` has
+ * fewer than 8 bytes. */
+kv_outcome kv_key_name(const uint8_t *session_id, size_t session_id_len, const uint8_t *label, size_t label_len,
+                       uint8_t *out, size_t out_len);
+
+/* What the peer's first round returns. `ask` is 0 for Carry On (the first offer is taken into use) and 1 for Ask (the value at
+ * `position`, counted from 0, is asked of the server). On a refusal every field but `refusal` is 0; `position` is 0 on Carry On. */
+typedef struct {
+    uint32_t refusal, ask, value, position;
+} kv_first_round;
+
+/* The offers below are AT_KDF values (RFC 5448, section 3.2) as numbers of the machine, in the server's order of preference. */
+
+/* The peer's first round: the first offer that stands in `supported`, which has any length and order.
+ * Refusals, in this order: 10 not 1 to 16 offers; 11 an offer value occurs twice; 12 no offer is supported. */
+kv_first_round kv_choose_offer(const uint16_t *offers, size_t offers_len, const uint16_t *supported,
+                               size_t supported_len);
+
+/* The server, on the peer's reply: accepted exactly if the reply is an offer after the first. Writes the reply and then the entire
+ * list, and returns the new count of values. Refusals, in this order: 10, 11 as above; 13 the reply is the first offer; 14 the reply
+ * is not among the offers; 6 `out` has no room for one value more than the offers. */
+kv_outcome kv_answer_offer(const uint16_t *offers, size_t offers_len, uint16_t reply, uint16_t *out, size_t out_len);
+
+/* The peer, on the renewed list, of any length: returns the choice as `value`. Refusals, in this order: 10, 11, 13, 14 on the
+ * original list and the choice; 15 the renewed list is not the choice followed by the original. */
+kv_outcome kv_check_renewed(const uint16_t *original, size_t original_len, uint16_t choice, const uint16_t *renewed,
+                            size_t renewed_len);
+
+/* What reading an attribute area returns: the count of the offers written, the name's offset from the area's first byte and its
+ * length in bytes, and whether it is byte for byte the peer's own name (1) or not (0). On a refusal every field but `refusal` is 0;
+ * `at` is the place that a refusal carries, and no refusal carries one yet. */
+typedef struct {
+    uint32_t refusal, offers;
+    uint64_t at, name_at, name_len;
+    uint32_t same_name;
+} kv_area;
+
+/* The offers and the network name of an attribute area (RFC 5448, sections 3.1 and 3.2): AT_KDF is type 24, AT_KDF_INPUT type 23,
+ * others are stepped over. Writes the offers in order. An empty name is read like any other: failing the login for it is the
+ * caller's act, and so is what to do about a different name. Refusals: 6 `out` has no room for 17 values, first. Then attribute by
+ * attribute: 16 no length byte, length 0, or past the area's end; 17 an AT_KDF whose length is not 1; 18 an AT_KDF_INPUT whose length
+ * disagrees with its name length, or whose padding is not zero; 19 a second AT_KDF_INPUT; 10 an eighteenth AT_KDF. At the end: 19 no
+ * AT_KDF_INPUT; 10 no AT_KDF. */
+kv_area kv_read_area(const uint8_t *area, size_t area_len, const uint8_t *own_name, size_t own_name_len, uint16_t *out,
+                     size_t out_len);
+
+#ifdef __cplusplus
+}
+#endif
+
+#endif
