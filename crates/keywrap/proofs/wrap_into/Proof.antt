@@ -1,4 +1,4 @@
--- `keywrap::wrap_into` meets its contract.
+-- `keywrap::wrap_into` meets its contract: the part from byte 8 on holds the key, then the wrapped blocks, and A comes before it.
 -- Assumes nothing.
 use Rattle.keywrap.proofs.Parts.{wrapped-in-place}
 use lib.ListN.{length}

@@ -1,4 +1,4 @@
--- `keywrap::wrap_passes` meets its contract.
+-- `keywrap::wrap_passes` meets its contract: after j turns A and the blocks are those of j passes, and the count is n * j.
 -- Assumes nothing.
 use Rattle.keywrap.specs.Rfc3394.{Registers, wrapPasses}
 use Rattle.aes128.specs.Cipher.{cipher}
