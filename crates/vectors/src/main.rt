@@ -1,6 +1,8 @@
 // Runs the published vectors of the primitives, one line for each: its source, its input in words, what came out. The file stdout beside
 // src/ has what the publications say; docs/VECTORS.md names them.
+ghost use Prim.Native.Nat.{_≤_};
 use libc::STDOUT_FILENO;
+use refusal::Written;
 use sha256::Sha256;
 
 // Writes a name, the bytes in hexadecimal, and a line end.
@@ -126,8 +128,179 @@ fn rfc_4231() {
     );
 }
 
+// The sixteen bytes of a block as the state of FIPS 197, section 3.4: four columns of four bytes.
+fn columns(b: [u8; 16]) -> [[u8; 4]; 4] {
+    [
+        [b[0], b[1], b[2], b[3]],
+        [b[4], b[5], b[6], b[7]],
+        [b[8], b[9], b[10], b[11]],
+        [b[12], b[13], b[14], b[15]],
+    ]
+}
+
+// A state as the sixteen bytes of a block.
+fn bytes(s: [[u8; 4]; 4]) -> [u8; 16] {
+    [
+        s[0][0],
+        s[0][1],
+        s[0][2],
+        s[0][3],
+        s[1][0],
+        s[1][1],
+        s[1][2],
+        s[1][3],
+        s[2][0],
+        s[2][1],
+        s[2][2],
+        s[2][3],
+        s[3][0],
+        s[3][1],
+        s[3][2],
+        s[3][3],
+    ]
+}
+
+// A block encrypted, and what comes of it decrypted again.
+fn cipher(name: &[u8], key: [u8; 16], block: [u8; 16]) {
+    let schedule = aes128::expand_key(columns(key));
+    let hidden = aes128::encrypt(&schedule, columns(block));
+    line(name, &bytes(hidden));
+    let shown = aes128::decrypt(&schedule, hidden);
+    line(name, &bytes(shown));
+}
+
+// FIPS 197: the cipher examples of appendix B and appendix C.1.
+fn fips_197() {
+    cipher(
+        b"FIPS 197 appendix B",
+        [
+            0x2b,
+            0x7e,
+            0x15,
+            0x16,
+            0x28,
+            0xae,
+            0xd2,
+            0xa6,
+            0xab,
+            0xf7,
+            0x15,
+            0x88,
+            0x09,
+            0xcf,
+            0x4f,
+            0x3c,
+        ],
+        [
+            0x32,
+            0x43,
+            0xf6,
+            0xa8,
+            0x88,
+            0x5a,
+            0x30,
+            0x8d,
+            0x31,
+            0x31,
+            0x98,
+            0xa2,
+            0xe0,
+            0x37,
+            0x07,
+            0x34,
+        ],
+    );
+    cipher(
+        b"FIPS 197 appendix C.1",
+        [0, 1, 2, 3, 4, 5, 6, 7, 8, 9, 10, 11, 12, 13, 14, 15],
+        [
+            0x00,
+            0x11,
+            0x22,
+            0x33,
+            0x44,
+            0x55,
+            0x66,
+            0x77,
+            0x88,
+            0x99,
+            0xaa,
+            0xbb,
+            0xcc,
+            0xdd,
+            0xee,
+            0xff,
+        ],
+    );
+}
+
+// A key wrapped under the KEK of RFC 3394, section 4.1, and what comes of it unwrapped again.
+fn wrap(name: &[u8], key: &[u8]) {
+    let kek = [0, 1, 2, 3, 4, 5, 6, 7, 8, 9, 10, 11, 12, 13, 14, 15];
+    let mut wrapped = [0u8; 200];
+    let Written::Wrote(n) = keywrap::wrap(kek, key, &mut wrapped) else {
+        return;
+    };
+    let m = within(n, 200);
+    line(name, &wrapped[..m]);
+    let mut back = [0u8; 200];
+    let Written::Wrote(k) = keywrap::unwrap(kek, &wrapped[..m], &mut back) else {
+        return;
+    };
+    let j = within(k, 200);
+    line(name, &back[..j]);
+}
+
+// The lesser of two numbers.
+fn within(n: usize, most: usize) -> usize
+    ensures { λ r. ⌜ r ≤ most ⌝ }
+{
+    if n <= most { n } else { most }
+}
+
+// 192 bytes, of which byte i is 7 i + 3 modulo 256.
+fn counted() -> [u8; 192] {
+    let mut r = [0u8; 192];
+    for i in 0..192usize {
+        r[i] = ((7 * i + 3) % 256) as u8;
+    }
+    r
+}
+
+// RFC 3394, section 4.1, and longer keys under its KEK.
+fn rfc_3394() {
+    wrap(
+        b"RFC 3394 section 4.1",
+        &[
+            0x00,
+            0x11,
+            0x22,
+            0x33,
+            0x44,
+            0x55,
+            0x66,
+            0x77,
+            0x88,
+            0x99,
+            0xaa,
+            0xbb,
+            0xcc,
+            0xdd,
+            0xee,
+            0xff,
+        ],
+    );
+    let key = counted();
+    wrap(b"RFC 3394 24 bytes", &key[..24]);
+    wrap(b"RFC 3394 32 bytes", &key[..32]);
+    wrap(b"RFC 3394 64 bytes", &key[..64]);
+    wrap(b"RFC 3394 192 bytes", &key);
+}
+
 fn main() {
     nist();
     edges();
     rfc_4231();
+    fips_197();
+    rfc_3394();
 }

@@ -1,0 +1,115 @@
+/* A day in the life of a yard controller, call by call: it derives a siding's key, agrees with a handheld on a key derivation
+ * function, reads the attribute area that carried the offers, and sends the siding's key to a neighbour as a RADIUS Key attribute, which
+ * the neighbour opens. Each step prints what came out; examples/siding.expected has what must come out. */
+#include "ketvaulo.h"
+
+#include <stdio.h>
+#include <stdlib.h>
+#include <string.h>
+
+static void print_bytes(const char *name, const uint8_t *bytes, size_t count)
+{
+    printf("%s ", name);
+    for (size_t i = 0; i < count; i++)
+        printf("%02x", bytes[i]);
+    printf("\n");
+}
+
+/* Every call answers with a number: 0 is acceptance, and anything else names what was wrong with the input. */
+static void expect_accepted(const char *call, uint32_t refusal)
+{
+    if (refusal != 0) {
+        printf("%s refused %u\n", call, (unsigned)refusal);
+        exit(1);
+    }
+}
+
+/* The siding's key under the EMSK of a login: label and data keep the sidings apart. */
+static void derive_key(const uint8_t emsk[64], uint8_t key[32])
+{
+    static const uint8_t label[] = "gate", data[] = "12";
+    kv_outcome r = kv_usage_key(emsk, 64, label, 4, data, 2, 32, key, 32);
+    expect_accepted("kv_usage_key", r.refusal);
+    printf("usage key of %u bytes\n", (unsigned)r.value);
+    print_bytes("key", key, 32);
+}
+
+/* A label with a zero byte is refused, and the buffer keeps every byte. */
+static void refused_label(const uint8_t emsk[64])
+{
+    static const uint8_t label[] = { 'g', 'a', 't', 'e', 0 };
+    uint8_t out[4] = { 1, 2, 3, 4 };
+    kv_outcome r = kv_usage_key(emsk, 64, label, 5, NULL, 0, 4, out, 4);
+    printf("label with a zero byte: refused %u\n", (unsigned)r.refusal);
+    print_bytes("out", out, 4);
+}
+
+/* The server offers 2 and 1; the handheld supports 1 alone, asks for it, and checks what the server answers. */
+static void negotiate(void)
+{
+    static const uint16_t offers[] = { 2, 1 }, supported[] = { 1 };
+    kv_first_round first = kv_choose_offer(offers, 2, supported, 1);
+    expect_accepted("kv_choose_offer", first.refusal);
+    printf("%s %u at %u\n", first.ask ? "ask" : "carry on", (unsigned)first.value, (unsigned)first.position);
+
+    uint16_t renewed[17];
+    kv_outcome server = kv_answer_offer(offers, 2, (uint16_t)first.value, renewed, 17);
+    expect_accepted("kv_answer_offer", server.refusal);
+    printf("server sends");
+    for (size_t i = 0; i < server.value; i++)
+        printf(" %u", (unsigned)renewed[i]);
+    printf("\n");
+
+    kv_outcome peer = kv_check_renewed(offers, 2, (uint16_t)first.value, renewed, server.value);
+    expect_accepted("kv_check_renewed", peer.refusal);
+    printf("agreed on %u\n", (unsigned)peer.value);
+}
+
+/* Two AT_KDF and the network's name, as they stand in an EAP-AKA' message. */
+static void read_area(void)
+{
+    static const uint8_t area[] = { 0x18, 1, 0, 2, 0x18, 1, 0, 1, 0x17, 2, 0, 3, 'W', 'L', 'N', 0 };
+    uint16_t offers[17];
+    kv_area r = kv_read_area(area, sizeof area, (const uint8_t *)"WLN", 3, offers, 17);
+    expect_accepted("kv_read_area", r.refusal);
+    printf("offers");
+    for (size_t i = 0; i < r.offers; i++)
+        printf(" %u", (unsigned)offers[i]);
+    printf("\nname %.*s, %s\n", (int)r.name_len, (const char *)area + r.name_at, r.same_name ? "our own" : "another");
+}
+
+/* The key travels wrapped under a KEK that both ends hold, and is opened there. */
+static void send_key(const uint8_t key[32])
+{
+    static const uint8_t kek[16] = { 0, 1, 2, 3, 4, 5, 6, 7, 8, 9, 10, 11, 12, 13, 14, 15 };
+    static const uint8_t kek_id[16] = "yard kek 0000001", key_id[16] = "siding gate/0012";
+    uint8_t attribute[252];
+    kv_outcome sent = kv_write_key_attribute(26, 7, kek_id, 16, key_id, 16, 3600, kek, 16, key, 32, attribute,
+                                             sizeof attribute);
+    expect_accepted("kv_write_key_attribute", sent.refusal);
+    print_bytes("attribute", attribute, sent.value);
+
+    uint8_t opened[192];
+    kv_key_attribute got = kv_read_key_attribute(kek, 16, attribute, sent.value, opened, sizeof opened);
+    expect_accepted("kv_read_key_attribute", got.refusal);
+    printf("type %u, App ID %u, lifetime %u, Key ID %.16s\n", (unsigned)got.type, (unsigned)got.app_id,
+           (unsigned)got.lifetime, (const char *)got.key_id);
+    print_bytes("opened", opened, got.key_len);
+
+    attribute[60] ^= 1;
+    got = kv_read_key_attribute(kek, 16, attribute, sent.value, opened, sizeof opened);
+    printf("spoilt on the way: refused %u\n", (unsigned)got.refusal);
+}
+
+int main(void)
+{
+    uint8_t emsk[64], key[32];
+    for (size_t i = 0; i < sizeof emsk; i++)
+        emsk[i] = (uint8_t)i;
+    derive_key(emsk, key);
+    refused_label(emsk);
+    negotiate();
+    read_area();
+    send_key(key);
+    return 0;
+}
