@@ -9,8 +9,9 @@ use native.Mathlib.Omega.{arith}
 use lib.ListN.{length, take, drop, replicate, set, getD, length-set, length-append, length-replicate, getD-replicate, replicate-append-replicate, drop-of-length-le}
 use lib.Dec.{lit≤}
 use lib.Seq.{sets-eq, paste, paste-zero, paste-suc, length-paste, take-suc-set, take-append-add, take-at, drop-at, take-all, length-take-le}
-use Rattle.sha256_block.specs.Fips180.{compress, padding, zeros, be32, be64, blocks}
+use Rattle.sha256_block.specs.Fips180.{compress, padding, be32, be64, blocks}
 use Rattle.sha256_block.proofs.Blocks.{one-block}
+use Rattle.sha256_block.proofs.Padding.{padding-length}
 use Rattle.sha256.specs.Steps.{closing}
 
 take-replicate : (z m : ℕ) → z ≤ m → take {A = ℕ} z (replicate m 0) ≡ replicate z 0
@@ -130,10 +131,6 @@ filled-kept b a xs l h k e =
     room a x y p q h = omega arith
 
 -- ---- the padding
-
-pub padding-length : (n : ℕ) → length (padding n) ≡ suc (zeros n + 8)
-unfolding padding
-padding-length n = ap suc (length-append (replicate (zeros n) 0) (be64 (8 * n % 2 ^ 64)) ∙ ap (λ (k : ℕ). k + 8) (length-replicate (zeros n) 0))
 
 -- a message of two blocks
 two-blocks : (h b c : List ℕ) → length b ≡ 64 → length c ≡ 64 → blocks (length (b ++ c) / 64) h (b ++ c) ≡ compress (compress h b) c

@@ -17,7 +17,7 @@ use Rattle.sha256.specs.declared.Sha256.{Sha256}
 use Rattle.sha256.specs.Stream.{pickList, absorb1, absorbed, started, finished}
 use Rattle.sha256.specs.Steps.{closing}
 use Rattle.sha256_block.proofs.Blocks.{one-block}
-use Rattle.sha256.proofs.Closing.{padding-length}
+use Rattle.sha256_block.proofs.Padding.{padding-length}
 
 -- absorbing two pieces is absorbing them joined
 pub absorbed-append : (s : Sha256) (xs ys : List ℕ) → absorbed s (xs ++ ys) ≡ absorbed (absorbed s xs) ys

@@ -1,3 +1,4 @@
+pub mod Padding
 pub mod Schedule
 mod Bits
 mod Rounds

@@ -54,7 +54,7 @@ be32 x = x / 2 ^ 24 % 256 ∷ x / 2 ^ 16 % 256 ∷ x / 2 ^ 8 % 256 ∷ x % 256 �
 abbrev pub be64 : ℕ → List ℕ
 be64 x = be32 (x / 2 ^ 32) ++ be32 (x % 2 ^ 32)
 
--- 5.1.1: the zero bytes in the padding of a message of n bytes, the fewest for which n + 1 + zeros n is 56 modulo 64
+-- 5.1.1: the zero bytes in the padding of a message of n bytes, the fewest for which n + 1 + zeros n is 56 modulo 64 (proofs/Padding.antt)
 abbrev pub zeros : ℕ → ℕ
 zeros n = (119 - n % 64) % 64
 
