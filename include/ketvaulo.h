@@ -99,6 +99,31 @@ typedef struct {
 kv_area kv_read_area(const uint8_t *area, size_t area_len, const uint8_t *own_name, size_t own_name_len, uint16_t *out,
                      size_t out_len);
 
+/* The RADIUS Key attribute (type, length, App ID, KEK ID, Key ID, lifetime, and a key wrapped under a KEK by RFC 3394 with AES-128).
+ * It is 60 bytes longer than its key; numbers are high byte first in it. What is written reads back to the same fields and key under
+ * the same KEK, and what is accepted, written again, is the same bytes. */
+
+/* Writes the attribute that carries a key of `key_len` bytes, and returns the attribute's length.
+ * Refusals, in this order: 20 type 0; 21 KEK ID or Key ID not 16 bytes; 22 KEK not 16 bytes; 23 key not a multiple of 8 from 16 to 192
+ * bytes; 6 `out` has no room for the attribute. */
+kv_outcome kv_write_key_attribute(uint8_t type, uint32_t app_id, const uint8_t *kek_id, size_t kek_id_len,
+                                  const uint8_t *key_id, size_t key_id_len, uint32_t lifetime, const uint8_t *kek,
+                                  size_t kek_len, const uint8_t *key, size_t key_len, uint8_t *out, size_t out_len);
+
+/* What reading a Key attribute returns: its fields and the length of the key written to `out`. On a refusal every field but
+ * `refusal` is 0. */
+typedef struct {
+    uint32_t refusal, app_id, lifetime, key_len;
+    uint8_t type, kek_id[16], key_id[16];
+} kv_key_attribute;
+
+/* Reads an attribute of `attribute_len` bytes and writes its key. No byte of the key is written before the unwrapping is known to be
+ * right. Refusals, in this order: 22 KEK not 16 bytes; 24 fewer than 2 bytes, a length byte unequal to `attribute_len`, or a length
+ * that is not 60 plus a multiple of 8 from 16 to 192; 20 type 0; 25 reserved byte not zero; 26 Enc Type not 0; 27 IV field not eight
+ * bytes A6; 6 `out` has no room for the key; 28 the unwrapping does not yield the initial value. */
+kv_key_attribute kv_read_key_attribute(const uint8_t *kek, size_t kek_len, const uint8_t *attribute,
+                                       size_t attribute_len, uint8_t *out, size_t out_len);
+
 #ifdef __cplusplus
 }
 #endif

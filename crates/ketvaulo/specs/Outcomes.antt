@@ -6,7 +6,10 @@ use Rattle.refusal.specs.Checks.{bare}
 use Rattle.refusal.specs.Answers.{Answer, wrote, refused}
 use Rattle.offers.specs.Answers.{FirstAnswer, carryOn, ask, RenewedAnswer, accepted}
 use Rattle.area.specs.Area.{AreaAnswer, answered}
+use Rattle.key_frame.specs.declared.KeyFields.{KeyFields}
+use Rattle.key_attribute.specs.KeyAttribute.{Reading, noFields}
 use Rattle.ketvaulo.specs.declared.Outcome.{Outcome}
+use Rattle.ketvaulo.specs.declared.KeyAttributeOutcome.{KeyAttributeOutcome}
 use Rattle.ketvaulo.specs.declared.AreaOutcome.{AreaOutcome}
 use Rattle.ketvaulo.specs.declared.FirstRoundOutcome.{FirstRoundOutcome}
 
@@ -47,3 +50,20 @@ areaOutcome (AreaAnswer.refused (bare k)) = record { refusal = k; offers = 0; at
 abbrev pub countIn : AreaAnswer → ℕ
 countIn (answered count nameAt nameLen same) = count
 countIn (AreaAnswer.refused x) = 0
+
+-- kv_key_attribute: the fields and the key's length; or the number and zeros
+abbrev pub keyReturned : Outcome → KeyFields → KeyAttributeOutcome
+keyReturned o f =
+    record {
+      refusal = o .refusal;
+      «app_id» = f .«app_id»;
+      lifetime = f .lifetime;
+      «key_len» = o .value;
+      «attribute_type» = f .«attribute_type»;
+      «kek_id» = f .«kek_id»;
+      «key_id» = f .«key_id»;
+    }
+
+abbrev pub keyOutcome : Reading → KeyAttributeOutcome
+keyOutcome (Reading.accepted f n) = keyReturned (record { refusal = 0; value = n }) f
+keyOutcome (Reading.refused (bare k)) = keyReturned (record { refusal = k; value = 0 }) noFields

@@ -12,8 +12,10 @@ ghost use Rattle.visited.specs.Visited.{vmskCheck, vmskKey, reauthCheck, reauth
 ghost use Rattle.key_name.specs.Ndf64.{nameCheck, nameOf};
 ghost use Rattle.offers.specs.Answers.{firstRoundOf, firstRound, serverAnswer, serverBuffer, renewedOf, renewedAnswer};
 ghost use Rattle.area.specs.Area.{areaAnswerOf, areaAnswer, areaBuffer};
-ghost use Rattle.ketvaulo.specs.Outcomes.{outcomeOf, firstRoundOutcome, positionIn, renewedOutcome, flagOf, areaOutcome, countIn};
+ghost use Rattle.key_attribute.specs.KeyAttribute.{fieldsOf, writeAnswer, writeBuffer, reading, readBuffer};
+ghost use Rattle.ketvaulo.specs.Outcomes.{outcomeOf, firstRoundOutcome, positionIn, renewedOutcome, flagOf, areaOutcome, countIn, keyOutcome, keyReturned};
 use area::AreaRead;
+use key_attribute::KeyRead;
 use offers::FirstRound;
 use offers::Renewed;
 use refusal::Checked;
@@ -252,4 +254,77 @@ pub extern "C" fn kv_read_area(area: &[u8], own_name: &[u8], out: &mut [u16]) ->
     ensures buffer { λ _. ⌜ now (out .exit) ≡ areaBuffer (now (area .entry)) (now (out .entry)) ⌝ }
 {
     area_returned(area::read_area(area, own_name, out))
+}
+
+// What reading a Key attribute returns to C. Every field but the number is 0 on a refusal.
+#[repr(C)]
+pub struct KeyAttributeOutcome {
+    pub refusal: u32,
+    pub app_id: u32,
+    pub lifetime: u32,
+    pub key_len: u32,
+    pub attribute_type: u8,
+    pub kek_id: [u8; 16],
+    pub key_id: [u8; 16],
+}
+
+// Source document 004, section 3.1: the Key attribute that carries a key, wrapped under a KEK.
+#[no_mangle]
+pub extern "C" fn kv_write_key_attribute(
+    attribute_type: u8,
+    app_id: u32,
+    kek_id: &[u8],
+    key_id: &[u8],
+    lifetime: u32,
+    kek: &[u8],
+    key: &[u8],
+    out: &mut [u8],
+) -> Outcome
+    ensures answer { λ r. ⌜ r ≡ outcomeOf (writeAnswer (fieldsOf «attribute_type» «app_id» (now («kek_id» .entry)) (now («key_id» .entry)) lifetime) (now (kek .entry)) (now (key .entry)) (length (now (out .entry)))) ⌝ }
+    ensures buffer { λ _. ⌜ now (out .exit) ≡ writeBuffer (fieldsOf «attribute_type» «app_id» (now («kek_id» .entry)) (now («key_id» .entry)) lifetime) (now (kek .entry)) (now (key .entry)) (now (out .entry)) ⌝ }
+{
+    returned(key_attribute::write(
+        attribute_type,
+        app_id,
+        kek_id,
+        key_id,
+        lifetime,
+        kek,
+        key,
+        out,
+    ))
+}
+
+// What reading a Key attribute answers, for C. A key has at most 192 bytes, so its length fits.
+fn key_returned(read: KeyRead) -> KeyAttributeOutcome
+    requires { ⌜ outcomeOf (answerOf (read .answer)) .value < 2 ^ 32 ⌝ }
+    ensures { λ r. ⌜ r ≡ keyReturned (outcomeOf (answerOf (read .answer))) (read .fields) ⌝ }
+{
+    let given = read.answer;
+    let answer = returned(given);
+    let fields = read.fields;
+    let kek_id = fields.kek_id;
+    let key_id = fields.key_id;
+    KeyAttributeOutcome {
+        refusal: answer.refusal,
+        app_id: fields.app_id,
+        lifetime: fields.lifetime,
+        key_len: answer.value as u32,
+        attribute_type: fields.attribute_type,
+        kek_id,
+        key_id,
+    }
+}
+
+// Source document 004, section 3.1: the fields and the key of a Key attribute.
+#[no_mangle]
+pub extern "C" fn kv_read_key_attribute(
+    kek: &[u8],
+    attribute: &[u8],
+    out: &mut [u8],
+) -> KeyAttributeOutcome
+    ensures answer { λ r. ⌜ r ≡ keyOutcome (reading (now (kek .entry)) (now (attribute .entry)) (length (now (out .entry)))) ⌝ }
+    ensures buffer { λ _. ⌜ now (out .exit) ≡ readBuffer (now (kek .entry)) (now (attribute .entry)) (now (out .entry)) ⌝ }
+{
+    key_returned(key_attribute::read(kek, attribute, out))
 }

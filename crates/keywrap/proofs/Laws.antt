@@ -2,6 +2,7 @@
 -- KEK of bytes, for a key of any length: the passes run over its whole blocks of eight.
 -- Assumes nothing.
 use mathlib.Core.Path.{_≡_, refl, sym, ap, ap₂, _∙_}
+use mathlib.Core.Bool.{true}
 use mathlib.Core.List.{List, [], _∷_, _++_}
 use Prim.Native.Nat.{ℕ, _+_, _-_, _*_, _/_, _≤_, _<_}
 use native.Mathlib.Omega.{arith}
@@ -11,7 +12,7 @@ use Rattle.aes128.specs.State.{State, Block, block, column}
 use Rattle.aes128.specs.Cipher.{cipher, invCipher}
 use Rattle.aes128.proofs.Rounds.{Keys, cipher-block, invCipher-block, uncipher, recipher, expandKey-keys}
 use Rattle.keywrap.specs.Calls.{Bytes, keyLength}
-use Rattle.keywrap.specs.Rfc3394.{initialValue, Registers, wrapPasses, unwrapPasses, keyState, roundKeys, wrapRegisters, wrapped, unwrapRegisters, unwrappedIv, unwrappedKey}
+use Rattle.keywrap.specs.Rfc3394.{initialValue, Registers, wrapPasses, unwrapPasses, keyState, roundKeys, passesOf, wrapRegisters, wrapped, unwrapRegisters, unwrappedIv, unwrappedKey}
 use Rattle.keywrap.proofs.Bytes.{bytes-append, bytes-take, bytes-drop, half-of, half-bytes, half-length, initial-half}
 use Rattle.keywrap.proofs.Steps.{Ready, registers≡, passes-ready, unpasses-ready, unpasses-passes, passes-unpasses}
 
@@ -78,8 +79,8 @@ module _ (kek : List ℕ) (k : Bytes kek) where
         let r : List ℕ = wrapRegisters kek key .1 in
         let f = half-length (wrap-ready .first) in
         let s = wrap-ready .count in
-        let n : (length (a ++ r) - 8) / 8 ≡ length key / 8 = simp length-append (ap (λ (m : ℕ). m / 8) (omega arith)) in
-        ap₂ (λ (m : ℕ) (x : Registers). unwrapPasses (invCipher (roundKeys kek)) m 6 x) n (registers≡ (take-at a r 8 f) (drop-at a r 8 f))
+        ap (passesOf true kek) (registers≡ (take-at a r 8 f) (drop-at a r 8 f))
+        ∙ ap (λ (m : ℕ). unwrapPasses (invCipher (roundKeys kek)) (m / 8) 6 (a, r)) s
         ∙ unwrap-wrap
 
     -- unwrapping a wrapped key yields the initial value and the key
@@ -92,19 +93,22 @@ module _ (kek : List ℕ) (k : Bytes kek) where
     unwrap-key = ap (λ (x : Registers). x .1) again
 
   module _ (w : List ℕ) (b : Bytes w) (long : 8 ≤ length w) where
-    rest-blocks : (length w - 8) / 8 * 8 ≤ length w - 8
-    rest-blocks = omega arith
+    rest : length (drop 8 w) ≡ length w - 8
+    rest = length-drop 8 w
+
+    rest-blocks : length (drop 8 w) / 8 * 8 ≤ length w - 8
+    rest-blocks = let e = rest in omega arith
 
     received : Ready (length w - 8) (take 8 w, drop 8 w)
-    received = record { first = half-of (take 8 w) (length-take-le 8 w long) (bytes-take 8 w b); bytes = bytes-drop 8 w b; count = length-drop 8 w }
+    received = record { first = half-of (take 8 w) (length-take-le 8 w long) (bytes-take 8 w b); bytes = bytes-drop 8 w b; count = rest }
 
     unwrap-ready : Ready (length w - 8) (unwrapRegisters kek w)
     unfolding unwrapRegisters D
-    unwrap-ready = unpasses-ready E D keepsE keepsD undone redone (length w - 8) ((length w - 8) / 8) rest-blocks 6 (take 8 w, drop 8 w) received
+    unwrap-ready = unpasses-ready E D keepsE keepsD undone redone (length w - 8) (length (drop 8 w) / 8) rest-blocks 6 (take 8 w, drop 8 w) received
 
-    wrap-unwrap : wrapPasses (cipher (roundKeys kek)) ((length w - 8) / 8) 6 (unwrapRegisters kek w) ≡ (take 8 w, drop 8 w)
+    wrap-unwrap : wrapPasses (cipher (roundKeys kek)) (length (drop 8 w) / 8) 6 (unwrapRegisters kek w) ≡ (take 8 w, drop 8 w)
     unfolding unwrapRegisters E D
-    wrap-unwrap = passes-unpasses E D keepsE keepsD undone redone (length w - 8) ((length w - 8) / 8) rest-blocks 6 (take 8 w, drop 8 w) received
+    wrap-unwrap = passes-unpasses E D keepsE keepsD undone redone (length w - 8) (length (drop 8 w) / 8) rest-blocks 6 (take 8 w, drop 8 w) received
 
     pub length-unwrappedIv : length (unwrappedIv kek w) ≡ 8
     unfolding unwrappedIv
@@ -123,5 +127,5 @@ module _ (kek : List ℕ) (k : Bytes kek) where
     unfolding unwrappedIv unwrappedKey wrapped wrapRegisters
     wrap-again e =
         let q : wrapPasses (cipher (roundKeys kek)) (length (unwrapRegisters kek w .1) / 8) 6 (initialValue, unwrapRegisters kek w .1) ≡ (take 8 w, drop 8 w)
-        = ap₂ (λ (m : ℕ) (a : List ℕ). wrapPasses (cipher (roundKeys kek)) (m / 8) 6 (a, unwrapRegisters kek w .1)) (unwrap-ready .count) (sym e) ∙ wrap-unwrap in
+        = ap₂ (λ (m : ℕ) (a : List ℕ). wrapPasses (cipher (roundKeys kek)) (m / 8) 6 (a, unwrapRegisters kek w .1)) (unwrap-ready .count ∙ sym rest) (sym e) ∙ wrap-unwrap in
         ap (λ (x : Registers). x .0 ++ x .1) q ∙ take-append-drop 8 w

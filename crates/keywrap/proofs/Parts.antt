@@ -21,7 +21,7 @@ use Rattle.aes128.specs.Cipher.{cipher, invCipher}
 use Rattle.aes128.specs.KeyExpansion.{expandKey}
 use Rattle.aes128.proofs.Xor.{xor-cancel}
 use Rattle.keywrap.specs.Calls.{sameBytes, wrappable, check23, check28, keyLength, wrapCheck, unwrapCheck}
-use Rattle.keywrap.specs.Rfc3394.{joined, high, low, addCount, initialValue, blockAt, withBlock, Registers, wrapStep, unwrapStep, wrapPass, unwrapPass, wrapPasses, unwrapPasses, keyState, roundKeys, wrapRegisters, wrapped, unwrapRegisters, unwrappedIv, unwrappedKey}
+use Rattle.keywrap.specs.Rfc3394.{joined, high, low, addCount, initialValue, blockAt, withBlock, Registers, wrapStep, unwrapStep, wrapPass, unwrapPass, wrapPasses, unwrapPasses, keyState, roundKeys, passesOf, wrapRegisters, wrapped, unwrapRegisters, unwrappedIv, unwrappedKey}
 use Rattle.keywrap.proofs.Bytes.{Eight, eight, eight-of}
 use Rattle.keywrap.proofs.Steps.{registers≡}
 
@@ -248,8 +248,29 @@ unwrap-passed m room kek bytes h e =
 drop-part : (n k : ℕ) (l z : List ℕ) → n ≤ length l → drop n (putMid n k l z) ≡ z ++ drop k (drop n l)
 drop-part n k l z h = drop-at (take n l) (z ++ drop k (drop n l)) n (length-take-le n l h)
 
-module _ (kek key out : List ℕ) (st : State) (ks : List State) (k : ℕ) (z : List ℕ)
-    (room : length key + 8 ≤ length out) (ek : k ≡ length key) (ez : z ≡ key) (est : st ≡ keyState kek) (eks : ks ≡ expandKey st) where
+-- all passes, under the round keys that the code expands
+module _ (kek : List ℕ) (st : State) (ks : List State) (a b r z : List ℕ) (est : st ≡ keyState kek) (eks : ks ≡ expandKey st) where
+  keys-are : ks ≡ roundKeys kek
+  unfolding roundKeys
+  keys-are = eks ∙ ap expandKey est
+
+  pub passes-forward : r ≡ wrapPasses (cipher ks) (length b / 8) 6 (a, b) .0 → z ≡ wrapPasses (cipher ks) (length b / 8) 6 (a, b) .1
+      → (back : Bool) → back ≡ false → (r ≡ passesOf back kek (a, b) .0) × (z ≡ passesOf back kek (a, b) .1)
+  passes-forward p q true e = let n : _≡_ {A = ℕ} 0 1 = cc in absurd (omega arith)
+  passes-forward p q false e = (
+    p ∙ ap (λ (k : List State). wrapPasses (cipher k) (length b / 8) 6 (a, b) .0) keys-are,
+    q ∙ ap (λ (k : List State). wrapPasses (cipher k) (length b / 8) 6 (a, b) .1) keys-are,
+  )
+
+  pub passes-back : r ≡ unwrapPasses (invCipher ks) (length b / 8) 6 (a, b) .0 → z ≡ unwrapPasses (invCipher ks) (length b / 8) 6 (a, b) .1
+      → (back : Bool) → back ≡ true → (r ≡ passesOf back kek (a, b) .0) × (z ≡ passesOf back kek (a, b) .1)
+  passes-back p q false e = let n : _≡_ {A = ℕ} 0 1 = cc in absurd (omega arith)
+  passes-back p q true e = (
+    p ∙ ap (λ (k : List State). unwrapPasses (invCipher k) (length b / 8) 6 (a, b) .0) keys-are,
+    q ∙ ap (λ (k : List State). unwrapPasses (invCipher k) (length b / 8) 6 (a, b) .1) keys-are,
+  )
+
+module _ (kek key out : List ℕ) (k : ℕ) (z : List ℕ) (room : length key + 8 ≤ length out) (ek : k ≡ length key) (ez : z ≡ key) where
   placed : drop 8 (putMid 8 k out z) ≡ z ++ drop k (drop 8 out)
   placed = drop-part 8 k out z (omega arith)
 
@@ -260,42 +281,32 @@ module _ (kek key out : List ℕ) (st : State) (ks : List State) (k : ℕ) (z : 
   key-there = ap (take k) placed ∙ take-at z (drop k (drop 8 out)) k z-length ∙ ez
 
   pub wrapped-in-place : (a r f : List ℕ)
-      → a ≡ wrapPasses (cipher ks) (length key / 8) 6 (initialValue, midOf 8 k (putMid 8 k out z)) .0
-      → r ≡ wrapPasses (cipher ks) (length key / 8) 6 (initialValue, midOf 8 k (putMid 8 k out z)) .1
+      → a ≡ passesOf false kek (initialValue, midOf 8 k (putMid 8 k out z)) .0
+      → r ≡ passesOf false kek (initialValue, midOf 8 k (putMid 8 k out z)) .1
       → f ≡ a ++ drop 8 (putMid 8 k (putMid 8 k out z) r)
       → f ≡ wrapped kek key ++ drop (length key + 8) out
-  unfolding wrapped wrapRegisters roundKeys
+  unfolding wrapped wrapRegisters
   wrapped-in-place a r f ea er ef =
-      let q : wrapPasses (cipher ks) (length key / 8) 6 (initialValue, midOf 8 k (putMid 8 k out z))
-      ≡ wrapPasses (cipher (expandKey (keyState kek))) (length key / 8) 6 (initialValue, key)
-      = ap₂ (λ (c : List State) (m : List ℕ). wrapPasses (cipher c) (length key / 8) 6 (initialValue, m)) (eks ∙ ap expandKey est) key-there in
       let w : List ℕ = putMid 8 k out z in
       let l : 8 ≤ length w = rw (same-len-mid 8 k out z (z-length ∙ sym (length-take-le k (drop 8 out) (simp length-drop (omega arith))))) (omega arith) in
       let e8 : 8 + k ≡ length key + 8 = omega arith in
       let d : drop 8 (putMid 8 k w r) ≡ r ++ drop (length key + 8) out
       = drop-part 8 k w r l
       ∙ ap (λ (x : List ℕ). r ++ x)
-      (ap (drop k) placed
-      ∙ drop-at z (drop k (drop 8 out)) k z-length
-      ∙ drop-drop k 8 out
-      ∙ ap (λ (n : ℕ). drop n out) e8) in
+      (ap (drop k) placed ∙ drop-at z (drop k (drop 8 out)) k z-length ∙ drop-drop k 8 out ∙ ap (λ (n : ℕ). drop n out) e8) in
       ef
       ∙ ap (λ (x : List ℕ). a ++ x) d
       ∙ sym (append-assoc a r (drop (length key + 8) out))
-      ∙ ap (λ (x : List ℕ). x ++ drop (length key + 8) out) (ap₂ (λ (x y : List ℕ). x ++ y) (ea ∙ ap (λ (x : Registers). x .0) q) (er ∙ ap (λ (x : Registers). x .1) q))
+      ∙ ap (λ (x : List ℕ). x ++ drop (length key + 8) out)
+      (ap₂ (λ (x y : List ℕ). x ++ y) (ea ∙ ap (λ (m : List ℕ). passesOf false kek (initialValue, m) .0) key-there)
+      (er ∙ ap (λ (m : List ℕ). passesOf false kek (initialValue, m) .1) key-there))
 
-pub unwrapped-in-scratch : (kek bytes : List ℕ) (st : State) (ks : List State) (s v a r : List ℕ)
-    → s ≡ take (length bytes - 8) (drop 8 bytes) → st ≡ keyState kek → ks ≡ expandKey st → v ≡ take 8 bytes
-    → a ≡ unwrapPasses (invCipher ks) (length s / 8) 6 (v, s) .0 → r ≡ unwrapPasses (invCipher ks) (length s / 8) 6 (v, s) .1
-    → (a ≡ unwrappedIv kek bytes) × (r ≡ unwrappedKey kek bytes)
-unfolding unwrappedIv unwrappedKey unwrapRegisters roundKeys
-unwrapped-in-scratch kek bytes st ks s v a r es est eks ev ea er =
+pub unwrapped-in-scratch : (kek bytes s v a r : List ℕ) → s ≡ take (length bytes - 8) (drop 8 bytes) → v ≡ take 8 bytes
+    → a ≡ passesOf true kek (v, s) .0 → r ≡ passesOf true kek (v, s) .1 → (a ≡ unwrappedIv kek bytes) × (r ≡ unwrappedKey kek bytes)
+unfolding unwrappedIv unwrappedKey unwrapRegisters
+unwrapped-in-scratch kek bytes s v a r es ev ea er =
     let e : s ≡ drop 8 bytes = es ∙ take-all (length bytes - 8) (drop 8 bytes) (simp length-drop (omega arith)) in
-    let n : length s ≡ length bytes - 8 = ap length e ∙ length-drop 8 bytes in
-    let q : unwrapPasses (invCipher ks) (length s / 8) 6 (v, s)
-    ≡ unwrapPasses (invCipher (expandKey (keyState kek))) ((length bytes - 8) / 8) 6 (take 8 bytes, drop 8 bytes)
-    = ap₂ (λ (c : List State) (m : ℕ). unwrapPasses (invCipher c) (m / 8) 6 (v, s)) (eks ∙ ap expandKey est) n
-    ∙ ap (unwrapPasses (invCipher (expandKey (keyState kek))) ((length bytes - 8) / 8) 6) (registers≡ ev e) in
+    let q = ap (passesOf true kek) (registers≡ ev e) in
     (ea ∙ ap (λ (x : Registers). x .0) q, er ∙ ap (λ (x : Registers). x .1) q)
 
 -- the count of bytes in the part of the scratch that is lent

@@ -18,7 +18,7 @@ ghost use Rattle.refusal.specs.Checks.{pass, _andThen_, check6};
 ghost use Rattle.refusal.specs.Answers.{checkedAs, answerOf, answerTo, bufferAfter};
 ghost use Rattle.aes128.specs.Cipher.{cipher, invCipher};
 ghost use Rattle.keywrap.specs.Calls.{wrappable, check23, check28, sameBytes, wrapCheck, unwrapCheck, keyLength};
-ghost use Rattle.keywrap.specs.Rfc3394.{joined, high as highOf, low as lowOf, addCount, initialValue, wrapPass, unwrapPass, wrapPasses, unwrapPasses, keyState, roundKeys, wrapped as wrappedOf, unwrappedIv, unwrappedKey, unwrapRegisters};
+ghost use Rattle.keywrap.specs.Rfc3394.{joined, high as highOf, low as lowOf, addCount, initialValue, wrapPass, unwrapPass, wrapPasses, unwrapPasses, keyState, passesOf, wrapped as wrappedOf, unwrappedIv, unwrappedKey};
 
 // The KEK as a state of the cipher.
 fn key_state(k: [u8; 16]) -> [[u8; 4]; 4]
@@ -179,13 +179,13 @@ fn unwrap_pass(ks: &[[[u8; 4]; 4]; 11], a: [u8; 8], b: &mut [u8], n: usize, c: u
     x
 }
 
-// Six passes over the n blocks of b, from the initial value.
-fn wrap_passes(ks: &[[[u8; 4]; 4]; 11], b: &mut [u8], n: usize) -> [u8; 8]
+// Six passes over the n blocks of b.
+fn wrap_passes(ks: &[[[u8; 4]; 4]; 11], a: [u8; 8], b: &mut [u8], n: usize) -> [u8; 8]
     requires { ⌜ (n * 8 ≤ length (now b)) × (n ≤ 24) ⌝ }
-    ensures next { λ r. ⌜ r ≡ wrapPasses (cipher (now (ks .entry))) n 6 (initialValue, now (b .entry)) .0 ⌝ }
-    ensures part { λ _. ⌜ now (b .exit) ≡ wrapPasses (cipher (now (ks .entry))) n 6 (initialValue, now (b .entry)) .1 ⌝ }
+    ensures next { λ r. ⌜ r ≡ wrapPasses (cipher (now (ks .entry))) n 6 (a, now (b .entry)) .0 ⌝ }
+    ensures part { λ _. ⌜ now (b .exit) ≡ wrapPasses (cipher (now (ks .entry))) n 6 (a, now (b .entry)) .1 ⌝ }
 {
-    let mut x = [0xa6u8; 8];
+    let mut x = a;
     let mut c: u8 = 0;
     let mut j: usize = 0;
     while j < 6 {
@@ -215,6 +215,22 @@ fn unwrap_passes(ks: &[[[u8; 4]; 4]; 11], a: [u8; 8], b: &mut [u8], n: usize) ->
     x
 }
 
+// All passes over b under the KEK, forward or back. Both ways share one function, so that the round keys, and the table that is looked
+// up at the time, take their room on the stack once.
+fn passes(kek: [u8; 16], back: bool, a: [u8; 8], b: &mut [u8]) -> [u8; 8]
+    requires { ⌜ length (now b) ≤ 192 ⌝ }
+    ensures next { λ r. ⌜ r ≡ passesOf back kek (a, now (b .entry)) .0 ⌝ }
+    ensures part { λ _. ⌜ now (b .exit) ≡ passesOf back kek (a, now (b .entry)) .1 ⌝ }
+{
+    let ks = expand_key(key_state(kek));
+    let n = b.len() / 8;
+    if back {
+        unwrap_passes(&ks, a, b, n)
+    } else {
+        wrap_passes(&ks, a, b, n)
+    }
+}
+
 // Whether the key of n bytes can be wrapped.
 fn can_wrap(n: usize) -> bool
     ensures { λ r. ⌜ r ≡ wrappable n ⌝ }
@@ -240,8 +256,7 @@ fn wrap_into(kek: [u8; 16], key: &[u8], out: &mut [u8])
 {
     let end = key.len() + 8;
     copy(key, &mut out[8..end]);
-    let ks = expand_key(key_state(kek));
-    let a = wrap_passes(&ks, &mut out[8..end], key.len() / 8);
+    let a = passes(kek, false, [0xa6; 8], &mut out[8..end]);
     put_front(out, a);
 }
 
@@ -291,9 +306,7 @@ fn unwrap_into(kek: [u8; 16], bytes: &[u8], scratch: &mut [u8]) -> [u8; 8]
     ensures part { λ _. ⌜ now (scratch .exit) ≡ unwrappedKey kek (now (bytes .entry)) ⌝ }
 {
     copy(&bytes[8..], scratch);
-    let ks = expand_key(key_state(kek));
-    let n = scratch.len() / 8;
-    unwrap_passes(&ks, front(bytes), scratch, n)
+    passes(kek, true, front(bytes), scratch)
 }
 
 // Unwraps bytes into scratch, and from there copies the key to out, if its integrity holds. Until that is known out is not written.

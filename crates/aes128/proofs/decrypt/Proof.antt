@@ -1,4 +1,4 @@
--- `aes128::decrypt` meets its contract.
+-- `aes128::decrypt` meets its contract: the turns that are left, i of them, come to what all nine come to.
 -- Assumes nothing.
 use Rattle.aes128.proofs.Rounds.{turns, turn-step, invCipher-end}
 use Rattle.aes_sbox.proofs.Tables.{invSbox-rule}

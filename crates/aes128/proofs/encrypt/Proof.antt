@@ -1,4 +1,4 @@
--- `aes128::encrypt` meets its contract.
+-- `aes128::encrypt` meets its contract: after i turns the state is that of i rounds.
 -- Assumes nothing.
 use Rattle.aes128.proofs.Rounds.{round-step, cipher-end}
 use Rattle.aes128.specs.Cipher.{rounds}

@@ -1,4 +1,4 @@
--- `keywrap::copy` meets its contract.
+-- `keywrap::copy` meets its contract: after i turns d is its old content with the first i elements of s pasted in.
 -- Assumes nothing.
 use Rattle.keywrap.proofs.Parts.{copied, copied-more}
 use lib.Seq.{paste, paste-zero, paste-suc}

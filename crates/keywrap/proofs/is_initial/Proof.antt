@@ -1,4 +1,4 @@
--- `keywrap::is_initial` meets its contract.
+-- `keywrap::is_initial` meets its contract: the differences, or-ed, are zero exactly where every byte is A6.
 -- Assumes nothing.
 use Rattle.keywrap.proofs.Parts.{no-difference}
 use borrow.Author.Needs.{needs}

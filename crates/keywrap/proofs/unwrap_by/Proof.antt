@@ -1,4 +1,4 @@
--- `keywrap::unwrap_by` meets its contract.
+-- `keywrap::unwrap_by` meets its contract, by the two outcomes of the integrity check: the buffer is written in one of them alone.
 -- Assumes nothing.
 use Rattle.keywrap.specs.Rfc3394.{initialValue, unwrappedKey}
 use Rattle.keywrap.specs.Calls.{keyLength, sameBytes}

@@ -18,25 +18,20 @@ part-copy-end c = search needs
 copy-requires : tie.Need-copy-requires
 copy-requires c κs = search needs
 
-key-state-requires : tie.Need-key-state-requires
-key-state-requires c κs = search needs
-
-expand-key-requires : tie.Need-expand-key-requires
-expand-key-requires c κs = search needs
-
 front-requires : tie.Need-front-requires
 front-requires c κs = search needs
 
-unwrap-passes-requires : tie.Need-unwrap-passes-requires
-unwrap-passes-requires c κs = search needs
+passes-requires : tie.Need-passes-requires
+passes-requires c κs = search needs
 
 same-length : tie.Need-same-length
 same-length c = search needs
 
 returns : tie.Need-returns
 returns c =
-    unwrapped-in-scratch _ (now (c .before .before .before .before .before .before .before .before .before .before .before .before .before .before .before .args .bytes)) _ _ _ _ _ _ (c .before .before .before .before .before .before .before .before .before .before .copy .ensures) (c .before .before .before .before .before .before .before .key-state .ensures) (c .before .before .before .before .before .before .expand-key .ensures)
-    (c .before .before .before .before .front .ensures) (c .before .before .unwrap-passes .ensures .0) (c .before .before .unwrap-passes .ensures .1)
+    let s = c .before .before .before .before .before .before .before .before .before .before .before .before .args in
+    unwrapped-in-scratch (s .kek) (now (s .bytes)) _ _ _ _ (c .before .before .before .before .before .before .before .copy .ensures) (c .before .before .before .before .front .ensures) (c .before .before .passes .ensures .0)
+    (c .before .before .passes .ensures .1)
 
 pub unwrap-into-spec : {M : Type 1} → statement M
 unwrap-into-spec =
@@ -46,9 +41,7 @@ unwrap-into-spec =
     part-copy-start
     part-copy-end
     copy-requires
-    key-state-requires
-    expand-key-requires
     front-requires
-    unwrap-passes-requires
+    passes-requires
     same-length
     returns)

@@ -1,4 +1,4 @@
--- `keywrap::unwrap_pass` meets its contract.
+-- `keywrap::unwrap_pass` meets its contract: what is left of the pass, from block i down, comes to what the whole pass comes to.
 -- Assumes nothing.
 use borrow.Rule.Slice.PartMut.{same-len-mid}
 use Rattle.keywrap.specs.Rfc3394.{Registers, unwrapPass}

@@ -1,4 +1,4 @@
--- `keywrap::unwrap_passes` meets its contract.
+-- `keywrap::unwrap_passes` meets its contract: the j passes that are left come to what all six come to, and the count is n * j.
 -- Assumes nothing.
 use Rattle.keywrap.specs.Rfc3394.{Registers, unwrapPasses}
 use Rattle.aes128.specs.Cipher.{invCipher}

@@ -1,4 +1,4 @@
--- `keywrap::wrap_into` meets its contract.
+-- `keywrap::wrap_into` meets its contract: the part from byte 8 on holds the key, then the wrapped blocks, and A comes before it.
 -- Assumes nothing.
 use Rattle.keywrap.proofs.Parts.{wrapped-in-place}
 use lib.ListN.{length}
@@ -24,23 +24,17 @@ part-copy-end c = search needs
 copy-requires : tie.Need-copy-requires
 copy-requires c κs = search needs
 
-key-state-requires : tie.Need-key-state-requires
-key-state-requires c κs = search needs
+sub-passes : tie.Need-sub-passes
+sub-passes c = search needs
 
-expand-key-requires : tie.Need-expand-key-requires
-expand-key-requires c κs = search needs
+part-passes-start : tie.Need-part-passes-start
+part-passes-start c = search needs
 
-sub-wrap-passes : tie.Need-sub-wrap-passes
-sub-wrap-passes c = search needs
+part-passes-end : tie.Need-part-passes-end
+part-passes-end c = search needs
 
-part-wrap-passes-start : tie.Need-part-wrap-passes-start
-part-wrap-passes-start c = search needs
-
-part-wrap-passes-end : tie.Need-part-wrap-passes-end
-part-wrap-passes-end c = search needs
-
-wrap-passes-requires : tie.Need-wrap-passes-requires
-wrap-passes-requires c κs = search needs
+passes-requires : tie.Need-passes-requires
+passes-requires c κs = search needs
 
 put-front-requires : tie.Need-put-front-requires
 put-front-requires c κs = search needs
@@ -50,10 +44,9 @@ same-length c = search needs
 
 returns : tie.Need-returns
 returns c =
-    let s = c .before .before .before .before .before .before .before .before .before .before .before .before .before .before .before .before .before .args in
-    wrapped-in-place _ (now (s .key)) (now (s .out)) _ _ (length (now (s .key)) + 8 - 8) _ (search needs) (omega arith)
-    (c .before .before .before .before .before .before .before .before .before .before .before .before .before .copy .ensures) (c .before .before .before .before .before .before .before .before .before .before .key-state .ensures) (c .before .before .before .before .before .before .before .before .before .expand-key .ensures) _ _ _
-    (c .before .before .before .before .before .before .wrap-passes .ensures .0) (c .before .before .before .before .before .before .wrap-passes .ensures .1) (c .before .before .put-front .ensures)
+    let s = c .before .before .before .before .before .before .before .before .before .before .before .before .before .before .args in
+    wrapped-in-place (s .kek) (now (s .key)) (now (s .out)) (length (now (s .key)) + 8 - 8) _ (search needs) (omega arith)
+    (c .before .before .before .before .before .before .before .before .before .before .copy .ensures) _ _ _ (c .before .before .before .before .before .before .passes .ensures .0) (c .before .before .before .before .before .before .passes .ensures .1) (c .before .before .put-front .ensures)
 
 pub wrap-into-spec : {M : Type 1} → statement M
 wrap-into-spec =
@@ -64,12 +57,10 @@ wrap-into-spec =
     part-copy-start
     part-copy-end
     copy-requires
-    key-state-requires
-    expand-key-requires
-    sub-wrap-passes
-    part-wrap-passes-start
-    part-wrap-passes-end
-    wrap-passes-requires
+    sub-passes
+    part-passes-start
+    part-passes-end
+    passes-requires
     put-front-requires
     same-length
     returns)

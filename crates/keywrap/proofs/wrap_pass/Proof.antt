@@ -1,4 +1,4 @@
--- `keywrap::wrap_pass` meets its contract.
+-- `keywrap::wrap_pass` meets its contract: after i turns A and the blocks are those of the pass over i blocks.
 -- Assumes nothing.
 use mathlib.Core.List.{List}
 use borrow.Rule.Slice.PartMut.{same-len-mid}

@@ -1,4 +1,4 @@
--- `keywrap::wrap_passes` meets its contract.
+-- `keywrap::wrap_passes` meets its contract: after j turns A and the blocks are those of j passes, and the count is n * j.
 -- Assumes nothing.
 use Rattle.keywrap.specs.Rfc3394.{Registers, wrapPasses}
 use Rattle.aes128.specs.Cipher.{cipher}
@@ -58,8 +58,8 @@ returns c =
     let l = c .before .loop in
     let s = c .before .before .before .args in
     let e : l .j ≡ 6 = omega arith in (
-      ap (λ (w : Registers). w .0) (l .inv .4) ∙ ap (λ (m : ℕ). wrapPasses (cipher (now (s .ks))) (s .n) m (_, now (s .b)) .0) e,
-      ap (λ (w : Registers). w .1) (l .inv .4) ∙ ap (λ (m : ℕ). wrapPasses (cipher (now (s .ks))) (s .n) m (_, now (s .b)) .1) e,
+      ap (λ (w : Registers). w .0) (l .inv .4) ∙ ap (λ (m : ℕ). wrapPasses (cipher (now (s .ks))) (s .n) m (s .a, now (s .b)) .0) e,
+      ap (λ (w : Registers). w .1) (l .inv .4) ∙ ap (λ (m : ℕ). wrapPasses (cipher (now (s .ks))) (s .n) m (s .a, now (s .b)) .1) e,
     )
 
 pub wrap-passes-spec : {M : Type 1} → statement M

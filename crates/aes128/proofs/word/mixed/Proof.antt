@@ -1,4 +1,4 @@
--- `aes128::word::mixed` meets its contract.
+-- `aes128::word::mixed` meets its contract: what is computed on the word is computed on each of its bytes.
 -- Assumes nothing.
 use mathlib.Core.Path.{refl, _∙_}
 use Rattle.aes128.proofs.Words.{mixed-word}

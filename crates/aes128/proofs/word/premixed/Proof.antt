@@ -1,4 +1,4 @@
--- `aes128::word::premixed` meets its contract.
+-- `aes128::word::premixed` meets its contract: what is computed on the word is computed on each of its bytes.
 -- Assumes nothing.
 use Rattle.aes128.specs.State.{mixColumn}
 use mathlib.Core.Path.{ap, _∙_}
