@@ -1,5 +1,5 @@
-// HMAC-SHA-256 (RFC 2104). `mac` is the MAC of one message. A caller that has a message in parts, or many under one key, keeps the hash
-// values after the key's two blocks (section 4), and starts the inner and the outer hash of each message with them.
+// HMAC-SHA-256 (RFC 2104). `mac` is the MAC of one message. A caller that has a message in parts, or many under one key, keeps the
+// hash values after the key's two blocks (section 4), and starts the inner and the outer hash of each message with them.
 ghost use mathlib.Core.Path.{_≡_};
 ghost use mathlib.Core.List.{_++_};
 ghost use Prim.Native.Nat.{_-_, _≤_};

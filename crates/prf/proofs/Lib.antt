@@ -1,5 +1,5 @@
 pub mod Lists
 pub mod Laws
 pub mod Accepted
-pub mod Steps
-pub mod Parts
+mod Steps
+mod Parts

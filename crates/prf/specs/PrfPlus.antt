@@ -8,8 +8,8 @@ use lib.ListN.{take}
 use Rattle.refusal.specs.Checks.{Check, bare, unless, _andThen_, within, check6}
 
 -- the bytes handed to the MAC for block i, after the block `previous`: previous, then S, then the byte i.
--- The paper has two cases, block 1 and the later blocks. Nothing stands before T1, so T0 is empty here and the two are one; `TwoCases`,
--- below, is the paper's text
+-- The paper has two cases, block 1 and the later blocks. Nothing stands before T1, so T0 is empty here and the two are one;
+-- `TwoCases`, below, is the paper's text
 unfoldable pub inputAfter : List ℕ → List ℕ → ℕ → List ℕ
 inputAfter previous text i = previous ++ (text ++ (i ∷ []))
 

@@ -37,7 +37,8 @@ fn absorb_part(s: Sha256, part: &[u8]) -> Sha256
     s.absorb(part)
 }
 
-// The inner hash of a block's input: the block before it, the text and the block's number. `inner` is the hash value that the key gives it.
+// The inner hash of a block's input: the block before it, the text and the block's number. `inner` is the hash value that it starts
+// with under the key.
 fn inner_digest(
     inner: [u32; 8],
     previous: &[u8],
@@ -59,7 +60,7 @@ fn inner_digest(
     s.finish()
 }
 
-// The outer hash of the inner one's digest. `outer` is the hash value that the key gives it.
+// The outer hash of the inner one's digest. `outer` is the hash value that it starts with under the key.
 fn outer_digest(outer: [u32; 8], digest: [u8; Sha256::DIGEST]) -> [u8; Sha256::DIGEST]
     ensures { λ r. ⌜ r ≡ hashAfter outer digest ⌝ }
 {
@@ -109,8 +110,8 @@ fn fill(key: &[u8], a: &[u8], b: &[u8], c: &[u8], d: &[u8], n: usize, out: &mut 
     }
 }
 
-// The answer by a call's earlier tests: a refusal of theirs, of 5 or of 6 leaves out alone; else n bytes of the expansion go to its
-// start.
+// Expands a key to n bytes at the start of out, by the earlier tests of the call that asks for it: a refusal of theirs, then 5 or 6, leaves
+// out as it was. The text is a, b, c and d joined.
 pub fn expand(
     check: Checked,
     key: &[u8],
