@@ -1,8 +1,20 @@
 /* Ketvaulo: the key library of a yard radio controller. Link with libketvaulo.a.
  *
- * Conventions. A slice is a pointer and then its length; a slice of length 0 may have a null pointer. No call keeps a pointer,
- * allocates, or fails otherwise than by a refusal. `out` must not overlap an input of the same call. A call that is refused alters no
- * byte of `out`; an accepted call alters only the bytes that it says it writes, from the start of `out`.
+ * What it is for. After a login, controller and server share one secret, the EMSK. From it the controller derives the key under which
+ * each siding reports (kv_usage_key), and for a handheld that visits another domain the keys of that domain (kv_visited_root_key,
+ * kv_visited_master_key, kv_visited_reauth_key, each under the one before); kv_key_name names a key in the open. Which key derivation
+ * function a login uses is negotiated by offers: kv_read_area reads them off the message that carried them, kv_choose_offer picks one,
+ * kv_answer_offer is the server's answer where the pick was not its first, and kv_check_renewed is the peer's check of that answer. A key
+ * goes to a neighbour wrapped in a RADIUS Key attribute: kv_write_key_attribute, and kv_read_key_attribute there. kv_sha256 and
+ * kv_hmac_sha256 are the primitives below all keys.
+ *
+ * Conventions. A slice is a pointer and then its length; a slice of length 0 may have a null pointer. `out` is the slice that a call
+ * writes; it must not overlap an input of the same call. No call keeps a pointer, allocates, or blocks, and none has a state, so calls
+ * may come from anywhere. Every input has an answer: a call that is refused returns the number of the refusal and alters no byte of
+ * `out`; of the numbers in its order it gives the first that holds. An accepted call returns 0 as its refusal, and alters only what it says
+ * it writes, from the start of `out`.
+ *
+ * Every call is proved to do what is said here, for every input. The proofs cover the library, not the C code that calls it.
  */
 #ifndef KETVAULO_H
 #define KETVAULO_H
@@ -13,6 +25,39 @@
 #ifdef __cplusplus
 extern "C" {
 #endif
+
+/* The refusals by name. The text at each call says when it is given. */
+enum {
+    KV_ACCEPTED = 0,
+    KV_ROOT_KEY_LENGTH = 1,      /* root key (EMSK, VRK, VMSK) not 64 to 128 bytes */
+    KV_LABEL_LENGTH = 2,         /* label not 1 to 255 bytes */
+    KV_LABEL_BYTE = 3,           /* a label byte outside 32 to 126 */
+    KV_DATA_LENGTH = 4,          /* optional data over 2,048 bytes */
+    KV_KEY_LENGTH = 5,           /* key length not 1 to 8,160 */
+    KV_ROOM = 6,                 /* output buffer too short */
+    KV_SERVER_ID = 7,            /* server ID not 1 to 255 bytes, or a byte of it outside 33 to 126 */
+    KV_DOMAIN = 8,               /* domain not 1 to 253 bytes, or a byte not a letter, digit, hyphen or dot */
+    KV_SESSION_ID = 9,           /* Session-ID not 1 to 255 bytes */
+    KV_OFFER_COUNT = 10,         /* offers not 1 to 16 (1 to 17 when reading an area) */
+    KV_REPEATED_OFFER = 11,      /* an offer value occurs twice */
+    KV_NO_OFFER_SUPPORTED = 12,  /* no offer is supported */
+    KV_REPLY_IS_FIRST = 13,      /* reply (on renewal, the choice) equals the first offer */
+    KV_REPLY_NOT_OFFERED = 14,   /* reply (on renewal, the choice) is not among the offers */
+    KV_RENEWED_LIST = 15,        /* renewed list is not the choice followed by the original */
+    KV_ATTRIBUTE_BOUNDS = 16,    /* attribute without a length byte, of length 0, or past the area's end */
+    KV_KDF_LENGTH = 17,          /* AT_KDF whose length is not 1 */
+    KV_KDF_INPUT = 18,           /* AT_KDF_INPUT whose length disagrees with its name length, or whose padding is not zero */
+    KV_NETWORK_NAME = 19,        /* AT_KDF_INPUT missing or repeated */
+    KV_ATTRIBUTE_TYPE = 20,      /* attribute type 0 */
+    KV_ID_LENGTH = 21,           /* KEK ID or Key ID not 16 bytes */
+    KV_KEK_LENGTH = 22,          /* KEK not 16 bytes */
+    KV_KEY_TO_WRAP_LENGTH = 23,  /* key to wrap not a multiple of 8 from 16 to 192 bytes */
+    KV_KEY_ATTRIBUTE_LENGTH = 24, /* Key attribute of wrong length */
+    KV_RESERVED_BYTE = 25,       /* reserved byte not zero */
+    KV_ENC_TYPE = 26,            /* Enc Type not 0 */
+    KV_IV_FIELD = 27,            /* IV field not eight bytes A6 */
+    KV_INTEGRITY = 28            /* unwrapping does not yield the initial value A6 (eight times) */
+};
 
 /* What a call that writes returns. `refusal` is 0 where the call is accepted, and then `value` is the count of what it wrote;
  * else `refusal` is the number of the refusal, and `value` is 0. */

@@ -1,4 +1,4 @@
--- What the code's helpers give, said by the definitions of FIPS 180-4. Nothing here is part of the standard's reading.
+-- What the code's private functions give, said by the definitions of FIPS 180-4. Nothing here is part of the standard's reading.
 -- Assumes nothing.
 use mathlib.Core.List.{List, _++_}
 use Prim.Native.Nat.{ℕ, _/_}
