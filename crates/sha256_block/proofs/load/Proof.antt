@@ -1,3 +1,5 @@
+-- `sha256_block::load` meets its contract: each word of the block is the schedule's (proofs/Schedule.antt, `loaded`).
+-- Assumes nothing.
 use native.Mathlib.Nat.{le-trans}
 use lib.Dec.{lit≤}
 use denote.Ref.{now}

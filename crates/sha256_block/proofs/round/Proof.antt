@@ -1,3 +1,5 @@
+-- `sha256_block::round` meets its contract: the eight variables, from its callees' answers.
+-- Assumes nothing.
 use Rattle.sha256_block.specs.Fips180.{round}
 use borrow.Author.Needs.{needs}
 use Rattle.sha256_block.proofs.round.Statement.{statement}

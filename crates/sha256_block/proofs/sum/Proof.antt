@@ -1,3 +1,5 @@
+-- `sha256_block::sum` meets its contract: word by word, from `add`'s answers.
+-- Assumes nothing.
 use mathlib.Core.List.{[], _∷_}
 use Rattle.sha256_block.specs.Fips180.{sums}
 use borrow.Author.Needs.{needs}
