@@ -8,11 +8,11 @@ use Rattle.sha256_block.specs.Fips180.{sha256}
 use Rattle.sha256.proofs.Stream.{sha256-length}
 use Rattle.sha256.proofs.Resumed.{after-block-law}
 use Rattle.hmac.specs.Rfc2104.{masked, keyBlock, ipad, opad, hmac, hmacSha256}
-use Rattle.hmac.specs.Keyed.{innerValue, outerValue, hashAfter, sealed}
+use Rattle.hmac.specs.Keyed.{innerValue, outerValue, sealed}
 use Rattle.hmac.proofs.Blocks.{masked-length, keyBlock-length}
 
 pub sealed-law : (k m : List ℕ) → sealed (innerValue (keyBlock sha256 k)) (outerValue (keyBlock sha256 k)) m ≡ hmacSha256 k m
-unfolding sealed hashAfter innerValue outerValue hmacSha256 hmac
+unfolding sealed innerValue outerValue hmacSha256 hmac
 sealed-law k m =
     let b : List ℕ = keyBlock sha256 k in
     let l : (pad : ℕ) → length (masked b pad) ≡ 64 = λ pad. masked-length b pad ∙ keyBlock-length k in

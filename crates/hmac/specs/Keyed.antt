@@ -4,7 +4,7 @@
 use Prim.Native.Nat.{ℕ}
 use mathlib.Core.List.{List}
 use Rattle.sha256_block.specs.Fips180.{compress, H0}
-use Rattle.sha256.specs.Stream.{absorbed, finished, afterBlock}
+use Rattle.sha256.specs.Stream.{hashAfter}
 use Rattle.hmac.specs.Rfc2104.{masked, ipad, opad}
 
 -- the hash value after K XOR ipad, from the key's block K
@@ -14,10 +14,6 @@ innerValue block = compress H0 (masked block ipad)
 -- the hash value after K XOR opad
 unfoldable pub outerValue : List ℕ → List ℕ
 outerValue block = compress H0 (masked block opad)
-
--- the hash of a block, of which only the hash value is known, and what comes after it
-unfoldable pub hashAfter : List ℕ → List ℕ → List ℕ
-hashAfter value rest = finished (absorbed (afterBlock value) rest)
 
 -- the MAC: the outer hash of what the inner hash comes to
 unfoldable pub sealed : List ℕ → List ℕ → List ℕ → List ℕ

@@ -4,7 +4,7 @@ ghost use mathlib.Core.Path.{_≡_};
 ghost use mathlib.Core.List.{_++_};
 ghost use Prim.Native.Nat.{_-_, _≤_};
 ghost use lib.ListN.{length, replicate};
-ghost use Rattle.sha256_block.specs.Fips180.{sha256, compress, H0};
+ghost use Rattle.sha256_block.specs.Fips180.{sha256};
 ghost use Rattle.hmac.specs.Rfc2104 as Rfc2104;
 ghost use Rattle.hmac.specs.Rfc2104.{keyBlock, hmacSha256};
 ghost use Rattle.hmac.specs.Keyed.{innerValue, outerValue};
@@ -38,15 +38,6 @@ fn masked(block: [u8; Sha256::BLOCK], pad: u8) -> [u8; Sha256::BLOCK]
     r
 }
 
-// The hash value after one block.
-fn value_after(block: [u8; Sha256::BLOCK]) -> [u32; 8]
-    ensures { λ r. ⌜ r ≡ compress H0 block ⌝ }
-{
-    let mut s = Sha256::new();
-    s = s.absorb(&block);
-    s.value()
-}
-
 // A key as a block: one over a block is hashed first.
 pub fn key_block(key: &[u8]) -> [u8; Sha256::BLOCK]
     ensures { λ r. ⌜ r ≡ keyBlock sha256 (now (key .entry)) ⌝ }
@@ -62,25 +53,21 @@ pub fn key_block(key: &[u8]) -> [u8; Sha256::BLOCK]
 pub fn inner_value(block: [u8; Sha256::BLOCK]) -> [u32; 8]
     ensures { λ r. ⌜ r ≡ innerValue block ⌝ }
 {
-    value_after(masked(block, IPAD))
+    sha256::value_of(masked(block, IPAD))
 }
 
 // The hash value that the outer hash starts with, from the key's block.
 pub fn outer_value(block: [u8; Sha256::BLOCK]) -> [u32; 8]
     ensures { λ r. ⌜ r ≡ outerValue block ⌝ }
 {
-    value_after(masked(block, OPAD))
+    sha256::value_of(masked(block, OPAD))
 }
 
-// The MAC of a message. One hash in progress serves for both: the outer one begins when the inner one is done.
+// The MAC of a message.
 pub fn mac(key: &[u8], message: &[u8]) -> [u8; Sha256::DIGEST]
     ensures { λ r. ⌜ r ≡ hmacSha256 (now (key .entry)) (now (message .entry)) ⌝ }
 {
     let block = key_block(key);
-    let mut s = Sha256::after_block(inner_value(block));
-    s = s.absorb(message);
-    let digest = s.finish();
-    s = Sha256::after_block(outer_value(block));
-    s = s.absorb(&digest);
-    s.finish()
+    let digest = sha256::digest_after(inner_value(block), message);
+    sha256::digest_again(outer_value(block), digest)
 }

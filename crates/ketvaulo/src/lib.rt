@@ -72,10 +72,10 @@ pub extern "C" fn kv_hmac_sha256(key: &[u8], message: &[u8], out: &mut [u8]) -> 
 
 // RFC 5295: the usage key of a label, optional data and a length n under an EMSK, n bytes.
 #[no_mangle]
-pub extern "C" fn kv_usage_key(
+pub extern "C" fn kv_usage_key<'a>(
     emsk: &[u8],
-    label: &[u8],
-    data: &[u8],
+    label: &'a [u8],
+    data: &'a [u8],
     n: u64,
     out: &mut [u8],
 ) -> Outcome
@@ -96,10 +96,10 @@ pub extern "C" fn kv_visited_root_key(emsk: &[u8], out: &mut [u8]) -> Outcome
 
 // Source document 001: the VMSK of a server and a domain under a VRK, 64 bytes.
 #[no_mangle]
-pub extern "C" fn kv_visited_master_key(
+pub extern "C" fn kv_visited_master_key<'a>(
     vrk: &[u8],
-    server_id: &[u8],
-    domain: &[u8],
+    server_id: &'a [u8],
+    domain: &'a [u8],
     out: &mut [u8],
 ) -> Outcome
     ensures answer { λ r. ⌜ r ≡ outcomeOf (answerTo (vmskCheck (now (vrk .entry)) (now («server_id» .entry)) (now (domain .entry)) (length (now (out .entry)))) 64) ⌝ }

@@ -1,4 +1,4 @@
--- Laws of names: the hash of two parts absorbed one after the other, and what a call answers and leaves by what its tests came to.
+-- Laws of names: what a call answers and leaves by what its tests came to.
 -- Assumes nothing.
 use Prim.Native.Nat.{ℕ}
 use mathlib.Core.Path.{_≡_, sym, ap, _∙_}
@@ -10,15 +10,8 @@ use Rattle.refusal.specs.Checks.{Reason, Check, pass, refuse, _andThen_, check6
 use Rattle.refusal.specs.Answers.{Answer, answerTo, bufferAfter}
 use Rattle.charset.specs.Checks.{labelCheck}
 use Rattle.sha256_block.specs.Fips180.{sha256}
-use Rattle.sha256.specs.declared.Sha256.{Sha256}
-use Rattle.sha256.specs.Stream.{absorbed, finished, started}
-use Rattle.sha256.proofs.Stream.{absorbed-append, digest-law, sha256-length}
+use Rattle.sha256.proofs.Stream.{sha256-length}
 use Rattle.key_name.specs.Ndf64.{check9, nameCheck, nameOf}
-
-pub two-parts : (xs ys : List ℕ) {s t u : Sha256} {r : List ℕ} → s ≡ started → t ≡ absorbed s xs → u ≡ absorbed t ys → r ≡ finished u → r ≡ sha256 (xs ++ ys)
-two-parts xs ys {s} {t} {u} {r} a b c d =
-    let whole : u ≡ absorbed started (xs ++ ys) = c ∙ ap (λ (v : Sha256). absorbed v ys) (b ∙ ap (λ (v : Sha256). absorbed v xs) a) ∙ sym (absorbed-append started xs ys) in
-    d ∙ ap finished whole ∙ digest-law (xs ++ ys)
 
 -- the part of a hash that is a name
 pub name-size : (m : List ℕ) {hash : List ℕ} → hash ≡ sha256 m → length (take 8 hash) ≡ 8

@@ -11,7 +11,6 @@ ghost use Rattle.key_name.specs.Ndf64.{check9, nameCheck, nameOf};
 use refusal::Checked;
 use refusal::Refusal;
 use refusal::Written;
-use sha256::Sha256;
 
 // The bytes of a name.
 const NAME: usize = 8;
@@ -25,13 +24,6 @@ fn check_inputs(session: &[u8], label: &[u8]) -> Checked
     refusal::then_check(id, text)
 }
 
-// The hash of two parts, one after the other.
-fn hash_of(first: &[u8], second: &[u8]) -> [u8; Sha256::DIGEST]
-    ensures { λ r. ⌜ r ≡ sha256 (now (first .entry) ++ now (second .entry)) ⌝ }
-{
-    Sha256::new().absorb(first).absorb(second).finish()
-}
-
 // The name of a Session-ID and a label: 8 bytes at the start of out. Nothing is hashed where 9, 2 or 3 refuses.
 pub fn key_name(session: &[u8], label: &[u8], out: &mut [u8]) -> Written
     ensures answer { λ r. ⌜ answerOf r ≡ answerTo (nameCheck (now (session .entry)) (now (label .entry)) (length (now (out .entry)))) 8 ⌝ }
@@ -40,7 +32,7 @@ pub fn key_name(session: &[u8], label: &[u8], out: &mut [u8]) -> Written
     match check_inputs(session, label) {
         Checked::Failed(why) => Written::Refused(why),
         Checked::Passed => {
-            let hash = hash_of(session, label);
+            let hash = sha256::digest_of_two(session, label);
             refusal::put(Checked::Passed, &hash[..NAME], out)
         }
     }

@@ -1,41 +1,32 @@
--- A block's input is absorbed part by part, and what comes of it under a key is the next block.
+-- What comes of a key's two hash values and a block's input is the next block.
 -- Assumes nothing.
 use Prim.Native.Nat.{ℕ, _+_, _-_, _*_}
-use mathlib.Core.Path.{_≡_, refl, ap, _∙_}
-use mathlib.Core.List.{List, [], _∷_, _++_}
-use native.Mathlib.Omega.{arith}
-use lib.ListN.{length, take, drop}
+use mathlib.Core.Path.{_≡_, sym, ap, _∙_}
+use mathlib.Core.List.{List, [], _∷_, _++_, append-assoc}
+use lib.ListN.{take, drop}
 use Rattle.sha256_block.specs.Fips180.{sha256}
-use Rattle.sha256.specs.declared.Sha256.{Sha256}
-use Rattle.sha256.specs.Stream.{absorbed}
-use Rattle.sha256.proofs.Stream.{absorbed-append}
+use Rattle.sha256.specs.Stream.{hashAfter}
 use Rattle.hmac.specs.Rfc2104.{keyBlock, hmacSha256}
-use Rattle.hmac.specs.Keyed.{innerValue, outerValue, hashAfter, sealed}
+use Rattle.hmac.specs.Keyed.{innerValue, outerValue, sealed}
 use Rattle.hmac.proofs.Laws.{sealed-law, hmacSha256-length}
 use Rattle.prf.specs.PrfPlus.{inputAfter, block, blocks}
 use Rattle.prf.proofs.Steps.{last-block, next-block}
 
-pub absorbed-none : (s : Sha256) (part : List ℕ) → length part ≡ 0 → s ≡ absorbed s part
-unfolding absorbed
-absorbed-none s [] e = refl
-absorbed-none s (x ∷ part) e = absurd (omega arith)
-
-pub absorbed-parts : (s : Sha256) (p a b c d : List ℕ) (i : ℕ)
-    → absorbed s (inputAfter p (a ++ (b ++ (c ++ d))) i) ≡ absorbed (absorbed (absorbed (absorbed (absorbed (absorbed s p) a) b) c) d) (i ∷ [])
+-- the parts of a block's input, joined from the back, are that input
+input-parts : (p a b c d : List ℕ) (i : ℕ) → p ++ (a ++ (b ++ (c ++ (d ++ (i ∷ []))))) ≡ inputAfter p (a ++ (b ++ (c ++ d))) i
 unfolding inputAfter
-absorbed-parts s p a b c d i = simp absorbed-append
+input-parts p a b c d i = simp append-assoc
 
--- what comes of a key's two hash values after the last block of a buffer is the next block
-pub next-under-key : (key text out₀ out : List ℕ) (i from at : ℕ) {kb inner outer digest r : List ℕ}
-    → kb ≡ keyBlock sha256 key → inner ≡ innerValue kb → outer ≡ outerValue kb
-    → digest ≡ hashAfter inner (inputAfter (take (at - from) (drop from out)) text (i + 1)) → r ≡ hashAfter outer digest
-    → from ≡ 32 * (i - 1) → at ≡ 32 * i → out ≡ take at (blocks hmacSha256 key text i) ++ drop at out₀ → r ≡ block hmacSha256 key text (i + 1)
+-- after the last block of a buffer it is the next one
+pub next-under-key : (key a b c d out₀ out : List ℕ) (i from at : ℕ) {inner outer digest r : List ℕ}
+    → inner ≡ innerValue (keyBlock sha256 key) → outer ≡ outerValue (keyBlock sha256 key)
+    → digest ≡ hashAfter inner (take (at - from) (drop from out) ++ (a ++ (b ++ (c ++ (d ++ ((i + 1) ∷ [])))))) → r ≡ hashAfter outer digest
+    → from ≡ 32 * (i - 1) → at ≡ 32 * i → out ≡ take at (blocks hmacSha256 key (a ++ (b ++ (c ++ d))) i) ++ drop at out₀ → r ≡ block hmacSha256 key (a ++ (b ++ (c ++ d))) (i + 1)
 unfolding sealed
-next-under-key key text out₀ out i from at {r = r} ek ei eo ed er hf ha ho =
+next-under-key key a b c d out₀ out i from at {r = r} ei eo ed er hf ha ho =
     let previous : List ℕ = take (at - from) (drop from out) in
+    let text : List ℕ = a ++ (b ++ (c ++ d)) in
     let input : List ℕ = inputAfter previous text (i + 1) in
     next-block hmacSha256 hmacSha256-length key text out₀ previous r i
-    (er
-    ∙ (λ j. hashAfter ((eo ∙ ap outerValue ek) j) ((ed ∙ ap (λ (v : List ℕ). hashAfter v input) (ei ∙ ap innerValue ek)) j))
-    ∙ sealed-law key input)
+    (er ∙ (λ j. hashAfter (eo j) ((ed ∙ (λ k. hashAfter (ei k) (input-parts previous a b c d (i + 1) k))) j)) ∙ sealed-law key input)
     (last-block hmacSha256 hmacSha256-length key text out₀ out i from at hf ha ho)

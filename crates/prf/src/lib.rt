@@ -7,10 +7,10 @@ ghost use lib.ListN.{length, drop};
 ghost use lib.Seq.{paste};
 ghost use Rattle.refusal.specs.Checks.{_andThen_};
 ghost use Rattle.refusal.specs.Answers.{checkedAs, answerOf, answerTo, bufferAfter};
-ghost use Rattle.sha256.specs.Stream.{absorbed};
-ghost use Rattle.hmac.specs.Rfc2104.{hmacSha256};
-ghost use Rattle.hmac.specs.Keyed.{hashAfter};
-ghost use Rattle.prf.specs.PrfPlus.{inputAfter, prfPlus, expandCheck};
+ghost use Rattle.sha256_block.specs.Fips180.{sha256};
+ghost use Rattle.hmac.specs.Rfc2104.{keyBlock, hmacSha256};
+ghost use Rattle.hmac.specs.Keyed.{innerValue, outerValue};
+ghost use Rattle.prf.specs.PrfPlus.{prfPlus, expandCheck};
 use refusal::Checked;
 use refusal::Refusal;
 use refusal::Written;
@@ -27,46 +27,21 @@ fn check_expand(n: usize, room: usize) -> Checked
     refusal::then_check(length, refusal::check_room(n, room))
 }
 
-// The hash after a part of a message. One that is empty costs nothing: a text often has fewer than four parts.
-fn absorb_part(s: Sha256, part: &[u8]) -> Sha256
-    ensures { λ r. ⌜ r ≡ absorbed s (now (part .entry)) ⌝ }
-{
-    if part.len() == 0 {
-        return s;
-    }
-    s.absorb(part)
-}
-
-// The inner hash of a block's input: the block before it, the text and the block's number. `inner` is the hash value that it starts
-// with under the key.
-fn inner_digest(
+// The hash values that the inner and the outer hash of a block start with under a key.
+struct Keyed {
     inner: [u32; 8],
-    previous: &[u8],
-    a: &[u8],
-    b: &[u8],
-    c: &[u8],
-    d: &[u8],
-    number: u8,
-) -> [u8; Sha256::DIGEST]
-    ensures { λ r. ⌜ r ≡ hashAfter inner (inputAfter (now (previous .entry)) (now (a .entry) ++ (now (b .entry) ++ (now (c .entry) ++ now (d .entry)))) number) ⌝ }
-{
-    let mut s = Sha256::after_block(inner);
-    s = absorb_part(s, previous);
-    s = absorb_part(s, a);
-    s = absorb_part(s, b);
-    s = absorb_part(s, c);
-    s = absorb_part(s, d);
-    s = s.absorb(&[number]);
-    s.finish()
+    outer: [u32; 8],
 }
 
-// The outer hash of the inner one's digest. `outer` is the hash value that it starts with under the key.
-fn outer_digest(outer: [u32; 8], digest: [u8; Sha256::DIGEST]) -> [u8; Sha256::DIGEST]
-    ensures { λ r. ⌜ r ≡ hashAfter outer digest ⌝ }
+// Those of a key. The key's block is not kept beside them.
+fn key_values(key: &[u8]) -> Keyed
+    ensures inner { λ r. ⌜ r .inner ≡ innerValue (keyBlock sha256 (now (key .entry))) ⌝ }
+    ensures outer { λ r. ⌜ r .outer ≡ outerValue (keyBlock sha256 (now (key .entry))) ⌝ }
 {
-    let mut s = Sha256::after_block(outer);
-    s = s.absorb(&digest);
-    s.finish()
+    let block = hmac::key_block(key);
+    let inner = hmac::inner_value(block);
+    let outer = hmac::outer_value(block);
+    Keyed { inner, outer }
 }
 
 // The lesser of two numbers.
@@ -88,21 +63,30 @@ fn copy_at(s: &[u8], n: usize, out: &mut [u8], at: usize)
 }
 
 // n bytes of the expansion at the start of out. A block is written where the next finds it.
-fn fill(key: &[u8], a: &[u8], b: &[u8], c: &[u8], d: &[u8], n: usize, out: &mut [u8])
+fn fill<'a>(
+    key: &[u8],
+    a: &'a [u8],
+    b: &'a [u8],
+    c: &'a [u8],
+    d: &'a [u8],
+    n: usize,
+    out: &mut [u8],
+)
     requires { ⌜ n ≤ 8160 ⌝ }
     requires { ⌜ n ≤ length (now out) ⌝ }
     ensures { λ _. ⌜ now (out .exit) ≡ prfPlus hmacSha256 (now (key .entry)) (now (a .entry) ++ (now (b .entry) ++ (now (c .entry) ++ now (d .entry)))) n ++ drop n (now (out .entry)) ⌝ }
 {
-    let key_block = hmac::key_block(key);
-    let inner = hmac::inner_value(key_block);
-    let outer = hmac::outer_value(key_block);
+    let k = key_values(key);
+    let inner = k.inner;
+    let outer = k.outer;
     let mut i: usize = 0;
     let mut from = 0;
     let mut at = 0;
     while at < n {
         i += 1;
-        let digest = inner_digest(inner, &out[from..at], a, b, c, d, i as u8);
-        let t = outer_digest(outer, digest);
+        let number = [i as u8];
+        let digest = sha256::digest_after_parts(inner, &out[from..at], a, b, c, d, &number);
+        let t = sha256::digest_again(outer, digest);
         let m = least(Sha256::DIGEST, n - at);
         copy_at(&t, m, out, at);
         from = at;
@@ -112,13 +96,13 @@ fn fill(key: &[u8], a: &[u8], b: &[u8], c: &[u8], d: &[u8], n: usize, out: &mut 
 
 // Expands a key to n bytes at the start of out, by the earlier tests of the call that asks for it: a refusal of theirs, then 5 or 6, leaves
 // out as it was. The text is a, b, c and d joined.
-pub fn expand(
+pub fn expand<'a>(
     check: Checked,
     key: &[u8],
-    a: &[u8],
-    b: &[u8],
-    c: &[u8],
-    d: &[u8],
+    a: &'a [u8],
+    b: &'a [u8],
+    c: &'a [u8],
+    d: &'a [u8],
     n: usize,
     out: &mut [u8],
 ) -> Written

@@ -10,15 +10,16 @@ use lib.Seq.{sets}
 use Rattle.sha256_block.specs.Fips180.{compress, H0, sha256}
 use Rattle.sha256_block.proofs.Blocks.{one-block}
 use Rattle.sha256.specs.declared.Sha256.{Sha256}
-use Rattle.sha256.specs.Stream.{absorbed, started, finished, afterBlock}
+use Rattle.sha256.specs.Stream.{absorbed, started, afterBlock, hashAfter}
 use Rattle.sha256.proofs.Stream.{absorbed-append, digest-law, starting, empty}
 
-pub absorbed-block : (b : List ℕ) → length b ≡ 64 → absorbed started b ≡ afterBlock (compress H0 b)
+absorbed-block : (b : List ℕ) → length b ≡ 64 → absorbed started b ≡ afterBlock (compress H0 b)
 absorbed-block b e =
     let none : drop (length b / 64 * 64) b ≡ [] = drop-of-length-le b {i = length b / 64 * 64} (omega arith) in
     let all : (0 + length b) % 2 ^ 64 ≡ 64 = omega arith in
     starting started b (lit< tt) refl refl ∙ (λ i. record { h = one-block H0 b e i; block = sets empty 0 (none i); count = all i })
 
 -- the hash of a block and what comes after it
-pub after-block-law : (b m : List ℕ) → length b ≡ 64 → finished (absorbed (afterBlock (compress H0 b)) m) ≡ sha256 (b ++ m)
+pub after-block-law : (b m : List ℕ) → length b ≡ 64 → hashAfter (compress H0 b) m ≡ sha256 (b ++ m)
+unfolding hashAfter
 after-block-law b m e = rw (← absorbed-block b e, ← absorbed-append started b m) (digest-law (b ++ m))

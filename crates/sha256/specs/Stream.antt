@@ -1,5 +1,5 @@
--- The streaming hash: what each method of `Sha256` does to the state, one byte at a time. `digest-law` of proofs/Stream.antt
--- shows that `finished (absorbed started m)` is the standard's `sha256 m`. Assumes nothing.
+-- The hash in progress: what absorbing does to it, one byte at a time, and the digest of all that was absorbed. `digest-law` of
+-- proofs/Stream.antt shows that `finished (absorbed started m)` is the standard's `sha256 m`. Assumes nothing.
 use mathlib.Core.List.{List, [], _∷_}
 use mathlib.Core.Bool.{Bool, true, false}
 use Prim.Native.Nat.{ℕ, _+_, _%_, _^_}
@@ -8,9 +8,13 @@ use lib.ListN.{set, replicate}
 use Rattle.sha256_block.specs.Fips180.{compress, H0, padding, digest}
 use Rattle.sha256.specs.declared.Sha256.{Sha256}
 
+-- a hash in progress by its parts: the hash value of the whole blocks, the bytes after these, and the count of all bytes
+abbrev pub inProgress : List ℕ → List ℕ → ℕ → Sha256
+inProgress value bytes n = record { h = value; block = bytes; count = n }
+
 -- no byte absorbed yet
 abbrev pub started : Sha256
-started = record { h = H0; block = replicate 64 0; count = 0 }
+started = inProgress H0 (replicate 64 0) 0
 
 abbrev pub pickList : Bool → List ℕ → List ℕ → List ℕ
 pickList true a b = a
@@ -37,4 +41,8 @@ finished s = digest (absorbed s (padding (s .count)) .h)
 
 -- one block absorbed, of which only the hash value is known
 abbrev pub afterBlock : List ℕ → Sha256
-afterBlock value = record { h = value; block = replicate 64 0; count = 64 }
+afterBlock value = inProgress value (replicate 64 0) 64
+
+-- the hash of that block and what comes after it
+unfoldable pub hashAfter : List ℕ → List ℕ → List ℕ
+hashAfter value rest = finished (absorbed (afterBlock value) rest)

@@ -1,5 +1,5 @@
-// SHA-256 of a message (FIPS 180-4): a hash in progress, passed by value, that absorbs the message piece by piece, and the hash of a
-// message at once. No branch and no index goes by the bytes absorbed, only by their count.
+// SHA-256 of a message (FIPS 180-4): at once, in parts that are absorbed one after another, or by a hash in progress that is passed by
+// value. No branch and no index goes by the bytes absorbed, only by their count.
 ghost use mathlib.Core.Path.{_≡_};
 ghost use mathlib.Core.List.{_∷_, _++_};
 ghost use Prim.Native.Nat.{_+_, _-_, _*_, _/_, _<_, _≤_, _%_, _^_};
@@ -137,6 +137,29 @@ fn sealed(h: [u32; 8], block: &mut [u8; 64], count: u64) -> [u8; 32]
     to_bytes(closed(h, block, count))
 }
 
+// Absorbs the bytes of s into a hash in progress, whose parts are changed where they lie: by value it would be copied at each call. The
+// next count is returned. Bytes that leave the block short of full are only copied.
+fn absorb_into(h: &mut [u32; 8], block: &mut [u8; 64], count: u64, s: &[u8]) -> u64
+    requires { ⌜ length (now block) ≡ 64 ⌝ }
+    ensures { λ r. ⌜ Stream.inProgress (now (h .exit)) (now (block .exit)) r ≡ Stream.absorbed (Stream.inProgress (now (h .entry)) (now (block .entry)) count) (now (s .entry)) ⌝ }
+{
+    let at = (count % 64) as usize;
+    let n = s.len();
+    let next = std::num::wrapping_add_u64(count, n as u64);
+    if n < 64 - at {
+        fill(block, at, s);
+        return next;
+    }
+    let k = 64 - at;
+    fill(block, at, &s[..k]);
+    let g = compress_blocks(*h, block);
+    *h = compress_blocks(g, &s[k..]);
+    let rest = n - (n - k) % 64;
+    *block = [0; 64];
+    fill(block, 0, &s[rest..]);
+    next
+}
+
 impl Sha256 {
     pub const BLOCK: usize = 64;
 
@@ -153,49 +176,14 @@ impl Sha256 {
         }
     }
 
-    // `absorb` where s fills the block.
-    fn over(self, s: &[u8], at: usize) -> Self
-        requires { ⌜ (at ≡ self .count % 64) × (64 ≤ at + length (now s)) ⌝ }
-        ensures { λ r. ⌜ r ≡ Stream.absorbed self (now (s .entry)) ⌝ }
-    {
-        let h = self.h;
-        let mut block = self.block;
-        let count = self.count;
-        let n = s.len();
-        let k = 64 - at;
-        fill(&mut block, at, &s[..k]);
-        let g = compress_blocks(h, &block);
-        let f = compress_blocks(g, &s[k..]);
-        let rest = n - (n - k) % 64;
-        block = [0; 64];
-        fill(&mut block, 0, &s[rest..]);
-        let next = std::num::wrapping_add_u64(count, n as u64);
-        Sha256 {
-            h: f,
-            block,
-            count: next,
-        }
-    }
-
-    // The hash after the bytes of s. Bytes that leave the block short of full are only copied.
+    // The hash after the bytes of s.
     pub fn absorb(self, s: &[u8]) -> Self
         ensures { λ r. ⌜ r ≡ Stream.absorbed self (now (s .entry)) ⌝ }
     {
-        let count = self.count;
-        let at = (count % 64) as usize;
-        let n = s.len();
-        if n < 64 - at {
-            let h = self.h;
-            let mut block = self.block;
-            fill(&mut block, at, s);
-            let next = std::num::wrapping_add_u64(count, n as u64);
-            return Sha256 {
-                h,
-                block,
-                count: next,
-            };
-        }
-        self.over(s, at)
+        let mut h = self.h;
+        let mut block = self.block;
+        let count = absorb_into(&mut h, &mut block, self.count, s);
+        Sha256 { h, block, count }
     }
 
     // The digest of all that was absorbed.
@@ -207,24 +195,90 @@ impl Sha256 {
         let count = self.count;
         sealed(h, &mut block, count)
     }
+}
 
-    // The hash value of the whole blocks absorbed.
-    pub fn value(self) -> [u32; 8]
-        ensures { λ r. ⌜ r ≡ self .h ⌝ }
-    {
-        self.h
-    }
+// The hash of two parts, one after the other.
+pub fn digest_of_two(first: &[u8], second: &[u8]) -> [u8; 32]
+    ensures { λ r. ⌜ r ≡ Fips180.sha256 (now (first .entry) ++ now (second .entry)) ⌝ }
+{
+    let s = Sha256::new();
+    let mut h = s.h;
+    let mut block = s.block;
+    let one = absorb_into(&mut h, &mut block, s.count, first);
+    let both = absorb_into(&mut h, &mut block, one, second);
+    sealed(h, &mut block, both)
+}
 
-    // The hash after one block, from its hash value: what HMAC keeps of a key and starts each message with.
-    pub fn after_block(value: [u32; 8]) -> Self
-        ensures { λ r. ⌜ r ≡ Stream.afterBlock value ⌝ }
-    {
-        Sha256 {
-            h: value,
-            block: [0; 64],
-            count: 64,
-        }
+// The hash value after one block.
+pub fn value_of(block: [u8; 64]) -> [u32; 8]
+    ensures { λ r. ⌜ r ≡ Fips180.compress Fips180.H0 block ⌝ }
+{
+    compress_blocks(H0, &block)
+}
+
+// The hash of one block, of which only the hash value is given, and a message after it: what HMAC keeps of a key and starts each message
+// with.
+pub fn digest_after(value: [u32; 8], message: &[u8]) -> [u8; 32]
+    ensures { λ r. ⌜ r ≡ Stream.hashAfter value (now (message .entry)) ⌝ }
+{
+    let mut h = value;
+    let mut block = [0; 64];
+    let count = absorb_into(&mut h, &mut block, 64, message);
+    sealed(h, &mut block, count)
+}
+
+// The same for a message that is a digest: it needs no absorbing.
+pub fn digest_again(value: [u32; 8], digest: [u8; 32]) -> [u8; 32]
+    ensures { λ r. ⌜ r ≡ Stream.hashAfter value digest ⌝ }
+{
+    let mut block = [0; 64];
+    fill(&mut block, 0, &digest);
+    sealed(value, &mut block, 96)
+}
+
+// The part at place j.
+fn part<'a>(
+    j: usize,
+    a: &'a [u8],
+    b: &'a [u8],
+    c: &'a [u8],
+    d: &'a [u8],
+    e: &'a [u8],
+    f: &'a [u8],
+) -> &'a [u8]
+    ensures { λ r. ⌜ now r ≡ Steps.partAt j (now (a .entry)) (now (b .entry)) (now (c .entry)) (now (d .entry)) (now (e .entry)) (now (f .entry)) ⌝ }
+{
+    match j {
+        0 => a,
+        1 => b,
+        2 => c,
+        3 => d,
+        4 => e,
+        _ => f,
     }
+}
+
+// The same for a message in six parts. They are absorbed in one loop, so that the compiler lays out the code for one.
+pub fn digest_after_parts<'a>(
+    value: [u32; 8],
+    a: &'a [u8],
+    b: &'a [u8],
+    c: &'a [u8],
+    d: &'a [u8],
+    e: &'a [u8],
+    f: &'a [u8],
+) -> [u8; 32]
+    ensures { λ r. ⌜ r ≡ Stream.hashAfter value (now (a .entry) ++ (now (b .entry) ++ (now (c .entry) ++ (now (d .entry) ++ (now (e .entry) ++ now (f .entry)))))) ⌝ }
+{
+    let mut h = value;
+    let mut block = [0; 64];
+    let mut count: u64 = 64;
+    for j in 0..6 {
+        let s = part(j, a, b, c, d, e, f);
+        let next = absorb_into(&mut h, &mut block, count, s);
+        count = next;
+    }
+    sealed(h, &mut block, count)
 }
 
 // The hash value after the message's whole blocks.

@@ -37,7 +37,13 @@ fn two_bytes(n: usize) -> [u8; 2]
 }
 
 // The usage key of a label, optional data and a length: n bytes at the start of out. The expansion tests 5 and 6.
-pub fn usage_key(emsk: &[u8], label: &[u8], data: &[u8], n: usize, out: &mut [u8]) -> Written
+pub fn usage_key<'a>(
+    emsk: &[u8],
+    label: &'a [u8],
+    data: &'a [u8],
+    n: usize,
+    out: &mut [u8],
+) -> Written
     ensures answer { λ r. ⌜ answerOf r ≡ requestAnswer (now (emsk .entry)) (forUsage (now (label .entry)) (now («data» .entry)) n (length (now (out .entry)))) ⌝ }
     ensures buffer { λ _. ⌜ now (out .exit) ≡ requestBuffer (now (emsk .entry)) (forUsage (now (label .entry)) (now («data» .entry)) n (length (now (out .entry)))) (now (out .entry)) ⌝ }
 {

@@ -31,7 +31,12 @@ fn check_visited(vrk: &[u8], server: &[u8], domain: &[u8]) -> Checked
 }
 
 // The VMSK of a server and a domain.
-pub fn visited_master_key(vrk: &[u8], server: &[u8], domain: &[u8], out: &mut [u8]) -> Written
+pub fn visited_master_key<'a>(
+    vrk: &[u8],
+    server: &'a [u8],
+    domain: &'a [u8],
+    out: &mut [u8],
+) -> Written
     ensures answer { λ r. ⌜ answerOf r ≡ answerTo (vmskCheck (now (vrk .entry)) (now (server .entry)) (now (domain .entry)) (length (now (out .entry)))) 64 ⌝ }
     ensures buffer { λ _. ⌜ now (out .exit) ≡ bufferAfter (vmskCheck (now (vrk .entry)) (now (server .entry)) (now (domain .entry)) (length (now (out .entry)))) 64 (vmskKey (now (vrk .entry)) (now (server .entry)) (now (domain .entry))) (now (out .entry)) ⌝ }
 {

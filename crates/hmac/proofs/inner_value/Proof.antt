@@ -1,4 +1,4 @@
--- `hmac::inner_value` meets its contract.
+-- `hmac::inner_value` meets its contract: the masked block compressed.
 -- Assumes nothing.
 use Rattle.hmac.specs.Keyed.{innerValue}
 use borrow.Author.Needs.{needs}
@@ -8,12 +8,12 @@ use Rattle.hmac.proofs.inner_value.Tie as tie
 masked-requires : tie.Need-masked-requires
 masked-requires c κs = search needs
 
-value-after-requires : tie.Need-value-after-requires
-value-after-requires c κs = search needs
+value-of-requires : tie.Need-value-of-requires
+value-of-requires c κs = search needs
 
 returns : tie.Need-returns
 unfolding innerValue
 returns c = cc
 
 pub inner-value-spec : {M : Type 1} → statement M
-inner-value-spec = tie.close (tie.spec masked-requires value-after-requires returns)
+inner-value-spec = tie.close (tie.spec masked-requires value-of-requires returns)

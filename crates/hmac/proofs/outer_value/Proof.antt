@@ -1,4 +1,4 @@
--- `hmac::outer_value` meets its contract.
+-- `hmac::outer_value` meets its contract: the masked block compressed.
 -- Assumes nothing.
 use Rattle.hmac.specs.Keyed.{outerValue}
 use borrow.Author.Needs.{needs}
@@ -8,12 +8,12 @@ use Rattle.hmac.proofs.outer_value.Tie as tie
 masked-requires : tie.Need-masked-requires
 masked-requires c κs = search needs
 
-value-after-requires : tie.Need-value-after-requires
-value-after-requires c κs = search needs
+value-of-requires : tie.Need-value-of-requires
+value-of-requires c κs = search needs
 
 returns : tie.Need-returns
 unfolding outerValue
 returns c = cc
 
 pub outer-value-spec : {M : Type 1} → statement M
-outer-value-spec = tie.close (tie.spec masked-requires value-after-requires returns)
+outer-value-spec = tie.close (tie.spec masked-requires value-of-requires returns)

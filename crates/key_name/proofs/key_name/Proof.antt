@@ -17,14 +17,14 @@ enum-known-why c = search needs
 enum-told : tie.Need-enum-told
 enum-told c = search needs
 
-hash-of-requires : tie.Need-hash-of-requires
-hash-of-requires c κs = search needs
+digest-of-two-requires : tie.Need-digest-of-two-requires
+digest-of-two-requires c κs = search needs
 
 array-share-prefix-hash : tie.Need-array-share-prefix-hash
 array-share-prefix-hash c = search needs
 
 slice-aggregate-put : tie.Need-slice-aggregate-put
-slice-aggregate-put c = sym (name-size _ (c .before .hash-of .ensures))
+slice-aggregate-put c = sym (name-size _ (c .before .digest-of-two .ensures))
 
 put-requires : tie.Need-put-requires
 put-requires c κs = search needs
@@ -45,7 +45,7 @@ returns-2 c =
     let t = h .before in
     let k = t .before .before in
     let s = k .before .before .before .before .args in
-    name-put (now (s .session)) (now (s .label)) (now (s .out)) (sym (k .check-inputs .ensures) ∙ ap checkedAs (t .enum-told .given .1)) (h .hash-of .ensures) (p .put .ensures)
+    name-put (now (s .session)) (now (s .label)) (now (s .out)) (sym (k .check-inputs .ensures) ∙ ap checkedAs (t .enum-told .given .1)) (h .digest-of-two .ensures) (p .put .ensures)
 
 pub key-name-spec : {M : Type 1} → statement M
 key-name-spec =
@@ -54,7 +54,7 @@ key-name-spec =
     check-inputs-requires
     enum-known-why
     enum-told
-    hash-of-requires
+    digest-of-two-requires
     array-share-prefix-hash
     slice-aggregate-put
     put-requires

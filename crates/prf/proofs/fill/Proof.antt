@@ -24,14 +24,8 @@ Inv-loop key a b c d n out₀ inner outer i₀ from₀ at₀ out i from at =
 abbrev μ-loop : tie.MeasureT-loop
 μ-loop key a b c d n out₀ inner outer i₀ from₀ at₀ out i from at = n - at
 
-key-block-requires : tie.Need-key-block-requires Inv-loop μ-loop
-key-block-requires c κs = search needs
-
-inner-value-requires : tie.Need-inner-value-requires Inv-loop μ-loop
-inner-value-requires c κs = search needs
-
-outer-value-requires : tie.Need-outer-value-requires Inv-loop μ-loop
-outer-value-requires c κs = search needs
+key-values-requires : tie.Need-key-values-requires Inv-loop μ-loop
+key-values-requires c κs = search needs
 
 loop-holds : tie.Need-loop-holds Inv-loop μ-loop
 loop-holds c = (omega arith, omega arith, omega arith, refl, refl)
@@ -39,23 +33,26 @@ loop-holds c = (omega arith, omega arith, omega arith, refl, refl)
 add-i : tie.Need-add-i Inv-loop μ-loop
 add-i c = search needs
 
-sub-inner-digest : tie.Need-sub-inner-digest Inv-loop μ-loop
-sub-inner-digest c = search needs
+cast-t19 : tie.Need-cast-t19 Inv-loop μ-loop
+cast-t19 c = search needs
 
-part-inner-digest-start : tie.Need-part-inner-digest-start Inv-loop μ-loop
-part-inner-digest-start c = search needs
+sub-digest-after-parts : tie.Need-sub-digest-after-parts Inv-loop μ-loop
+sub-digest-after-parts c = search needs
 
-part-inner-digest-end : tie.Need-part-inner-digest-end Inv-loop μ-loop
-part-inner-digest-end c = search needs
+part-digest-after-parts-start : tie.Need-part-digest-after-parts-start Inv-loop μ-loop
+part-digest-after-parts-start c = search needs
 
-cast-inner-digest : tie.Need-cast-inner-digest Inv-loop μ-loop
-cast-inner-digest c = search needs
+part-digest-after-parts-end : tie.Need-part-digest-after-parts-end Inv-loop μ-loop
+part-digest-after-parts-end c = search needs
 
-inner-digest-requires : tie.Need-inner-digest-requires Inv-loop μ-loop
-inner-digest-requires c κs = search needs
+slice-aggregate-digest-after-parts : tie.Need-slice-aggregate-digest-after-parts Inv-loop μ-loop
+slice-aggregate-digest-after-parts c = search needs
 
-outer-digest-requires : tie.Need-outer-digest-requires Inv-loop μ-loop
-outer-digest-requires c κs = search needs
+digest-after-parts-requires : tie.Need-digest-after-parts-requires Inv-loop μ-loop
+digest-after-parts-requires c κs = search needs
+
+digest-again-requires : tie.Need-digest-again-requires Inv-loop μ-loop
+digest-again-requires c κs = search needs
 
 sub-least : tie.Need-sub-least Inv-loop μ-loop
 sub-least c = search needs
@@ -71,8 +68,10 @@ copy-at-requires c κs = search needs
 
 add-at : tie.Need-add-at Inv-loop μ-loop
 add-at c =
-    let most : c .before .before .before .before .before .before .before .before .before .before .before .before .before .before .before .before .before .before .before .before .before .args .n ≤ 8160 = c .before .before .before .before .before .before .before .before .before .before .before .before .before .before .before .before .before .before .before .before .before .pre .0 in
-    let inv = c .before .before .before .before .before .before .before .before .before .before .before .loop .inv .1 in
+    let l = c .before .before .before .before .before .before .before .before .before .before .before .before in
+    let start = l .before .before .before .before .before .before .before .before .before .before in
+    let most : start .args .n ≤ 8160 = start .pre .0 in
+    let inv = l .loop .inv .1 in
     let size = c .before .before .before .before .before .least .ensures in
     search needs
 
@@ -81,23 +80,26 @@ loop-less c = search needs
 
 loop-again : tie.Need-loop-again Inv-loop μ-loop
 loop-again c =
-    let k = c .before .before .before .before .before .before in
-    let l = k .before .before .before .before .before .loop in
-    let keyed = k .before .before .before .before .before .before in
-    let start = keyed .before .before .before .before .before .before .before .before .before in
+    let g = c .before .before .before .before .before .before in
+    let p = g .before in
+    let at = p .before .before .before .before .before in
+    let l = at .loop in
+    let v = at .before .before .before in
+    let start = v .before .before .before .before .before .before .before in
     let s = start .args in
     let room : s .n ≤ length (now (s .out)) = start .pre .1 in
     let key = now (s .key) in
     let text : List ℕ = now (s .a) ++ (now (s .b) ++ (now (s .c) ++ now (s .d))) in
     let m = c .before .before .before .before .before .least .result in
     let size : m ≡ min 32 (s .n - l .at) = c .before .before .before .before .before .least .ensures in
+    let left : l .at < s .n = p .before .before .before .before .loop-test .taken in
     let here : l .at ≡ 32 * l .i = omega arith in
-    let b = next-under-key key text (now (s .out)) (l .out) (l .i) (l .from) (l .at) (keyed .before .before .key-block .ensures) (keyed .before .inner-value .ensures) (keyed .outer-value .ensures) (k .before .inner-digest .ensures) (k .outer-digest .ensures) (l .inv .0) here (l .inv .4) in (
+    let b = next-under-key key (now (s .a)) (now (s .b)) (now (s .c)) (now (s .d)) (now (s .out)) (l .out) (l .i) (l .from) (l .at) (v .key-values .ensures .0) (v .key-values .ensures .1) (p .digest-after-parts .ensures) (g .digest-again .ensures) (l .inv .0) here (l .inv .4) in (
       omega arith,
       omega arith,
       omega arith,
       c .before .before .copy-at .kept .1 .1 .0 ∙ l .inv .3,
-      next-out hmacSha256 hmacSha256-length key text (now (s .out)) (l .out) _ (k .outer-digest .result) (l .i) m (l .at) here (omega arith) (l .inv .4) b (c .before .before .copy-at .ensures),
+      next-out hmacSha256 hmacSha256-length key text (now (s .out)) (l .out) _ (g .digest-again .result) (l .i) m (l .at) here (omega arith) (l .inv .4) b (c .before .before .copy-at .ensures),
     )
 
 same-length : tie.Need-same-length Inv-loop μ-loop
@@ -118,17 +120,16 @@ fill-spec =
     (tie.spec
     Inv-loop
     μ-loop
-    key-block-requires
-    inner-value-requires
-    outer-value-requires
+    key-values-requires
     loop-holds
     add-i
-    sub-inner-digest
-    part-inner-digest-start
-    part-inner-digest-end
-    cast-inner-digest
-    inner-digest-requires
-    outer-digest-requires
+    cast-t19
+    sub-digest-after-parts
+    part-digest-after-parts-start
+    part-digest-after-parts-end
+    slice-aggregate-digest-after-parts
+    digest-after-parts-requires
+    digest-again-requires
     sub-least
     least-requires
     slice-aggregate-copy-at

@@ -1,0 +1,31 @@
+-- `sha256::part` meets its contract.
+-- Assumes nothing.
+use denote.Ref.{now}
+use Rattle.sha256.proofs.Parts.{last-part}
+use borrow.Author.Needs.{needs}
+use Rattle.sha256.proofs.part.Statement.{statement}
+use Rattle.sha256.proofs.part.Tie as tie
+
+returns : tie.Need-returns
+returns c = search needs
+
+returns-2 : tie.Need-returns-2
+returns-2 c = search needs
+
+returns-3 : tie.Need-returns-3
+returns-3 c = search needs
+
+returns-4 : tie.Need-returns-4
+returns-4 c = search needs
+
+returns-5 : tie.Need-returns-5
+returns-5 c = search needs
+
+returns-6 : tie.Need-returns-6
+returns-6 c =
+    let a = c .before .args in
+    let r = c .match .rest in
+    last-part (a .j) (now (a .a)) (now (a .b)) (now (a .c)) (now (a .d)) (now (a .e)) (now (a .f)) (r .0 .0 .0 .0 .1) (r .0 .0 .0 .1) (r .0 .0 .1) (r .0 .1) (r .1)
+
+pub part-spec : {M : Type 1} → statement M
+part-spec = tie.close (tie.spec returns returns-2 returns-3 returns-4 returns-5 returns-6)
