@@ -16,24 +16,31 @@
 #define FRAME_REFUSALS \
     (BIT(KV_KEY_ATTRIBUTE_LENGTH) | BIT(KV_ATTRIBUTE_TYPE) | BIT(KV_RESERVED_BYTE) | BIT(KV_ENC_TYPE) | BIT(KV_IV_FIELD))
 
+#define ANY { 0, MOST_BYTES }
+#define ROOT_KEY { 64, 128 }
+#define LABEL { 1, 255 }
+#define OFFERS { 1, 16 }
+#define SIXTEEN { 16, 16 }
+
 const shape shapes[CALLS] = {
-    [SHA256] = { "kv_sha256", 1, 1, { 0 }, 1, BIT(KV_ROOM) },
-    [HMAC_SHA256] = { "kv_hmac_sha256", 2, 1, { 0 }, 1, BIT(KV_ROOM) },
-    [USAGE_KEY] = { "kv_usage_key", 3, 1, { 8 }, 1,
+    [SHA256] = { "kv_sha256", 1, 1, { ANY }, { 0 }, 1, 32, BIT(KV_ROOM) },
+    [HMAC_SHA256] = { "kv_hmac_sha256", 2, 1, { ANY, ANY }, { 0 }, 1, 32, BIT(KV_ROOM) },
+    [USAGE_KEY] = { "kv_usage_key", 3, 1, { ROOT_KEY, LABEL, { 0, 2048 } }, { 8 }, 1, 8160,
                     BIT(KV_ROOT_KEY_LENGTH) | LABEL_REFUSALS | BIT(KV_DATA_LENGTH) | BIT(KV_KEY_LENGTH) | BIT(KV_ROOM) },
-    [VISITED_ROOT_KEY] = { "kv_visited_root_key", 1, 1, { 0 }, 1, BIT(KV_ROOT_KEY_LENGTH) | BIT(KV_ROOM) },
-    [VISITED_MASTER_KEY] = { "kv_visited_master_key", 3, 1, { 0 }, 1,
+    [VISITED_ROOT_KEY] = { "kv_visited_root_key", 1, 1, { ROOT_KEY }, { 0 }, 1, 64, BIT(KV_ROOT_KEY_LENGTH) | BIT(KV_ROOM) },
+    [VISITED_MASTER_KEY] = { "kv_visited_master_key", 3, 1, { ROOT_KEY, { 1, 255 }, { 1, 253 } }, { 0 }, 1, 64,
                              BIT(KV_ROOT_KEY_LENGTH) | BIT(KV_SERVER_ID) | BIT(KV_DOMAIN) | BIT(KV_ROOM) },
-    [VISITED_REAUTH_KEY] = { "kv_visited_reauth_key", 1, 1, { 0 }, 1, BIT(KV_ROOT_KEY_LENGTH) | BIT(KV_ROOM) },
-    [KEY_NAME] = { "kv_key_name", 2, 1, { 0 }, 1, BIT(KV_SESSION_ID) | LABEL_REFUSALS | BIT(KV_ROOM) },
-    [CHOOSE_OFFER] = { "kv_choose_offer", 2, 2, { 0 }, 0, LIST_REFUSALS | BIT(KV_NO_OFFER_SUPPORTED) },
-    [ANSWER_OFFER] = { "kv_answer_offer", 1, 2, { 2 }, 2, REPLY_REFUSALS | BIT(KV_ROOM) },
-    [CHECK_RENEWED] = { "kv_check_renewed", 2, 2, { 2 }, 0, REPLY_REFUSALS | BIT(KV_RENEWED_LIST) },
-    [READ_AREA] = { "kv_read_area", 2, 1, { 0 }, 2, AREA_REFUSALS | BIT(KV_ROOM) },
-    [WRITE_KEY_ATTRIBUTE] = { "kv_write_key_attribute", 4, 1, { 1, 4, 4 }, 1,
+    [VISITED_REAUTH_KEY] = { "kv_visited_reauth_key", 1, 1, { ROOT_KEY }, { 0 }, 1, 64, BIT(KV_ROOT_KEY_LENGTH) | BIT(KV_ROOM) },
+    [KEY_NAME] = { "kv_key_name", 2, 1, { { 1, 255 }, LABEL }, { 0 }, 1, 8, BIT(KV_SESSION_ID) | LABEL_REFUSALS | BIT(KV_ROOM) },
+    [CHOOSE_OFFER] = { "kv_choose_offer", 2, 2, { OFFERS, { 1, MOST_BYTES } }, { 0 }, 0, 0,
+                       LIST_REFUSALS | BIT(KV_NO_OFFER_SUPPORTED) },
+    [ANSWER_OFFER] = { "kv_answer_offer", 1, 2, { OFFERS }, { 2 }, 2, 17, REPLY_REFUSALS | BIT(KV_ROOM) },
+    [CHECK_RENEWED] = { "kv_check_renewed", 2, 2, { OFFERS, { 2, 17 } }, { 2 }, 0, 0, REPLY_REFUSALS | BIT(KV_RENEWED_LIST) },
+    [READ_AREA] = { "kv_read_area", 2, 1, { { 8, MOST_BYTES }, ANY }, { 0 }, 2, 17, AREA_REFUSALS | BIT(KV_ROOM) },
+    [WRITE_KEY_ATTRIBUTE] = { "kv_write_key_attribute", 4, 1, { SIXTEEN, SIXTEEN, SIXTEEN, { 16, 192 } }, { 1, 4, 4 }, 1, 252,
                               BIT(KV_ATTRIBUTE_TYPE) | BIT(KV_ID_LENGTH) | BIT(KV_KEK_LENGTH) | BIT(KV_KEY_TO_WRAP_LENGTH) |
                                   BIT(KV_ROOM) },
-    [READ_KEY_ATTRIBUTE] = { "kv_read_key_attribute", 2, 1, { 0 }, 1,
+    [READ_KEY_ATTRIBUTE] = { "kv_read_key_attribute", 2, 1, { SIXTEEN, { 76, 252 } }, { 0 }, 1, 192,
                              BIT(KV_KEK_LENGTH) | FRAME_REFUSALS | BIT(KV_ROOM) | BIT(KV_INTEGRITY) },
 };
 
@@ -120,6 +127,15 @@ static void expect_bare_refusal(const request *asked, const answer *given)
            "a refusal with an ID that is not 0");
 }
 
+/* Checks that every slice of an accepted request is within the call's limits. */
+static void expect_within_limits(const request *asked)
+{
+    const shape *form = &shapes[asked->call];
+    for (int i = 0; i < form->inputs; i++)
+        expect(form->counts[i].least <= asked->in[i].count && asked->in[i].count <= form->counts[i].most, asked,
+               "accepted a slice outside its limits");
+}
+
 /* The answer with all buffers at one place of their pages. */
 static void perform_at(place where, const request *asked, answer *given)
 {
@@ -138,7 +154,9 @@ static void perform_at(place where, const request *asked, answer *given)
         expect(surroundings_kept(i), asked, "a byte outside an input was altered");
     }
     expect(surroundings_kept(OUT), asked, "a byte outside `out` was altered");
-    if (given->refusal != KV_ACCEPTED)
+    if (given->refusal == KV_ACCEPTED)
+        expect_within_limits(asked);
+    else
         expect_bare_refusal(asked, given);
     expect(given->written <= asked->room, asked, "more was written than there is room for");
     expect(fill_kept(OUT, given->written * form->out_width), asked, "a byte after those written was altered");

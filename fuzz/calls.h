@@ -30,14 +30,21 @@ enum call {
 /* The last number that a refusal has. */
 #define LAST_REFUSAL KV_INTEGRITY
 
-/* What a call takes and may answer. */
+/* The counts that a call accepts of a slice. */
+typedef struct {
+    size_t least, most;
+} range;
+
+/* What a call takes and may answer, as the header says it. */
 typedef struct {
     const char *name;
     int inputs;             /* how many slices it reads */
     size_t width;           /* bytes of a value in them */
+    range counts[INPUTS];   /* how many values each may have */
     int numbers[NUMBERS];   /* bytes of each number that it takes, 0 for none */
     size_t out_width;       /* bytes of a value in `out`, 0 where it has no `out` */
-    uint32_t refusals;      /* the numbers that the header gives for it, as bits */
+    size_t room;            /* values in `out` that are always enough */
+    uint32_t refusals;      /* its numbers, as bits */
 } shape;
 
 extern const shape shapes[CALLS];
@@ -75,7 +82,7 @@ static inline void expect(int holds, const request *asked, const char *what)
 
 /* The answer to a request, with everything checked that holds of every call: it is the same at both places of the buffers; no input and
  * no byte around a buffer is altered; a refusal is one of the call's own, has zeros in every other field and leaves `out` as it was; an
- * accepted call leaves every byte after those that it says it wrote. */
+ * accepted call was lent slices within its limits, and leaves every byte after those that it says it wrote. */
 void perform(const request *asked, answer *given);
 
 #endif

@@ -2,7 +2,7 @@
  * accepted the answer is compared with other calls of the library (relations.h).
  *
  * libFuzzer learns nothing from the archive, which has no counters. So the harness marks, call by call and refusal by refusal, how long
- * each slice and number was, which lengths were accepted, and what an area was made of; an input that marks something new is kept. */
+ * each slice and number was, which of them were accepted, and what an area was made of; an input that marks something new is kept. */
 #include "calls.h"
 #include "relations.h"
 #include "requests.h"
@@ -25,9 +25,8 @@ size_t LLVMFuzzerMutate(uint8_t *data, size_t size, size_t max_size);
 #define NUMBER (ROOM + 1)
 MARKS sizes[CALLS][LAST_REFUSAL + 1][NUMBER + NUMBERS][CLASSES];
 
-/* Which counts, modulo their number here, each slice of an accepted request had. */
-#define COUNTS 256
-MARKS accepted[CALLS][INPUTS][COUNTS];
+/* Which counts and numbers, by their low byte, an accepted request had. */
+MARKS accepted[CALLS][NUMBER + NUMBERS][256];
 
 /* How many attributes an area had, and how many of them were AT_KDF, by refusal; the last stands for more. */
 #define ATTRIBUTES 32
@@ -59,18 +58,21 @@ static void mark_area(slice area, uint32_t refusal)
     areas[refusal][attributes][offers] = 1;
 }
 
+/* Marks a count or number of the request. */
+static void mark_size(const request *asked, uint32_t refusal, int which, uint64_t size)
+{
+    sizes[asked->call][refusal][which][bits_of(size)] = 1;
+    if (refusal == KV_ACCEPTED)
+        accepted[asked->call][which][size & 0xff] = 1;
+}
+
 static void mark(const request *asked, uint32_t refusal)
 {
-    uint8_t(*row)[CLASSES] = sizes[asked->call][refusal];
-    row[ROOM][bits_of(asked->room)] = 1;
+    for (int i = 0; i < shapes[asked->call].inputs; i++)
+        mark_size(asked, refusal, i, asked->in[i].count);
+    mark_size(asked, refusal, ROOM, asked->room);
     for (int i = 0; i < NUMBERS; i++)
-        row[NUMBER + i][bits_of(asked->numbers[i])] = 1;
-    for (int i = 0; i < shapes[asked->call].inputs; i++) {
-        size_t count = asked->in[i].count;
-        row[i][bits_of(count)] = 1;
-        if (refusal == KV_ACCEPTED)
-            accepted[asked->call][i][count % COUNTS] = 1;
-    }
+        mark_size(asked, refusal, NUMBER + i, asked->numbers[i]);
     if (asked->call == READ_AREA)
         mark_area(asked->in[0], refusal);
 }
@@ -111,13 +113,13 @@ int LLVMFuzzerTestOneInput(const uint8_t *data, size_t size)
     return 0;
 }
 
-/* Half of the mutations are libFuzzer's, which know nothing of slices; the others change one slice and leave the rest of the request. */
+/* Half of the mutations are libFuzzer's, which know nothing of slices; the others keep to them. */
 size_t LLVMFuzzerCustomMutator(uint8_t *data, size_t size, size_t max_size, unsigned seed)
 {
     if (seed % 2 == 0)
         return LLVMFuzzerMutate(data, size, max_size);
     request asked = read_request(data, size);
-    change_slice(&asked, seed);
+    change_request(&asked, seed);
     size = write_request(&asked, data, max_size);
     free_request(&asked);
     return size;

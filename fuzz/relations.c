@@ -95,10 +95,9 @@ static void check_usage_text(const request *asked, const answer *given, slice la
 
 static void check_usage_key(const request *asked, const answer *given)
 {
-    const slice emsk = asked->in[0], label = asked->in[1], data = asked->in[2];
+    const slice label = asked->in[1], data = asked->in[2];
     const uint64_t n = asked->numbers[0];
-    expect(within(64, emsk.count, 128) && within(1, label.count, 255) && data.count <= 2048 && within(1, n, 8160), asked,
-           "accepted a length outside its limits");
+    expect(within(1, n, 8160), asked, "accepted a key length outside 1 to 8,160");
     for (size_t i = 0; i < label.count; i++)
         expect(within(32, ((const uint8_t *)label.values)[i], 126), asked, "accepted a label byte outside 32 to 126");
     expect(given->written == n, asked, "did not return n");
@@ -168,7 +167,7 @@ static void check_choice(const request *asked, const answer *given)
     const slice offers = asked->in[0], supported = asked->in[1];
     const uint16_t *values = offers.values;
     const uint64_t ask = given->fields[0], value = given->fields[1], position = given->fields[2];
-    expect(within(1, offers.count, 16) && position < offers.count && values[position] == value, asked, "the value is not at its position");
+    expect(position < offers.count && values[position] == value, asked, "the value is not at its position");
     expect(ask == (position > 0), asked, "does not ask exactly for an offer after the first");
     for (size_t i = 0; i < position; i++)
         expect(!contains(supported, values[i]), asked, "an earlier offer is supported");
@@ -232,7 +231,7 @@ static void check_attribute(const request *asked, const answer *given)
 {
     const slice kek_id = asked->in[0], key_id = asked->in[1], kek = asked->in[2], key = asked->in[3];
     uint8_t attribute[LONGEST_ATTRIBUTE], opened[LONGEST_KEY];
-    expect(given->written == LONGER + key.count && within(16, key.count, LONGEST_KEY), asked, "is not 60 bytes longer than the key");
+    expect(given->written == LONGER + key.count, asked, "is not 60 bytes longer than the key");
     memcpy(attribute, given->out, given->written);
     kv_key_attribute read = kv_read_key_attribute(kek.values, kek.count, attribute, given->written, opened, key.count);
     expect(read.refusal == KV_ACCEPTED, asked, "does not read back");

@@ -109,50 +109,71 @@ static size_t pick(unsigned *seed, size_t below)
     return (*seed >> 8) % below;
 }
 
-/* A count of values: as many as a limit says, or that and one more or less. */
-static size_t pick_limit(unsigned *seed)
+/* Gives a slice so many values: the first of its own, and 'a' in place of those that it does not have. */
+static void resize(slice *changed, size_t count, size_t width)
 {
-    static const size_t limits[] = { 1, 16, 17, 64, 128, 192, 253, 255, 2048 };
-    return limits[pick(seed, sizeof limits / sizeof *limits)] + pick(seed, 3) - 1;
+    uint8_t *bytes = allocate(count * width);
+    memset(bytes, 'a', count * width);
+    memcpy(bytes, changed->values, (count < changed->count ? count : changed->count) * width);
+    free((void *)changed->values);
+    *changed = (slice){ bytes, count };
 }
 
-void change_slice(request *asked, unsigned seed)
+/* Repeats a piece of a slice right after itself, or takes it out. */
+static void change_piece(slice *changed, size_t width, unsigned seed)
 {
-    const shape *form = &shapes[asked->call];
-    slice *changed = &asked->in[pick(&seed, (size_t)form->inputs)];
-    const uint8_t *old = changed->values;
     /* attributes and wrapped keys are made of words */
     size_t grain = pick(&seed, 2) == 0 ? 1 : 4;
     size_t at = pick(&seed, changed->count + 1) / grain * grain;
-    size_t left = changed->count - at;
+    size_t tail = changed->count - at;
     size_t piece = grain * (1 + pick(&seed, 8));
-    if (piece > left)
-        piece = left;
-
-    size_t head, tail = 0, count;
-    switch (pick(&seed, 3)) {
-    case 0: /* the piece twice */
-        head = at + piece;
-        tail = left;
-        count = head + tail;
-        break;
-    case 1: /* without the piece */
-        head = at;
-        tail = left - piece;
-        count = head + tail;
-        break;
-    default: /* cut, or 'a' after the end */
-        count = pick_limit(&seed);
-        head = count < changed->count ? count : changed->count;
+    if (piece > tail)
+        piece = tail;
+    if (pick(&seed, 2) == 0 && changed->count + piece <= most_values(width)) {
+        resize(changed, changed->count + piece, width);
+        uint8_t *bytes = (uint8_t *)changed->values;
+        memmove(bytes + (at + piece) * width, bytes + at * width, tail * width);
+    } else {
+        uint8_t *bytes = (uint8_t *)changed->values;
+        memmove(bytes + at * width, bytes + (at + piece) * width, (tail - piece) * width);
+        resize(changed, changed->count - piece, width);
     }
-    if (count > most_values(form->width))
-        return;
-    uint8_t *bytes = allocate(count * form->width);
-    memset(bytes, 'a', count * form->width);
-    memcpy(bytes, old, head * form->width);
-    memcpy(bytes + head * form->width, old + (changed->count - tail) * form->width, tail * form->width);
-    free((void *)changed->values);
-    *changed = (slice){ bytes, count };
+}
+
+/* Gives a slice any count that its call accepts, or one at the edge. */
+static void change_count(slice *changed, range accepted, size_t width, unsigned seed)
+{
+    size_t counts[] = { accepted.least, accepted.most, accepted.most + 1, accepted.least - (accepted.least > 0),
+                        accepted.least + pick(&seed, accepted.most - accepted.least + 1) };
+    size_t count = counts[pick(&seed, sizeof counts / sizeof *counts)];
+    if (count <= most_values(width))
+        resize(changed, count, width);
+}
+
+/* Brings every count within what the call accepts, and gives `out` room enough. */
+static void accept_counts(request *asked)
+{
+    const shape *form = &shapes[asked->call];
+    for (int i = 0; i < form->inputs; i++) {
+        if (asked->in[i].count < form->counts[i].least)
+            resize(&asked->in[i], form->counts[i].least, form->width);
+        if (asked->in[i].count > form->counts[i].most)
+            resize(&asked->in[i], form->counts[i].most, form->width);
+    }
+    asked->room = form->room;
+}
+
+void change_request(request *asked, unsigned seed)
+{
+    const shape *form = &shapes[asked->call];
+    size_t which = pick(&seed, (size_t)form->inputs);
+    switch (pick(&seed, 4)) {
+    case 0: change_count(&asked->in[which], form->counts[which], form->width, seed); break;
+    case 1: accept_counts(asked); break;
+    default: change_piece(&asked->in[which], form->width, seed); break;
+    }
+    if (pick(&seed, 2) == 0)
+        asked->room = form->room;
 }
 
 void free_request(request *asked)

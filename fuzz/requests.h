@@ -14,8 +14,8 @@ request read_request(const uint8_t *bytes, size_t size);
 /* The bytes of a request, of which at most `most` are written; returns how many. */
 size_t write_request(const request *asked, uint8_t *bytes, size_t most);
 
-/* Makes a slice of the request longer by a piece of its own, shorter by one, or as long as a limit of the papers; `seed` picks. */
-void change_slice(request *asked, unsigned seed);
+/* Repeats or takes out a piece of a slice, or brings lengths to or within the limits of the call; `seed` picks. */
+void change_request(request *asked, unsigned seed);
 
 void free_request(request *asked);
 
