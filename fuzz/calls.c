@@ -1,0 +1,175 @@
+#include "calls.h"
+
+#include <stdio.h>
+#include <stdlib.h>
+#include <string.h>
+
+/* `out` is lent after the inputs. */
+#define OUT INPUTS
+
+#define BIT(refusal) (UINT32_C(1) << (refusal))
+#define LABEL_REFUSALS (BIT(KV_LABEL_LENGTH) | BIT(KV_LABEL_BYTE))
+#define LIST_REFUSALS (BIT(KV_OFFER_COUNT) | BIT(KV_REPEATED_OFFER))
+#define REPLY_REFUSALS (LIST_REFUSALS | BIT(KV_REPLY_IS_FIRST) | BIT(KV_REPLY_NOT_OFFERED))
+#define AREA_REFUSALS \
+    (BIT(KV_ATTRIBUTE_BOUNDS) | BIT(KV_KDF_LENGTH) | BIT(KV_KDF_INPUT) | BIT(KV_NETWORK_NAME) | BIT(KV_OFFER_COUNT))
+#define FRAME_REFUSALS \
+    (BIT(KV_KEY_ATTRIBUTE_LENGTH) | BIT(KV_ATTRIBUTE_TYPE) | BIT(KV_RESERVED_BYTE) | BIT(KV_ENC_TYPE) | BIT(KV_IV_FIELD))
+
+#define ANY { 0, MOST_BYTES }
+#define ROOT_KEY { 64, 128 }
+#define LABEL { 1, 255 }
+#define OFFERS { 1, 16 }
+#define SIXTEEN { 16, 16 }
+
+const shape shapes[CALLS] = {
+    [SHA256] = { "kv_sha256", 1, 1, { ANY }, { 0 }, 1, 32, BIT(KV_ROOM) },
+    [HMAC_SHA256] = { "kv_hmac_sha256", 2, 1, { ANY, ANY }, { 0 }, 1, 32, BIT(KV_ROOM) },
+    [USAGE_KEY] = { "kv_usage_key", 3, 1, { ROOT_KEY, LABEL, { 0, 2048 } }, { 8 }, 1, 8160,
+                    BIT(KV_ROOT_KEY_LENGTH) | LABEL_REFUSALS | BIT(KV_DATA_LENGTH) | BIT(KV_KEY_LENGTH) | BIT(KV_ROOM) },
+    [VISITED_ROOT_KEY] = { "kv_visited_root_key", 1, 1, { ROOT_KEY }, { 0 }, 1, 64, BIT(KV_ROOT_KEY_LENGTH) | BIT(KV_ROOM) },
+    [VISITED_MASTER_KEY] = { "kv_visited_master_key", 3, 1, { ROOT_KEY, { 1, 255 }, { 1, 253 } }, { 0 }, 1, 64,
+                             BIT(KV_ROOT_KEY_LENGTH) | BIT(KV_SERVER_ID) | BIT(KV_DOMAIN) | BIT(KV_ROOM) },
+    [VISITED_REAUTH_KEY] = { "kv_visited_reauth_key", 1, 1, { ROOT_KEY }, { 0 }, 1, 64, BIT(KV_ROOT_KEY_LENGTH) | BIT(KV_ROOM) },
+    [KEY_NAME] = { "kv_key_name", 2, 1, { { 1, 255 }, LABEL }, { 0 }, 1, 8, BIT(KV_SESSION_ID) | LABEL_REFUSALS | BIT(KV_ROOM) },
+    [CHOOSE_OFFER] = { "kv_choose_offer", 2, 2, { OFFERS, { 1, MOST_BYTES } }, { 0 }, 0, 0,
+                       LIST_REFUSALS | BIT(KV_NO_OFFER_SUPPORTED) },
+    [ANSWER_OFFER] = { "kv_answer_offer", 1, 2, { OFFERS }, { 2 }, 2, 17, REPLY_REFUSALS | BIT(KV_ROOM) },
+    [CHECK_RENEWED] = { "kv_check_renewed", 2, 2, { OFFERS, { 2, 17 } }, { 2 }, 0, 0, REPLY_REFUSALS | BIT(KV_RENEWED_LIST) },
+    [READ_AREA] = { "kv_read_area", 2, 1, { { 8, MOST_BYTES }, ANY }, { 0 }, 2, 17, AREA_REFUSALS | BIT(KV_ROOM) },
+    [WRITE_KEY_ATTRIBUTE] = { "kv_write_key_attribute", 4, 1, { SIXTEEN, SIXTEEN, SIXTEEN, { 16, 192 } }, { 1, 4, 4 }, 1, 252,
+                              BIT(KV_ATTRIBUTE_TYPE) | BIT(KV_ID_LENGTH) | BIT(KV_KEK_LENGTH) | BIT(KV_KEY_TO_WRAP_LENGTH) |
+                                  BIT(KV_ROOM) },
+    [READ_KEY_ATTRIBUTE] = { "kv_read_key_attribute", 2, 1, { SIXTEEN, { 76, 252 } }, { 0 }, 1, 192,
+                             BIT(KV_KEK_LENGTH) | FRAME_REFUSALS | BIT(KV_ROOM) | BIT(KV_INTEGRITY) },
+};
+
+_Noreturn void fail(const request *asked, const char *what)
+{
+    fprintf(stderr, "%s: %s\n", shapes[asked->call].name, what);
+    abort();
+}
+
+/* The answer of a call that returns a kv_outcome; `written` where its value counts what it wrote. */
+static void take_outcome(answer *given, kv_outcome r, int counts)
+{
+    given->refusal = r.refusal;
+    given->fields[0] = r.value;
+    given->written = counts ? r.value : 0;
+}
+
+static void take_first_round(answer *given, kv_first_round r)
+{
+    given->refusal = r.refusal;
+    given->fields[0] = r.ask;
+    given->fields[1] = r.value;
+    given->fields[2] = r.position;
+}
+
+static void take_area(answer *given, kv_area r)
+{
+    given->refusal = r.refusal;
+    given->fields[0] = given->written = r.offers;
+    given->fields[1] = r.at;
+    given->fields[2] = r.name_at;
+    given->fields[3] = r.name_len;
+    given->fields[4] = r.same_name;
+}
+
+static void take_key_attribute(answer *given, kv_key_attribute r)
+{
+    given->refusal = r.refusal;
+    given->fields[0] = r.app_id;
+    given->fields[1] = r.lifetime;
+    given->fields[2] = given->written = r.key_len;
+    given->fields[3] = r.type;
+    memcpy(given->kek_id, r.kek_id, 16);
+    memcpy(given->key_id, r.key_id, 16);
+}
+
+/* Calls the library on the lent buffers. */
+static void call(const request *asked, const void *const in[INPUTS], void *out, answer *given)
+{
+    const uint8_t *a = in[0], *b = in[1], *c = in[2], *d = in[3];
+    const uint16_t *list = in[0], *other = in[1];
+    const size_t an = asked->in[0].count, bn = asked->in[1].count, cn = asked->in[2].count, dn = asked->in[3].count;
+    const size_t room = asked->room;
+    const uint64_t *numbers = asked->numbers;
+    switch (asked->call) {
+    case SHA256: take_outcome(given, kv_sha256(a, an, out, room), 1); break;
+    case HMAC_SHA256: take_outcome(given, kv_hmac_sha256(a, an, b, bn, out, room), 1); break;
+    case USAGE_KEY: take_outcome(given, kv_usage_key(a, an, b, bn, c, cn, numbers[0], out, room), 1); break;
+    case VISITED_ROOT_KEY: take_outcome(given, kv_visited_root_key(a, an, out, room), 1); break;
+    case VISITED_MASTER_KEY: take_outcome(given, kv_visited_master_key(a, an, b, bn, c, cn, out, room), 1); break;
+    case VISITED_REAUTH_KEY: take_outcome(given, kv_visited_reauth_key(a, an, out, room), 1); break;
+    case KEY_NAME: take_outcome(given, kv_key_name(a, an, b, bn, out, room), 1); break;
+    case CHOOSE_OFFER: take_first_round(given, kv_choose_offer(list, an, other, bn)); break;
+    case ANSWER_OFFER: take_outcome(given, kv_answer_offer(list, an, (uint16_t)numbers[0], out, room), 1); break;
+    case CHECK_RENEWED: take_outcome(given, kv_check_renewed(list, an, (uint16_t)numbers[0], other, bn), 0); break;
+    case READ_AREA: take_area(given, kv_read_area(a, an, b, bn, out, room)); break;
+    case WRITE_KEY_ATTRIBUTE:
+        take_outcome(given, kv_write_key_attribute((uint8_t)numbers[0], (uint32_t)numbers[1], a, an, b, bn, (uint32_t)numbers[2], c, cn,
+                                                   d, dn, out, room), 1);
+        break;
+    case READ_KEY_ATTRIBUTE: take_key_attribute(given, kv_read_key_attribute(a, an, b, bn, out, room)); break;
+    case CALLS: fail(asked, "is no call");
+    }
+}
+
+/* Checks that a refusal is one of the call's own and comes with nothing else. */
+static void expect_bare_refusal(const request *asked, const answer *given)
+{
+    static const answer nothing;
+    expect(given->refusal <= LAST_REFUSAL && (shapes[asked->call].refusals & BIT(given->refusal)) != 0, asked,
+           "a refusal that the header does not give for it");
+    expect(memcmp(given->fields, nothing.fields, sizeof given->fields) == 0, asked, "a refusal with a field that is not 0");
+    expect(memcmp(given->kek_id, nothing.kek_id, 16) == 0 && memcmp(given->key_id, nothing.key_id, 16) == 0, asked,
+           "a refusal with an ID that is not 0");
+}
+
+/* Checks that every slice of an accepted request is within the call's limits. */
+static void expect_within_limits(const request *asked)
+{
+    const shape *form = &shapes[asked->call];
+    for (int i = 0; i < form->inputs; i++)
+        expect(form->counts[i].least <= asked->in[i].count && asked->in[i].count <= form->counts[i].most, asked,
+               "accepted a slice outside its limits");
+}
+
+/* The answer with all buffers at one place of their pages. */
+static void perform_at(place where, const request *asked, answer *given)
+{
+    const shape *form = &shapes[asked->call];
+    const void *in[INPUTS] = { 0 };
+    for (int i = 0; i < form->inputs; i++)
+        in[i] = lend(i, where, asked->in[i].values, asked->in[i].count * form->width);
+    uint8_t *out = lend(OUT, where, NULL, asked->room * form->out_width);
+
+    memset(given, 0, offsetof(answer, out));
+    call(asked, in, out, given);
+
+    for (int i = 0; i < form->inputs; i++) {
+        size_t length = asked->in[i].count * form->width;
+        expect(length == 0 || memcmp(in[i], asked->in[i].values, length) == 0, asked, "an input was altered");
+        expect(surroundings_kept(i), asked, "a byte outside an input was altered");
+    }
+    expect(surroundings_kept(OUT), asked, "a byte outside `out` was altered");
+    if (given->refusal == KV_ACCEPTED)
+        expect_within_limits(asked);
+    else
+        expect_bare_refusal(asked, given);
+    expect(given->written <= asked->room, asked, "more was written than there is room for");
+    expect(fill_kept(OUT, given->written * form->out_width), asked, "a byte after those written was altered");
+    if (given->written > 0)
+        memcpy(given->out, out, given->written * form->out_width);
+}
+
+void perform(const request *asked, answer *given)
+{
+    static answer again;
+    perform_at(FIRST, asked, given);
+    perform_at(LAST, asked, &again);
+    expect(memcmp(given, &again, offsetof(answer, out)) == 0, asked, "the same call twice gave two answers");
+    expect(memcmp(given->out, again.out, given->written * shapes[asked->call].out_width) == 0, asked,
+           "the same call twice wrote different bytes");
+}

@@ -1,0 +1,126 @@
+/* A libFuzzer target over every call of ketvaulo.h. An input is one request (requests.h). It is performed (calls.h), and where it is
+ * accepted the answer is compared with other calls of the library (relations.h).
+ *
+ * libFuzzer learns nothing from the archive, which has no counters. So the harness marks, call by call and refusal by refusal, how long
+ * each slice and number was, which of them were accepted, and what an area was made of; an input that marks something new is kept. */
+#include "calls.h"
+#include "relations.h"
+#include "requests.h"
+
+#include <stdio.h>
+#include <stdlib.h>
+
+/* What libFuzzer calls, and its own mutations. */
+int LLVMFuzzerInitialize(int *argc, char ***argv);
+int LLVMFuzzerTestOneInput(const uint8_t *data, size_t size);
+size_t LLVMFuzzerCustomMutator(uint8_t *data, size_t size, size_t max_size, unsigned seed);
+size_t LLVMFuzzerMutate(uint8_t *data, size_t size, size_t max_size);
+
+/* What libFuzzer reads beside the compiler's counters. */
+#define MARKS __attribute__((section("__libfuzzer_extra_counters"))) static uint8_t
+
+/* How many bits each slice's count, the room and each number had, by call and refusal. */
+#define CLASSES 16
+#define ROOM INPUTS
+#define NUMBER (ROOM + 1)
+MARKS sizes[CALLS][LAST_REFUSAL + 1][NUMBER + NUMBERS][CLASSES];
+
+/* Which counts and numbers, by their low byte, an accepted request had. */
+MARKS accepted[CALLS][NUMBER + NUMBERS][256];
+
+/* How many attributes an area had, and how many of them were AT_KDF, by refusal; the last stands for more. */
+#define ATTRIBUTES 32
+#define OFFERS 20
+MARKS areas[LAST_REFUSAL + 1][ATTRIBUTES][OFFERS];
+
+static int bits_of(uint64_t number)
+{
+    int bits = 0;
+    while (number >> bits != 0 && bits < CLASSES - 1)
+        bits++;
+    return bits;
+}
+
+/* Marks the attributes of an area up to the first that is not whole. */
+static void mark_area(slice area, uint32_t refusal)
+{
+    const uint8_t *bytes = area.values;
+    int attributes = 0, offers = 0;
+    for (size_t at = 0; area.count - at >= 2; at += 4 * (size_t)bytes[at + 1]) {
+        size_t length = 4 * (size_t)bytes[at + 1];
+        if (length == 0 || length > area.count - at)
+            break;
+        if (attributes < ATTRIBUTES - 1)
+            attributes++;
+        if (bytes[at] == 24 && offers < OFFERS - 1)
+            offers++;
+    }
+    areas[refusal][attributes][offers] = 1;
+}
+
+/* Marks a count or number of the request. */
+static void mark_size(const request *asked, uint32_t refusal, int which, uint64_t size)
+{
+    sizes[asked->call][refusal][which][bits_of(size)] = 1;
+    if (refusal == KV_ACCEPTED)
+        accepted[asked->call][which][size & 0xff] = 1;
+}
+
+static void mark(const request *asked, uint32_t refusal)
+{
+    for (int i = 0; i < shapes[asked->call].inputs; i++)
+        mark_size(asked, refusal, i, asked->in[i].count);
+    mark_size(asked, refusal, ROOM, asked->room);
+    for (int i = 0; i < NUMBERS; i++)
+        mark_size(asked, refusal, NUMBER + i, asked->numbers[i]);
+    if (asked->call == READ_AREA)
+        mark_area(asked->in[0], refusal);
+}
+
+/* How often each call gave each answer, told at the end: what the run has tried. */
+static unsigned long answers[CALLS][LAST_REFUSAL + 1];
+
+static void tell_answers(void)
+{
+    for (int call = 0; call < CALLS; call++) {
+        fprintf(stderr, "%s: accepted %lu", shapes[call].name, answers[call][KV_ACCEPTED]);
+        for (int refusal = 1; refusal <= LAST_REFUSAL; refusal++)
+            if (shapes[call].refusals >> refusal & 1)
+                fprintf(stderr, ", %d: %lu", refusal, answers[call][refusal]);
+        fprintf(stderr, "\n");
+    }
+}
+
+int LLVMFuzzerInitialize(int *argc, char ***argv)
+{
+    (void)argc;
+    (void)argv;
+    get_pages();
+    atexit(tell_answers);
+    return 0;
+}
+
+int LLVMFuzzerTestOneInput(const uint8_t *data, size_t size)
+{
+    static answer given;
+    request asked = read_request(data, size);
+    perform(&asked, &given);
+    if (given.refusal == KV_ACCEPTED)
+        check_relations(&asked, &given);
+    mark(&asked, given.refusal);
+    answers[asked.call][given.refusal]++;
+    free_request(&asked);
+    return 0;
+}
+
+/* Half of the mutations are libFuzzer's, which know nothing of slices; the others keep to them. */
+size_t LLVMFuzzerCustomMutator(uint8_t *data, size_t size, size_t max_size, unsigned seed)
+{
+    if (seed % 2 == 0)
+        return LLVMFuzzerMutate(data, size, max_size);
+    request asked = read_request(data, size);
+    change_request(&asked, seed);
+    size = write_request(&asked, data, max_size);
+    free_request(&asked);
+    return size;
+}
