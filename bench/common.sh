@@ -4,6 +4,7 @@ mkdir -p "$room"
 
 say() { printf '%s: %s\n' "${0##*/}" "$*" >&2; }
 stop() { say "$*"; exit 1; }
+quiet() { "$@" >"$room/log" 2>&1 || { cat "$room/log" >&2; stop "failed: $*"; }; } # COMMAND: shows its output only where it fails
 
 # install_for FILE PACKAGE ...: installs each package whose file is missing. A file without a slash is a command.
 install_for() {
@@ -22,17 +23,19 @@ install_for() {
         stop "cannot install ${missing[*]}"
 }
 
-# The archive is made where it is missing or older than a source.
-archive=target/staticlib/libketvaulo.a
+# The archive is made where it is missing or older than a source, unless KETVAULO_ARCHIVE names one.
+archive=${KETVAULO_ARCHIVE:-target/staticlib/libketvaulo.a}
 make_archive() {
+    [ -z "${KETVAULO_ARCHIVE:-}" ] || return 0
     if [ ! -e "$archive" ] || [ -n "$(find crates crates.txt -type f -newer "$archive" -print -quit)" ]; then
-        rt staticlib ketvaulo >&2 || stop "cannot make libketvaulo.a"
+        say "making libketvaulo.a"
+        quiet rt staticlib ketvaulo
     fi
 }
 
 # The libraries: for each what calls of ketvaulo.h are made of, and what else is linked.
 libraries='ketvaulo bearssl bearssl-small mbedtls wolfssl openssl'
-compile="gcc -O2 -g -Wall -Wextra -ffunction-sections -fdata-sections -I include -I bench"
+compile="gcc -O2 -Wall -Wextra -ffunction-sections -fdata-sections -I include -I bench"
 parts() { # NAME: object files and libraries, for the linker
     local o=$room/$1.o
     case $1 in
@@ -74,4 +77,45 @@ count() {
         stop "$1: callgrind failed"
     awk '/^desc: Trigger: Client Request: / { job = $NF } /^(totals|summary): / { n[job] = $2 }
         END { for (j in n) if (j != "none") print j, n[j] - n["none"] }' "$profiles"/p.* | sort -V
+}
+
+# check_answers FILE FIRST: stops unless the answers of a library, as measure shows them, are FIRST's byte for byte, no job is refused,
+# and the attribute that is written has the wrapped key of RFC 3394's example 4.1.
+check_answers() {
+    cmp "$1" "$2" >&2 || stop "${1##*.} DISAGREES with ${2##*.}"
+    awk '$2 $4 $9 !~ /^0+$/ { print $1 " is refused"; exit 1 }' "$1" >&2 || stop "${1##*.}: a job is refused"
+    grep -q '^write-16 .*1fa68b0a8112b447aef34bd8fb5a7b829d3e862371d2cfe5' "$1" || stop "${1##*.}: not RFC 3394's example"
+}
+
+on() { # JOBS JOB-OR-KIND: whether a column that is measured on JOBS is measured on this one
+    case $1:$2 in
+    all:* | area:area* | attribute:write* | attribute:read* | attribute:attribute | attribute:all) true ;;
+    -area:area* | area:* | attribute:*) false ;;
+    -area:*) true ;;
+    esac
+}
+
+# sizes COLUMN JOBS PREFIX PARTS: code and constants, and zeroed data, of a static program of the calls of each kind, without the C library.
+gcc=gcc
+size=size
+sizes() {
+    local column=$1 jobs=$2 prefix=$3 kind calls
+    shift 3
+    for kind in hash usage attribute area all; do
+        on "$jobs" $kind || continue
+        case $kind in
+        hash) calls=sha256 ;;
+        usage) calls=usage_key ;;
+        attribute) calls='write_key_attribute read_key_attribute' ;;
+        area) calls=read_area ;;
+        all) calls='sha256 usage_key write_key_attribute read_key_attribute read_area' ;;
+        esac
+        # shellcheck disable=SC2046,SC2086 # words
+        $gcc -static -nostdlib -Wl,--gc-sections,--unresolved-symbols=ignore-all "-Wl,-e,$prefix${calls##* }" \
+            $(printf " -Wl,-u,$prefix%s" $calls) "$@" -o "$room/size"
+        $size -A "$room/size" | awk -v column="$column" -v kind=$kind '
+            $1 ~ /^\.(text|rodata|data|init_array)/ { code += $2 }
+            $1 ~ /^\.t?bss/ { zeroed += $2 }
+            END { print "size", column, kind, code, zeroed + 0 }'
+    done
 }

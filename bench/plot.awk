@@ -1,8 +1,4 @@
-# Draws lines 'PANEL SERIES X Y' as an SVG picture of four panels. The panels' names and units are below.
-function number(n,    s, t) {
-    for (s = sprintf("%d", n); length(s) > 3; s = substr(s, 1, length(s) - 3)) t = "," substr(s, length(s) - 2) t
-    return s t
-}
+# Draws lines 'PANEL SERIES X Y' as an SVG picture of four panels. After names.awk.
 # A round step that cuts a range into at most five.
 function step(most,    s, i) {
     for (s = 1; ; s *= 10) for (i = 1; i <= 3; i++) if (most / (s * factor[i]) <= 5) return s * factor[i]
@@ -21,12 +17,12 @@ function panel(p, left, top,    i, s, k, v, u, points, n, shown, rows) {
     high[p] = u * rows
     for (v = 0; v <= high[p]; v += u) {
         line(left, top + tall - v / high[p] * tall, left + wide, top + tall - v / high[p] * tall, "#dddddd", 1)
-        text(left - 6, top + tall - v / high[p] * tall + 4, "end", 11, number(v))
+        text(left - 6, top + tall - v / high[p] * tall + 4, "end", 11, thousands(v))
     }
     u = step(right[p])
     for (v = 0; v <= right[p]; v += u) {
         line(left + v / right[p] * wide, top + tall, left + v / right[p] * wide, top + tall + 4, "#000000", 1)
-        text(left + v / right[p] * wide, top + tall + 18, "middle", 11, number(v))
+        text(left + v / right[p] * wide, top + tall + 18, "middle", 11, thousands(v))
     }
     line(left, top + tall, left + wide, top + tall, "#000000", 1)
     line(left, top, left, top + tall, "#000000", 1)
