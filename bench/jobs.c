@@ -1,0 +1,142 @@
+#include "jobs.h"
+#include <string.h>
+
+/* ---- inputs */
+static uint8_t message[65536], key192[192], label255[255];
+uint8_t emsk[128], data[2048];
+const uint8_t label20[20] = {'y', 'a', 'r', 'd', '-', 'g', 'a', 't', 'e', '@', 'm', 'i', 'l', 'l', '.', 'l', 'o', 'c', 'a', 'l'};
+/* KEK and key of RFC 3394, section 4.1 */
+static const uint8_t kek[16] = {0, 1, 2, 3, 4, 5, 6, 7, 8, 9, 10, 11, 12, 13, 14, 15};
+static const uint8_t key16[16] = {0x00, 0x11, 0x22, 0x33, 0x44, 0x55, 0x66, 0x77, 0x88, 0x99, 0xaa, 0xbb, 0xcc, 0xdd, 0xee, 0xff};
+static const uint8_t kek_id[16] = "kek-of-the-yard", key_id[16] = "key-of-the-gate";
+static uint8_t attribute16[76], attribute192[252];
+uint8_t area[4 * OFFERS + 4 + NAME + 3];
+const uint8_t own_name[NAME] = {'w', 'l', 'a', 'n', '.', 'y', 'a', 'r', 'd', '.', 'e', 'x', 'a', 'm', 'p', 'l', 'e'};
+
+static void fill(uint8_t *at, size_t n, uint32_t seed)
+{
+    for (size_t i = 0; i < n; i++) {
+        seed = seed * 1664525u + 1013904223u;
+        at[i] = (uint8_t)(seed >> 24);
+    }
+}
+
+/* ---- answers */
+uint8_t out[8192];
+uint16_t offers[17];
+static kv_outcome outcome;
+static kv_key_attribute attribute;
+static kv_area found;
+
+/* ---- jobs */
+static void none(void) {}
+
+static void sha256(size_t len) { outcome = kv_sha256(message, len, out, sizeof out); }
+static void sha256_64(void) { sha256(64); }
+static void sha256_1024(void) { sha256(1024); }
+static void sha256_65536(void) { sha256(65536); }
+
+static void usage_64(void) { outcome = kv_usage_key(emsk, 64, label20, 20, data, 0, 64, out, sizeof out); }
+static void usage_64_data(void) { outcome = kv_usage_key(emsk, 128, label20, 20, data, 2048, 64, out, sizeof out); }
+static void usage_8160(void) { outcome = kv_usage_key(emsk, 128, label255, 255, data, 2048, 8160, out, sizeof out); }
+
+static void write(const uint8_t *key, size_t len, uint8_t *to, size_t room)
+{
+    outcome = kv_write_key_attribute(7, 0x01020304, kek_id, 16, key_id, 16, 3600, kek, 16, key, len, to, room);
+}
+static void write_16(void) { write(key16, 16, out, sizeof out); }
+static void write_192(void) { write(key192, 192, out, sizeof out); }
+
+static void read_16(void) { attribute = kv_read_key_attribute(kek, 16, attribute16, 76, out, sizeof out); }
+static void read_192(void) { attribute = kv_read_key_attribute(kek, 16, attribute192, 252, out, sizeof out); }
+
+static void area_17(void) { found = kv_read_area(area, sizeof area, own_name, NAME, offers, 17); }
+
+const struct job jobs[JOBS] = {
+    {"none", none},
+    {"sha256-64", sha256_64},
+    {"sha256-1024", sha256_1024},
+    {"sha256-65536", sha256_65536},
+    {"usage-64", usage_64},
+    {"usage-64-data", usage_64_data},
+    {"usage-8160", usage_8160},
+    {"write-16", write_16},
+    {"write-192", write_192},
+    {"read-16", read_16},
+    {"read-192", read_192},
+    {"area-17", area_17},
+};
+
+void prepare_jobs(void)
+{
+    fill(message, sizeof message, 1);
+    fill(emsk, sizeof emsk, 2);
+    fill(data, sizeof data, 3);
+    fill(key192, sizeof key192, 4);
+    for (int i = 0; i < 255; i++)
+        label255[i] = (uint8_t)('a' + i % 26);
+    label255[127] = '@';
+    for (int i = 0; i < OFFERS; i++) {
+        area[4 * i] = 24, area[4 * i + 1] = 1;
+        area[4 * i + 2] = (uint8_t)(i / 4), area[4 * i + 3] = (uint8_t)(37 * i + 1);
+    }
+    area[4 * OFFERS] = 23, area[4 * OFFERS + 1] = 1 + (NAME + 3) / 4, area[4 * OFFERS + 3] = NAME;
+    memcpy(area + 4 * OFFERS + 4, own_name, NAME);
+    write(key16, 16, attribute16, sizeof attribute16);
+    write(key192, 192, attribute192, sizeof attribute192);
+}
+
+static void show_bytes(const uint8_t *at, size_t n, void (*put)(const char *))
+{
+    char text[65];
+    while (n) {
+        size_t i = 0;
+        for (; n && i < 64; i += 2, n--, at++) {
+            text[i] = "0123456789abcdef"[*at >> 4];
+            text[i + 1] = "0123456789abcdef"[*at & 15];
+        }
+        text[i] = 0;
+        put(text);
+    }
+}
+
+static void show_number(uint64_t x, void (*put)(const char *))
+{
+    uint8_t bytes[8];
+    for (int i = 0; i < 8; i++)
+        bytes[i] = (uint8_t)(x >> 8 * (7 - i));
+    put(" ");
+    show_bytes(bytes, 8, put);
+}
+
+void show_job(const struct job *job, void (*put)(const char *))
+{
+    memset(out, 0xee, sizeof out);
+    memset(offers, 0xee, sizeof offers);
+    memset(&outcome, 0, sizeof outcome);
+    memset(&attribute, 0, sizeof attribute);
+    memset(&found, 0, sizeof found);
+    job->call();
+    put(job->name);
+    show_number(outcome.refusal, put);
+    show_number(outcome.value, put);
+    show_number(attribute.refusal, put);
+    show_number(attribute.app_id, put);
+    show_number(attribute.lifetime, put);
+    show_number(attribute.key_len, put);
+    show_number(attribute.type, put);
+    show_number(found.refusal, put);
+    show_number(found.offers, put);
+    show_number(found.at, put);
+    show_number(found.name_at, put);
+    show_number(found.name_len, put);
+    show_number(found.same_name, put);
+    put(" ");
+    show_bytes(attribute.kek_id, 16, put);
+    show_bytes(attribute.key_id, 16, put);
+    put(" ");
+    show_bytes((const uint8_t *)offers, sizeof offers, put);
+    put(" ");
+    show_bytes(out, sizeof out, put);
+    put("\n");
+}

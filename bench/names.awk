@@ -1,0 +1,33 @@
+# What the jobs, calls and kinds are called in a table. Read before report.awk and plot.awk.
+function thousands(n,    s, t) {
+    for (s = sprintf("%d", n); length(s) > 3; s = substr(s, 1, length(s) - 3)) t = "," substr(s, length(s) - 2) t
+    return s t
+}
+function job_is(name, call_name, kind_name, title) {
+    job[++jobs] = name; job_call[jobs] = call_name; job_kind[jobs] = kind_name; job_title[jobs] = title
+}
+function call_is(name, title) { call[++calls] = name; call_title[calls] = title }
+function kind_is(name, title) { kind[++kinds] = name; kind_title[kinds] = title }
+BEGIN {
+    job_is("sha256-64", "sha256", "hash", "SHA-256 of 64 bytes")
+    job_is("sha256-1024", "sha256", "hash", "SHA-256 of 1 KiB")
+    job_is("sha256-65536", "sha256", "hash", "SHA-256 of 64 KiB")
+    job_is("usage-64", "usage", "usage", "usage key of 64 bytes, no data")
+    job_is("usage-64-data", "usage", "usage", "usage key of 64 bytes, 2,048 of data")
+    job_is("usage-8160", "usage", "usage", "usage key of 8,160 bytes, label 255, data 2,048")
+    job_is("write-16", "write", "attribute", "Key attribute written, key of 16")
+    job_is("write-192", "write", "attribute", "Key attribute written, key of 192")
+    job_is("read-16", "read", "attribute", "Key attribute read, key of 16")
+    job_is("read-192", "read", "attribute", "Key attribute read, key of 192")
+    job_is("area-17", "area", "area", "area of 17 offers")
+    call_is("sha256", "SHA-256")
+    call_is("usage", "usage key")
+    call_is("write", "Key attribute written")
+    call_is("read", "Key attribute read")
+    call_is("area", "area of 17 offers")
+    kind_is("hash", "SHA-256")
+    kind_is("usage", "usage key")
+    kind_is("attribute", "Key attribute, both ways")
+    kind_is("area", "attribute area")
+    kind_is("all", "all of these")
+}

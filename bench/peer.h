@@ -1,0 +1,17 @@
+/* What a library supplies so that calls.c can make calls of include/ketvaulo.h of it. All inputs were checked by calls.c. */
+#ifndef PEER_H
+#define PEER_H
+#include <stddef.h>
+#include <stdint.h>
+
+void peer_sha256(const uint8_t *message, size_t len, uint8_t out[32]);
+
+/* prf+ with S = label, 0, data, n in two bytes: n bytes to out. */
+void peer_expand(const uint8_t *key, size_t key_len, const uint8_t *label, size_t label_len, const uint8_t *data, size_t data_len,
+                 size_t n, uint8_t *out);
+
+/* RFC 3394 under a KEK of 16 bytes: key_len bytes to key_len + 8, and back. peer_unwrap is 0 where the initial value is not found. */
+void peer_wrap(const uint8_t *kek, const uint8_t *key, size_t key_len, uint8_t *out);
+int peer_unwrap(const uint8_t *kek, const uint8_t *in, size_t key_len, uint8_t *out);
+
+#endif
