@@ -28,9 +28,10 @@ check() {
 }
 
 # The C declarations that the exported functions and structs ask for, a name and its declaration in each line: a slice is a pointer and a
-# length, an outcome's name is that of its struct in small letters. `type` is a keyword in Rattle, where it stands as attribute_type.
+# length, an outcome's name is that of its struct in small letters. `type` is a keyword in Rattle, where it stands as attribute_type. Lifetimes
+# are nothing to C.
 exported_by_crate() {
-    awk '
+    sed "s/<'a>(/(/; s/&'a /\&/g" crates/ketvaulo/src/lib.rt | awk '
     function c_name(name) { return name == "attribute_type" ? "type" : name }
     function c_type(type) {
         if (type ~ /^u(8|16|32|64)$/) return "uint" substr(type, 2) "_t"
@@ -74,7 +75,7 @@ exported_by_crate() {
     sub(/^pub extern "C" fn /, "") { within = 1; signature = "" }
     within && /^ *(requires|ensures)|^[{]/ { tell_function(signature); within = 0 }
     within { sub(/^ +/, ""); signature = signature $0 }
-    ' crates/ketvaulo/src/lib.rt
+    '
 }
 
 # The constants that the refusals ask for, by the definition that every contract speaks of.
