@@ -1,5 +1,4 @@
 pub mod Stream
 pub mod Resumed
-pub mod Vectors
 mod Closing
 mod Parts

@@ -2,7 +2,7 @@
 -- Assumes nothing.
 use mathlib.Core.Path.{refl}
 use Rattle.sha256_block.specs.Fips180.{W, schedule, wordAt, nextW, rounds, round, T1, T2, K, H0, padding, padded, sums, compress, blocks, digest, sha256}
-use Rattle.sha256.specs.Vectors.{OneBlock, TwoBlocks}
+use Rattle.vectors.specs.Fips180Examples.{OneBlock, TwoBlocks}
 
 pub one-block : OneBlock
 unfolding W schedule wordAt nextW rounds round T1 T2 K H0 padding padded sums compress blocks digest sha256
