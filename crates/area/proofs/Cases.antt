@@ -2,10 +2,10 @@
 -- Assumes nothing.
 use mathlib.Core.Path.{refl}
 use Rattle.refusal.specs.Checks.{unless}
-use Rattle.area.specs.Names.{sameName}
+use Rattle.refusal.specs.Same.{sameList}
 use Rattle.area.specs.Area.{inBounds, kdf, zeros, kdfInput, attribute, attributesFrom, attributes, readOn, reading, areaAnswer, areaBuffer}
 use Rattle.area.specs.Cases.{Cases}
 
 pub cases : Cases
-unfolding unless sameName inBounds kdf zeros kdfInput attribute attributesFrom attributes readOn reading areaAnswer areaBuffer
+unfolding unless sameList inBounds kdf zeros kdfInput attribute attributesFrom attributes readOn reading areaAnswer areaBuffer
 cases = (refl, refl, refl, refl, refl, refl, refl, refl, refl, refl, refl, refl, refl, refl, refl)

@@ -1,5 +1,4 @@
--- Laws of bytes that are all zero, and of names that are the same: one for each way on in their loops; and that names are the same exactly
--- when their bytes are.
+-- Laws of bytes that are all zero, and of names that are the same: one for each way on in their loops.
 -- Assumes nothing.
 use Prim.Native.Nat.{ℕ, suc, _+_, _≤_, _<_}
 use mathlib.Core.Path.{_≡_, refl, sym, ap, _∙_}
@@ -7,13 +6,12 @@ use mathlib.Core.Bool.{Bool, true, false, _&&_}
 use mathlib.Core.List.{List, [], _∷_}
 use native.Mathlib.Omega.{arith}
 use native.Mathlib.Numerals.{add-one}
-use borrow.Author.Tests.{eq-eqb, ne-eqb, eqb-true}
+use borrow.Author.Tests.{eq-eqb, ne-eqb}
 use lib.ListN.{length, getD, drop, drop-of-length-le}
 use lib.Seq.{drop-cons}
 use lib.Dec.{eqb}
-use Rattle.refusal.proofs.Passing.{and-left, and-right}
 use Rattle.area.specs.Area.{zeros}
-use Rattle.area.specs.Names.{sameName, SameExactly}
+use Rattle.refusal.specs.Same.{sameList}
 
 zeros-step : (s : List ℕ) (i : ℕ) → i < length s → zeros (drop i s) ≡ (eqb (getD s i 0) 0 && zeros (drop (i + 1) s))
 unfolding zeros
@@ -37,46 +35,15 @@ and-true : (a : Bool) → (a && true) ≡ a
 and-true true = refl
 and-true false = refl
 
-and-false : (a : Bool) → (a && false) ≡ false
-and-false true = refl
-and-false false = refl
-
 same-step : (s t : List ℕ) (i : ℕ) → i < length s → i < length t
-    → sameName (drop i s) (drop i t) ≡ (eqb (getD s i 0) (getD t i 0) && sameName (drop (i + 1) s) (drop (i + 1) t))
-unfolding sameName
+    → sameList (drop i s) (drop i t) ≡ (eqb (getD s i 0) (getD t i 0) && sameList (drop (i + 1) s) (drop (i + 1) t))
+unfolding sameList
 same-step s t i h₁ h₂ = rw (add-one, drop-cons s i 0, drop-cons t i 0)
 
-pub same-on : (s t : List ℕ) (i : ℕ) (so-far : Bool) → i < length s → i < length t → sameName s t ≡ (so-far && sameName (drop i s) (drop i t))
-    → sameName s t ≡ ((so-far && eqb (getD s i 0) (getD t i 0)) && sameName (drop (i + 1) s) (drop (i + 1) t))
+pub same-on : (s t : List ℕ) (i : ℕ) (so-far : Bool) → i < length s → i < length t → sameList s t ≡ (so-far && sameList (drop i s) (drop i t))
+    → sameList s t ≡ ((so-far && eqb (getD s i 0) (getD t i 0)) && sameList (drop (i + 1) s) (drop (i + 1) t))
 same-on s t i so-far h₁ h₂ inv = inv ∙ rw (same-step s t i h₁ h₂) (sym (and-assoc so-far _ _))
 
-pub same-end : (s t : List ℕ) (i : ℕ) (so-far : Bool) → length s ≤ i → length t ≤ i → sameName s t ≡ (so-far && sameName (drop i s) (drop i t)) → so-far ≡ sameName s t
-unfolding sameName
+pub same-end : (s t : List ℕ) (i : ℕ) (so-far : Bool) → length s ≤ i → length t ≤ i → sameList s t ≡ (so-far && sameList (drop i s) (drop i t)) → so-far ≡ sameList s t
+unfolding sameList
 same-end s t i so-far h₁ h₂ inv = sym (inv ∙ rw (drop-of-length-le s h₁, drop-of-length-le t h₂) (and-true so-far))
-
--- names of other lengths are not the same
-pub same-not : (s t : List ℕ) → (length s ≡ length t → ⊥) → false ≡ sameName s t
-unfolding sameName
-same-not [] [] n = (let z : _≡_ {A = ℕ} 0 1 = omega (arith, n refl) in cc)
-same-not [] (y ∷ t) n = refl
-same-not (x ∷ s) [] n = refl
-same-not (x ∷ s) (y ∷ t) n = rw (sym (same-not s t (λ e. n (ap suc e)))) (sym (and-false (eqb x y)))
-
-same-bytes : (s t : List ℕ) → sameName s t ≡ true → s ≡ t
-unfolding sameName
-same-bytes [] [] e = refl
-same-bytes [] (y ∷ t) e = cc
-same-bytes (x ∷ s) [] e = cc
-same-bytes (x ∷ s) (y ∷ t) e =
-    let p : x ≡ y = eqb-true x y (and-left _ _ e) in
-    let q : s ≡ t = same-bytes s t (and-right (eqb x y) _ e) in
-    cc
-
-same-self : (s : List ℕ) → sameName s s ≡ true
-unfolding sameName
-same-self [] = refl
-same-self (x ∷ s) = rw (eq-eqb x x refl, same-self s)
-
--- names are the same exactly when they are equal
-pub same-exactly : SameExactly
-same-exactly s t = (same-bytes s t, λ e. rw (← e) (same-self s))

@@ -9,7 +9,7 @@ use lib.Dec.{leb, ltb, eqb}
 use Rattle.refusal.specs.Checks.{Reason, bare, Check, pass, refuse, check6}
 use Rattle.refusal.specs.Answers.{reasonOf}
 use Rattle.refusal.specs.declared.Refusal.the-variants.{AttributeBounds, KdfLength, KdfInput}
-use Rattle.area.specs.Names.{sameName}
+use Rattle.refusal.specs.Same.{sameList}
 use Rattle.area.specs.declared.Attribute.{Attribute}
 use Rattle.area.specs.declared.Attribute.the-variants.{Offer, Named, Other, Faulty}
 use Rattle.area.specs.declared.Words.{Words}
@@ -120,7 +120,7 @@ areaAnswerOf (Refused x) = refused (reasonOf x)
 
 -- what the call answers to a reading, the peer's own name being lent. A different name is reported and the answer given all the same.
 abbrev pub answerTo : List ℕ → List ℕ → Reading → AreaAnswer
-answerTo area own (whole offers at len) = answered (length offers) at len (sameName (take len (drop at area)) own)
+answerTo area own (whole offers at len) = answered (length offers) at len (sameList (take len (drop at area)) own)
 answerTo area own (refusal x) = refused x
 
 -- the buffer after a reading: the offers, and after them what stood there; on a refusal all that stood there

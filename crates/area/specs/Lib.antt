@@ -1,4 +1,3 @@
 pub mod Area
-pub mod Names
 pub mod Steps
 pub mod Cases

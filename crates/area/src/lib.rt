@@ -6,7 +6,7 @@ ghost use Prim.Native.Nat.{ℕ, _+_, _*_, _^_, _≤_, _<_};
 ghost use lib.ListN.{length, take, drop};
 ghost use Rattle.area.specs.Area.{wordsOf, numberIn, inBytes, inBounds, kdfInput, readOn, attributes, areaAnswerOf, areaAnswer, areaBuffer};
 ghost use Rattle.area.specs.Area;
-ghost use Rattle.area.specs.Names.{sameName};
+ghost use Rattle.refusal.specs.Same.{sameList};
 ghost use Rattle.area.specs.Steps.{stepOn, stepAt, addedCount, addedOn, walkedCount, walkedAs};
 ghost use Rattle.area.specs.declared.Attribute.{Attribute};
 ghost use Rattle.area.specs.declared.Name.the-variants.{Missing};
@@ -310,7 +310,7 @@ fn walk(area: &[u8], kept: &mut [u16]) -> Walked
 
 // Whether two names are the same.
 fn same_name(a: &[u8], b: &[u8]) -> bool
-    ensures { λ r. ⌜ r ≡ sameName (now (a .entry)) (now (b .entry)) ⌝ }
+    ensures { λ r. ⌜ r ≡ sameList (now (a .entry)) (now (b .entry)) ⌝ }
 {
     if a.len() != b.len() {
         return false;

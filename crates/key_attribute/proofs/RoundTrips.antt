@@ -16,9 +16,10 @@ use Rattle.keywrap.specs.Rfc3394.{initialValue, wrapped, unwrappedIv}
 use Rattle.keywrap.specs.Calls.{Bytes}
 use Rattle.keywrap.proofs.Bytes.{bytes-drop}
 use Rattle.keywrap.proofs.Laws.{length-wrapped, unwrap-initial, unwrap-key, length-unwrappedKey, wrap-again}
+use Rattle.refusal.proofs.Same.{same-equal, equal-same}
 use Rattle.key_frame.specs.KeyFrame.{fieldsIn, wrappedIn, keyLengthIn, frameCheck}
 use Rattle.key_frame.specs.declared.KeyFields.{KeyFields}
-use Rattle.key_frame.proofs.Frames.{framed, passed-then, test-holds, same-bytes, same-itself, kind-passes}
+use Rattle.key_frame.proofs.Frames.{framed, passed-then, test-holds, kind-passes}
 use Rattle.key_frame.proofs.Fields.{Fitting, header-size, fields-written, wrapped-written, frame-written, header-back}
 use Rattle.key_attribute.specs.KeyAttribute.{check22, attribute, writeCheck, writeAnswer, writeBuffer, keyIn, readCheck, accepted, readingTo, reading, readBuffer}
 use Rattle.key_attribute.specs.Statements.{ReadsBack, WritesAgain}
@@ -74,7 +75,7 @@ module _ (f : KeyFields) (kek key : List ℕ) (space : ℕ) (app : f .«app_id»
       let c22 = test-holds _ (bare 22) (eq-eqb _ _ (w .kek-size)) in
       let c27 = passed-then _ _ c22 ∙ frame-same in
       let c6 = passed-then _ _ c27 ∙ test-holds _ (bare 6) (le-leb _ _ fits) in
-      passed-then _ _ c6 ∙ test-holds _ (bare 28) (rw (wrapped-same, unwrap-initial kek bk key by) (same-itself initialValue))
+      passed-then _ _ c6 ∙ test-holds _ (bare 28) (rw (wrapped-same, unwrap-initial kek bk key by) (equal-same initialValue))
 
   key-length-same : keyLengthIn (attribute f kek key) ≡ length key
   key-length-same = omega (arith, size)
@@ -115,7 +116,7 @@ module _ (kek a : List ℕ) (room : ℕ) (bk : Bytes kek) (ba : Bytes a) (ok : r
 
   initial : unwrappedIv kek (wrappedIn a) ≡ initialValue
   unfolding readCheck
-  initial = same-bytes _ _ (test-passed _ _ (last-passed _ _ ok))
+  initial = same-equal _ _ (test-passed _ _ (last-passed _ _ ok))
 
   low : 76 ≤ length a
   low = omega (arith, framed a frame .size .key .low)

@@ -10,8 +10,10 @@ use lib.Dec.{leb, eqb}
 use lib.ListN.{length, getD}
 use Rattle.refusal.specs.Checks.{Reason, Check, pass, refuse, bare, unless, _andThen_, within}
 use Rattle.refusal.proofs.Passing.{and-left, and-right, within-low, within-high, before-passed, last-passed, test-passed}
+use Rattle.refusal.specs.Same.{sameList}
+use Rattle.refusal.proofs.Same.{same-equal, equal-same}
 use Rattle.keywrap.specs.Rfc3394.{initialValue}
-use Rattle.keywrap.specs.Calls.{wrappable, sameBytes}
+use Rattle.keywrap.specs.Calls.{wrappable}
 use Rattle.key_frame.specs.KeyFrame.{ivIn, check20, lengthHolds, check25, check26, check27, frameCheck}
 
 -- tests after those that refuse, or that pass
@@ -93,22 +95,6 @@ pub frame-refused : (a : List ℕ) → lengthHolds a ≡ false → refuse (bare 
 unfolding frameCheck unless _andThen_
 frame-refused a h = rw h
 
--- lists that are tested to be the same are, and a list passes the test against itself
-pub same-bytes : (l m : List ℕ) → sameBytes l m ≡ true → l ≡ m
-unfolding sameBytes
-same-bytes [] [] e = refl
-same-bytes [] (y ∷ m) e = cc
-same-bytes (x ∷ l) [] e = cc
-same-bytes (x ∷ l) (y ∷ m) e =
-    let p : x ≡ y = eqb-true x y (and-left (eqb x y) (sameBytes l m) e) in
-    let q : l ≡ m = same-bytes l m (and-right (eqb x y) (sameBytes l m) e) in
-    cc
-
-pub same-itself : (l : List ℕ) → sameBytes l l ≡ true
-unfolding sameBytes
-same-itself [] = refl
-same-itself (x ∷ l) = rw (eq-eqb x x refl, same-itself l)
-
 -- an attribute whose frame passes
 pub record Framed (a : List ℕ) : Type 0 where
   pub size : AttributeLength a
@@ -129,7 +115,7 @@ framed a e =
       kind = eqb-false _ _ (not-true _ (test-passed _ _ (last-passed _ _ c20)));
       reserved = eqb-true _ _ (test-passed _ _ (last-passed _ _ c25));
       method = eqb-true _ _ (test-passed _ _ (last-passed _ _ c26));
-      iv = same-bytes _ _ (test-passed _ _ (last-passed _ _ e));
+      iv = same-equal _ _ (test-passed _ _ (last-passed _ _ e));
     }
 
 -- the test of eight bytes, one by one
@@ -141,8 +127,8 @@ and-assoc : (a b c : Bool) → ((a && b) && c) ≡ (a && (b && c))
 and-assoc true b c = refl
 and-assoc false b c = refl
 
-pub is-initial-of : (l : List ℕ) → length l ≡ 8 → (eqb (getD l 0 0) 166 && eqb (getD l 1 0) 166 && eqb (getD l 2 0) 166 && eqb (getD l 3 0) 166 && eqb (getD l 4 0) 166 && eqb (getD l 5 0) 166 && eqb (getD l 6 0) 166 && eqb (getD l 7 0) 166) ≡ sameBytes l initialValue
-unfolding sameBytes
+pub is-initial-of : (l : List ℕ) → length l ≡ 8 → (eqb (getD l 0 0) 166 && eqb (getD l 1 0) 166 && eqb (getD l 2 0) 166 && eqb (getD l 3 0) 166 && eqb (getD l 4 0) 166 && eqb (getD l 5 0) 166 && eqb (getD l 6 0) 166 && eqb (getD l 7 0) 166) ≡ sameList l initialValue
+unfolding sameList
 is-initial-of [] h = absurd (omega arith)
 is-initial-of (x0 ∷ []) h = absurd (omega arith)
 is-initial-of (x0 ∷ x1 ∷ []) h = absurd (omega arith)
@@ -164,7 +150,7 @@ frame-passes a size counted sized kind reserved method iv =
     let c20 = passed-then _ _ c24 ∙ kind in
     let c25 = passed-then _ _ c20 ∙ test-holds _ (bare 25) (eq-eqb _ _ reserved) in
     let c26 = passed-then _ _ c25 ∙ test-holds _ (bare 26) (eq-eqb _ _ method) in
-    passed-then _ _ c26 ∙ test-holds _ (bare 27) (rw iv (same-itself initialValue))
+    passed-then _ _ c26 ∙ test-holds _ (bare 27) (rw iv (equal-same initialValue))
 
 -- and then its type does
 pub kind-passes : (a : List ℕ) → frameCheck a ≡ pass → check20 (getD a 0 0) ≡ pass

@@ -7,8 +7,9 @@ use mathlib.Core.List.{List, [], _∷_, _++_}
 use lib.Dec.{leb, eqb}
 use lib.ListN.{length, take, drop, getD}
 use Rattle.refusal.specs.Checks.{Check, bare, unless, _andThen_}
+use Rattle.refusal.specs.Same.{sameList}
 use Rattle.keywrap.specs.Rfc3394.{initialValue}
-use Rattle.keywrap.specs.Calls.{wrappable, sameBytes}
+use Rattle.keywrap.specs.Calls.{wrappable}
 use Rattle.key_frame.specs.declared.KeyFields.{KeyFields}
 
 -- a number as four bytes, high byte first
@@ -68,7 +69,7 @@ check26 a = unless (eqb (getD a 3 0) 0) (bare 26)
 
 -- 27: IV field not eight bytes A6
 abbrev pub check27 : List ℕ → Check
-check27 a = unless (sameBytes (ivIn a) initialValue) (bare 27)
+check27 a = unless (sameList (ivIn a) initialValue) (bare 27)
 
 -- the tests of a lent attribute that need no KEK
 unfoldable pub frameCheck : List ℕ → Check

@@ -4,8 +4,9 @@ ghost use Prim.Native.Nat.{_≤_};
 ghost use lib.ListN.{length, getD};
 ghost use Rattle.refusal.specs.Checks.{_andThen_};
 ghost use Rattle.refusal.specs.Answers.{checkedAs};
+ghost use Rattle.refusal.specs.Same.{sameList};
 ghost use Rattle.keywrap.specs.Rfc3394.{initialValue};
-ghost use Rattle.keywrap.specs.Calls.{wrappable, sameBytes};
+ghost use Rattle.keywrap.specs.Calls.{wrappable};
 ghost use Rattle.key_frame.specs.KeyFrame.{check20, lengthHolds, check25, check26, check27, frameCheck};
 use refusal::Checked;
 use refusal::Refusal;
@@ -50,7 +51,7 @@ fn length_holds(attribute: &[u8]) -> bool
 // Whether eight bytes are A6 each. All eight are read.
 fn is_initial(iv: &[u8]) -> bool
     requires { ⌜ length (now iv) ≡ 8 ⌝ }
-    ensures { λ r. ⌜ r ≡ sameBytes (now (iv .entry)) initialValue ⌝ }
+    ensures { λ r. ⌜ r ≡ sameList (now (iv .entry)) initialValue ⌝ }
 {
     (iv[0] == 0xa6)
         & (iv[1] == 0xa6)

@@ -20,7 +20,8 @@ use Rattle.aes128.specs.State.{State}
 use Rattle.aes128.specs.Cipher.{cipher, invCipher}
 use Rattle.aes128.specs.KeyExpansion.{expandKey}
 use Rattle.aes128.proofs.Xor.{xor-cancel}
-use Rattle.keywrap.specs.Calls.{sameBytes, wrappable, check23, check28, keyLength, wrapCheck, unwrapCheck}
+use Rattle.refusal.specs.Same.{sameList}
+use Rattle.keywrap.specs.Calls.{wrappable, check23, check28, keyLength, wrapCheck, unwrapCheck}
 use Rattle.keywrap.specs.Rfc3394.{joined, high, low, addCount, initialValue, blockAt, withBlock, Registers, wrapStep, unwrapStep, wrapPass, unwrapPass, wrapPasses, unwrapPasses, keyState, roundKeys, passesOf, wrapRegisters, wrapped, unwrapRegisters, unwrappedIv, unwrappedKey}
 use Rattle.keywrap.proofs.Bytes.{Eight, eight, eight-of}
 use Rattle.keywrap.proofs.Steps.{registers≡}
@@ -125,15 +126,15 @@ abbrev differences : List ℕ → ℕ
 differences l =
     bitOr (bitOr (pair (getD l 0 0) (getD l 1 0)) (pair (getD l 2 0) (getD l 3 0))) (bitOr (pair (getD l 4 0) (getD l 5 0)) (pair (getD l 6 0) (getD l 7 0)))
 
-same-eight : {l : List ℕ} → Eight l → length l ≡ 8 → eqb (differences l) 0 ≡ sameBytes l initialValue
-unfolding sameBytes
+same-eight : {l : List ℕ} → Eight l → length l ≡ 8 → eqb (differences l) 0 ≡ sameList l initialValue
+unfolding sameList
 same-eight (eight a b c d e f g h []) n =
     or-none (bitOr (pair a b) (pair c d)) (bitOr (pair e f) (pair g h))
     ∙ ap₂ _&&_ (four-none a b c d) (four-none e f g h)
     ∙ eight-and (eqb a 166) (eqb b 166) (eqb c 166) (eqb d 166) (eqb e 166) (eqb f 166) (eqb g 166) (eqb h 166)
 same-eight (eight a b c d e f g h (x ∷ l)) n = absurd (omega arith)
 
-pub no-difference : (l : List ℕ) → length l ≡ 8 → eqb (differences l) 0 ≡ sameBytes l initialValue
+pub no-difference : (l : List ℕ) → length l ≡ 8 → eqb (differences l) 0 ≡ sameList l initialValue
 no-difference l e = same-eight (eight-of l (omega arith)) e
 
 -- ---- a step: the block is read, put through the cipher with A, and written back

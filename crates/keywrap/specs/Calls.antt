@@ -6,6 +6,7 @@ use Prim.Native.Nat.{ℕ, _+_, _-_, _%_, _<_}
 use lib.Dec.{eqb}
 use lib.ListN.{getD, length}
 use Rattle.refusal.specs.Checks.{Check, bare, unless, _andThen_, within, check6}
+use Rattle.refusal.specs.Same.{sameList}
 use Rattle.keywrap.specs.Rfc3394.{initialValue, unwrappedIv}
 
 -- A list of bytes, as every lent slice of bytes is one.
@@ -19,16 +20,9 @@ wrappable n = within 16 192 n && eqb (n % 8) 0
 abbrev pub check23 : ℕ → Check
 check23 n = unless (wrappable n) (bare 23)
 
--- The two lists are equal.
-unfoldable pub sameBytes : List ℕ → List ℕ → Bool
-sameBytes [] [] = true
-sameBytes [] (y ∷ m) = false
-sameBytes (x ∷ l) [] = false
-sameBytes (x ∷ l) (y ∷ m) = eqb x y && sameBytes l m
-
 -- 28: unwrapping does not yield the initial value A6 (eight times).
 abbrev pub check28 : List ℕ → Check
-check28 iv = unless (sameBytes iv initialValue) (bare 28)
+check28 iv = unless (sameList iv initialValue) (bare 28)
 
 -- The order of wrapping a key of n bytes: 23, 6.
 unfoldable pub wrapCheck : ℕ → ℕ → Check

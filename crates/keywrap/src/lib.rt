@@ -17,7 +17,8 @@ ghost use lib.ListN.{length, drop, take};
 ghost use Rattle.refusal.specs.Checks.{pass, _andThen_, check6};
 ghost use Rattle.refusal.specs.Answers.{checkedAs, answerOf, answerTo, bufferAfter};
 ghost use Rattle.aes128.specs.Cipher.{cipher, invCipher};
-ghost use Rattle.keywrap.specs.Calls.{wrappable, check23, check28, sameBytes, wrapCheck, unwrapCheck, keyLength};
+ghost use Rattle.refusal.specs.Same.{sameList};
+ghost use Rattle.keywrap.specs.Calls.{wrappable, check23, check28, wrapCheck, unwrapCheck, keyLength};
 ghost use Rattle.keywrap.specs.Rfc3394.{joined, high as highOf, low as lowOf, addCount, initialValue, wrapPass, unwrapPass, wrapPasses, unwrapPasses, keyState, passesOf, wrapped as wrappedOf, unwrappedIv, unwrappedKey};
 
 // The KEK as a state of the cipher.
@@ -292,7 +293,7 @@ fn check_unwrap(n: usize, room: usize) -> Checked
 
 // Whether a is the initial value. All eight bytes are read before it is decided.
 fn is_initial(a: [u8; 8]) -> bool
-    ensures { λ r. ⌜ r ≡ sameBytes a initialValue ⌝ }
+    ensures { λ r. ⌜ r ≡ sameList a initialValue ⌝ }
 {
     let d = ((a[0] ^ 0xa6) | (a[1] ^ 0xa6)) | ((a[2] ^ 0xa6) | (a[3] ^ 0xa6));
     let e = ((a[4] ^ 0xa6) | (a[5] ^ 0xa6)) | ((a[6] ^ 0xa6) | (a[7] ^ 0xa6));

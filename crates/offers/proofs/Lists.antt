@@ -1,5 +1,5 @@
 -- Laws of the scans over a list: for each way on in a loop whose invariant says that what is left of the list, from index i on, decides, what the
--- loop answers or goes on with; that `sameList` holds exactly of equal lists; and the list that is written behind a value.
+-- loop answers or goes on with; and the list that is written behind a value.
 -- Assumes nothing.
 use Prim.Native.Nat.{ℕ, suc, _+_, _-_, _≤_, _<_}
 use mathlib.Core.Path.{_≡_, refl, sym, ap, _∙_}
@@ -12,7 +12,8 @@ use lib.Dec.{eqb}
 use lib.ListN.{length, getD, take, drop, set, drop-of-length-le, length-drop}
 use lib.Seq.{drop-cons, paste, take-all, take-length}
 use Rattle.refusal.proofs.Passing.{and-left, and-right}
-use Rattle.offers.specs.Rfc5448.{stands, repeats, firstSupported, isFirst, sameList}
+use Rattle.refusal.specs.Same.{sameList}
+use Rattle.offers.specs.Rfc5448.{stands, repeats, firstSupported, isFirst}
 
 -- a part of a list from index i to the end, as a loan of it has it
 pub rest-drop : (i : ℕ) (s : List ℕ) → take (length s - i) (drop i s) ≡ drop i s
@@ -102,29 +103,6 @@ pub after-first : (value : ℕ) (s t : List ℕ) → isFirst value s ≡ true �
 unfolding isFirst sameList
 after-first value [] t e = cc
 after-first value (x ∷ s) t e = rw (rest-drop 1 (x ∷ s), e)
-
-pub same-equal : (s t : List ℕ) → sameList s t ≡ true → s ≡ t
-unfolding sameList
-same-equal [] [] e = refl
-same-equal [] (y ∷ t) e = cc
-same-equal (x ∷ s) [] e = cc
-same-equal (x ∷ s) (y ∷ t) e =
-    let head = eqb-true x y (and-left _ _ e) in
-    let tail = same-equal s t (and-right (eqb x y) _ e) in
-    cc
-
-pub equal-same : (s : List ℕ) → sameList s s ≡ true
-unfolding sameList
-equal-same [] = refl
-equal-same (x ∷ s) = rw (eq-eqb x x refl) (equal-same s)
-
--- lists of different length are not equal
-pub lengths-differ : (s t : List ℕ) → (length s ≡ length t → ⊥) → false ≡ sameList s t
-lengths-differ s t ne = go (sameList s t) refl
-  where
-    go : (b : Bool) → sameList s t ≡ b → false ≡ sameList s t
-    go true e = elim (ne (ap length (same-equal s t e))) [ ]
-    go false e = sym e
 
 -- a value at the start of a buffer, and a list copied behind it
 pub put-behind : (value : ℕ) (s out : List ℕ) → 1 ≤ length out → paste (set out 0 value) 1 s (length s) ≡ (value ∷ s) ++ drop (length s + 1) out

@@ -6,6 +6,7 @@ use mathlib.Core.Bool.{Bool, true, false, not, _&&_, _||_}
 use mathlib.Core.List.{List, [], _∷_}
 use lib.Dec.{eqb, ltb}
 use lib.ListN.{length}
+use Rattle.refusal.specs.Same.{sameList}
 use Rattle.refusal.specs.Checks.{Check, bare, unless, _andThen_, within, check6}
 
 -- the value stands in the list
@@ -32,13 +33,6 @@ firstSupported (x ∷ offers) supported = positionIf (stands x supported) 0 (suc
 unfoldable pub isFirst : ℕ → List ℕ → Bool
 isFirst value [] = false
 isFirst value (x ∷ list) = eqb x value
-
--- the two lists are equal
-unfoldable pub sameList : List ℕ → List ℕ → Bool
-sameList [] [] = true
-sameList [] (y ∷ t) = false
-sameList (x ∷ s) [] = false
-sameList (x ∷ s) (y ∷ t) = eqb x y && sameList s t
 
 -- what the server sends on a reply that it accepts: the selected alternative, and the entire list following it
 abbrev pub renewedList : List ℕ → ℕ → List ℕ

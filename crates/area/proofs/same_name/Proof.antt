@@ -5,19 +5,20 @@ use mathlib.Core.Path.{_≡_, refl}
 use mathlib.Core.Bool.{_&&_}
 use native.Mathlib.Omega.{arith}
 use lib.ListN.{length, drop}
-use Rattle.area.specs.Names.{sameName}
-use Rattle.area.proofs.Names.{same-not, same-on, same-end}
+use Rattle.refusal.specs.Same.{sameList}
+use Rattle.refusal.proofs.Same.{lengths-differ}
+use Rattle.area.proofs.Names.{same-on, same-end}
 use Rattle.area.proofs.same_name.Statement.{statement}
 use Rattle.area.proofs.same_name.Tie as tie
 
 abbrev Inv-loop : tie.InvT-loop
-Inv-loop a b same₀ k₀ same k = (k ≤ length a) × (sameName a b ≡ (same && sameName (drop k a) (drop k b)))
+Inv-loop a b same₀ k₀ same k = (k ≤ length a) × (sameList a b ≡ (same && sameList (drop k a) (drop k b)))
 
 abbrev μ-loop : tie.MeasureT-loop
 μ-loop a b same₀ k₀ same k = length a - k
 
 returns : tie.Need-returns Inv-loop μ-loop
-returns c = same-not _ _ (c .if1 .taken)
+returns c = lengths-differ _ _ (c .if1 .taken)
 
 loop-holds : tie.Need-loop-holds Inv-loop μ-loop
 loop-holds c = (omega arith, refl)

@@ -1,7 +1,8 @@
 -- `keywrap::unwrap_by` meets its contract, by the two outcomes of the integrity check: the buffer is written in one of them alone.
 -- Assumes nothing.
+use Rattle.refusal.specs.Same.{sameList}
 use Rattle.keywrap.specs.Rfc3394.{initialValue, unwrappedKey}
-use Rattle.keywrap.specs.Calls.{keyLength, sameBytes}
+use Rattle.keywrap.specs.Calls.{keyLength}
 use Rattle.keywrap.proofs.Parts.{released}
 use lib.Seq.{length-take-le}
 use lib.ListN.{length}
@@ -59,7 +60,7 @@ returns c =
     let u = c .before .before .before .before .before .before .before in
     let s = u .before .before .before .before .before .args in
     let e = sym (ap checkedAs (c .before .integrity .given .1)) ∙ c .before .before .before .unless .ensures
-    ∙ ap (λ (b : Bool). unless b (bare 28)) (c .before .before .before .before .is-initial .ensures ∙ ap (λ (a : List ℕ). sameBytes a initialValue) (u .unwrap-into .ensures .0)) in (
+    ∙ ap (λ (b : Bool). unless b (bare 28)) (c .before .before .before .before .is-initial .ensures ∙ ap (λ (a : List ℕ). sameList a initialValue) (u .unwrap-into .ensures .0)) in (
       ap (λ (x : Check). answerTo x (keyLength (now (s .bytes)))) e,
       ap (λ (x : Check). bufferAfter x (keyLength (now (s .bytes))) (unwrappedKey (s .kek) (now (s .bytes))) (now (s .out))) e,
     )
@@ -75,7 +76,7 @@ returns-2 c =
     let u = c .before .before .before .before .before .before .before .before .before .before .before in
     let s = u .before .before .before .before .before in
     let e = sym (ap checkedAs (c .before .before .before .before .before .enum-told .given .1)) ∙ c .before .before .before .before .before .before .before .unless .ensures
-    ∙ ap (λ (b : Bool). unless b (bare 28)) (c .before .before .before .before .before .before .before .before .is-initial .ensures ∙ ap (λ (a : List ℕ). sameBytes a initialValue) (u .unwrap-into .ensures .0)) in
+    ∙ ap (λ (b : Bool). unless b (bare 28)) (c .before .before .before .before .before .before .before .before .is-initial .ensures ∙ ap (λ (a : List ℕ). sameList a initialValue) (u .unwrap-into .ensures .0)) in
     let n = u .unwrap-into .kept .1 .1 .0 ∙ s .pre .3 in (
       ap wrote n ∙ ap (λ (x : Check). answerTo x (keyLength (now (s .args .bytes)))) e,
       released _ _ _ _ _ (now (s .args .out)) _ (c .before .before .copy .ensures) (u .unwrap-into .ensures .1) n e,
