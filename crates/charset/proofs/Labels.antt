@@ -1,11 +1,11 @@
 -- What a label's form says of its tests by number, and what a label that passes them keeps to.
 -- Assumes nothing.
 use Prim.Native.Nat.{ℕ, _≤_}
-use mathlib.Core.Path.{_≡_, refl, sym, ap, _∙_}
+use mathlib.Core.Path.{_≡_, refl, ap}
 use mathlib.Core.Bool.{Bool, true, false}
 use mathlib.Core.List.{List}
 use lib.ListN.{length}
-use Rattle.refusal.specs.Checks.{Check, pass, refuse, bare, unless, _andThen_, within}
+use Rattle.refusal.specs.Checks.{pass, bare, unless, _andThen_, within}
 use Rattle.refusal.proofs.Passing.{before-passed, last-passed, test-passed, within-low, within-high}
 use Rattle.charset.specs.Bytes.{every, labelByte, firstBad}
 use Rattle.charset.specs.Forms.{scanForm, whereLength, formOf, labelForm, isWellFormed}

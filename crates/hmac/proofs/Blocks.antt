@@ -1,7 +1,7 @@
 -- The blocks of HMAC's key: a copy with zeros after it, a block masked byte by byte, and the key's block by the key's length.
 -- Assumes nothing.
 use Prim.Native.Nat.{ℕ, zero, suc, _+_, _-_, _<_, _≤_}
-use mathlib.Core.Path.{_≡_, refl, sym, ap, _∙_}
+use mathlib.Core.Path.{_≡_, sym, ap, _∙_}
 use mathlib.Core.Bool.{Bool, cond}
 use mathlib.Core.List.{List, _++_, map, append-nil}
 use native.Mathlib.Nat.{zero-add}
@@ -11,7 +11,7 @@ use native.Mathlib.Omega.{arith}
 use borrow.Author.Tests.{le-leb, lt-leb}
 use lib.Bits.{bitXor}
 use lib.Dec.{leb}
-use lib.ListN.{length, getD, set, take, drop, replicate, length-map, List·getD-map, length-append, length-replicate, drop-of-length-le}
+use lib.ListN.{length, getD, set, drop, replicate, length-map, List·getD-map, length-append, length-replicate, drop-of-length-le}
 use lib.Seq.{paste, paste-suc, take-all, take-length}
 use Rattle.sha256_block.specs.Fips180.{sha256}
 use Rattle.sha256.proofs.Stream.{sha256-length}

@@ -1,16 +1,16 @@
 -- A position that a first round asks for is one of at most 16, so it fits the 32 bits that C gets.
 -- Assumes nothing.
-use Prim.Native.Nat.{ℕ, suc, zero, _≤_, _<_, _^_}
+use Prim.Native.Nat.{ℕ, suc, zero, _<_, _^_}
 use mathlib.Core.Path.{_≡_, refl}
 use mathlib.Core.List.{List}
 use native.Mathlib.Omega.{arith}
 use borrow.Author.Tests.{ltb-true}
 use lib.Dec.{lit<}
-use lib.ListN.{length, getD}
+use lib.ListN.{length}
 use Rattle.refusal.specs.Checks.{Check, pass, refuse}
 use Rattle.refusal.proofs.Passing.{before-passed, last-passed, test-passed, within-high}
 use Rattle.offers.specs.Rfc5448.{firstSupported, chooseCheck}
-use Rattle.offers.specs.Answers.{FirstAnswer, carryOn, ask, firstRoundAt, firstRoundTo, firstRound}
+use Rattle.offers.specs.Answers.{firstRoundAt, firstRoundTo, firstRound}
 use Rattle.ketvaulo.specs.Outcomes.{positionIn}
 
 -- whatever the tests came to, the position is that of the offer taken, or 0

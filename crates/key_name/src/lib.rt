@@ -1,7 +1,6 @@
 // Key names (source document 001, section 4.1; document 01, "Visited keys"): the first 8 bytes of SHA-256 over Session-ID then label. The
 // two are hashed one after the other, and joined nowhere.
 ghost use mathlib.Core.Path.{_≡_};
-ghost use mathlib.Core.List.{_++_};
 ghost use lib.ListN.{length};
 ghost use Rattle.refusal.specs.Checks.{_andThen_};
 ghost use Rattle.refusal.specs.Answers.{checkedAs, answerOf, answerTo, bufferAfter};

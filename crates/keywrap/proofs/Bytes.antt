@@ -1,10 +1,10 @@
 -- Lists of bytes: what is taken from one or joined of two is one; and eight bytes, with the shape of their list laid open.
 -- Assumes nothing.
-use mathlib.Core.Path.{_≡_, refl, ap, _∙_}
+use mathlib.Core.Path.{_≡_, refl}
 use mathlib.Core.List.{List, [], _∷_, _++_}
 use Prim.Native.Nat.{ℕ, zero, suc, _+_, _*_, _≤_, _<_}
 use native.Mathlib.Omega.{arith}
-use lib.ListN.{length, getD, take, drop, length-drop}
+use lib.ListN.{length, take, drop, length-drop}
 use lib.Seq.{length-take-le}
 use Rattle.keywrap.specs.Calls.{Bytes}
 use Rattle.keywrap.specs.Rfc3394.{initialValue, blockAt}

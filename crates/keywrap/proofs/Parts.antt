@@ -9,7 +9,7 @@ use native.Mathlib.Numerals.{add-one, sub-one}
 use native.Mathlib.Omega.{arith}
 use borrow.Author.Tests.{eqb-true, eq-eqb, leb-true}
 use borrow.Rule.Slice.PartMut.{midOf, putMid, same-len-mid}
-use lib.Bits.{bitAnd, bitOr, bitXor, and-le-l, and-le-r, or-add-and, xor-self, xor-zero-l, xor-zero-r}
+use lib.Bits.{bitOr, bitXor, and-le-l, and-le-r, or-add-and, xor-self, xor-zero-l, xor-zero-r}
 use lib.Dec.{eqb}
 use lib.ListN.{length, getD, set, take, drop, length-drop, replicate}
 use lib.Seq.{take-length, drop-length, paste, paste-suc, take-at, drop-at, take-all, drop-drop, length-take-le}

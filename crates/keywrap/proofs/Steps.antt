@@ -6,14 +6,14 @@ use mathlib.Core.List.{List, [], _∷_, _++_}
 use Prim.Native.Nat.{ℕ, zero, suc, _+_, _*_, _/_, _%_, _^_, _≤_, _<_}
 use native.Mathlib.Omega.{arith}
 use lib.Bits.{bitXor, xor-lt}
-use lib.ListN.{length, getD, take, drop, length-drop}
+use lib.ListN.{length, take, drop, length-drop}
 use lib.Seq.{length-take-le, take-at, drop-at}
 use borrow.Rule.Slice.PartMut.{same-len-mid, put-same, take-put}
 use Rattle.aes128.specs.State.{State, Block, block, column}
 use Rattle.aes128.proofs.Xor.{xor-cancel}
 use Rattle.keywrap.specs.Calls.{Bytes}
 use Rattle.keywrap.specs.Rfc3394.{joined, high, low, addCount, blockAt, withBlock, Registers, wrapStep, unwrapStep, wrapPass, unwrapPass, wrapPasses, unwrapPasses}
-use Rattle.keywrap.proofs.Bytes.{bytes-append, bytes-take, bytes-drop, Half, half, half-bytes, half-length, block-half}
+use Rattle.keywrap.proofs.Bytes.{bytes-append, bytes-take, bytes-drop, Half, half, half-bytes, block-half}
 
 pub registers≡ : {a b c d : List ℕ} → a ≡ c → b ≡ d → _≡_ {A = Registers} (a, b) (c, d)
 registers≡ p q = λ i. (p i, q i)

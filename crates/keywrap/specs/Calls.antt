@@ -1,7 +1,7 @@
 -- The tests of the two calls, wrap and unwrap, by document 01's numbers ("Refusal numbers", "Key attribute").
 -- Assumes nothing.
-use mathlib.Core.Bool.{Bool, true, false, _&&_}
-use mathlib.Core.List.{List, [], _∷_}
+use mathlib.Core.Bool.{Bool, _&&_}
+use mathlib.Core.List.{List}
 use Prim.Native.Nat.{ℕ, _+_, _-_, _%_, _<_}
 use lib.Dec.{eqb}
 use lib.ListN.{getD, length}

@@ -14,7 +14,7 @@ ghost use mathlib.Core.Path.{_≡_};
 ghost use mathlib.Core.List.{_++_};
 ghost use Prim.Native.Nat.{_+_, _-_, _*_, _≤_, _<_};
 ghost use lib.ListN.{length, drop, take};
-ghost use Rattle.refusal.specs.Checks.{pass, _andThen_, check6};
+ghost use Rattle.refusal.specs.Checks.{_andThen_, check6};
 ghost use Rattle.refusal.specs.Answers.{checkedAs, answerOf, answerTo, bufferAfter};
 ghost use Rattle.aes128.specs.Cipher.{cipher, invCipher};
 ghost use Rattle.refusal.specs.Same.{sameList};

@@ -1,7 +1,7 @@
 -- What comes of a key's two hash values and a block's input is the next block.
 -- Assumes nothing.
 use Prim.Native.Nat.{ℕ, _+_, _-_, _*_}
-use mathlib.Core.Path.{_≡_, sym, ap, _∙_}
+use mathlib.Core.Path.{_≡_, _∙_}
 use mathlib.Core.List.{List, [], _∷_, _++_, append-assoc}
 use lib.ListN.{take, drop}
 use Rattle.sha256_block.specs.Fips180.{sha256}

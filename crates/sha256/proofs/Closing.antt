@@ -6,7 +6,7 @@ use Prim.Native.Nat.{ℕ, zero, suc, _+_, _-_, _*_, _/_, _%_, _^_, _<_, _≤_}
 use native.Mathlib.Nat.{le-refl}
 use native.Mathlib.Numerals.{add-one}
 use native.Mathlib.Omega.{arith}
-use lib.ListN.{length, take, drop, replicate, set, getD, length-set, length-append, length-replicate, getD-replicate, replicate-append-replicate, drop-of-length-le}
+use lib.ListN.{length, take, drop, replicate, set, length-set, length-append, length-replicate, getD-replicate, replicate-append-replicate, drop-of-length-le}
 use lib.Dec.{lit≤}
 use lib.Seq.{sets-eq, paste, paste-zero, paste-suc, length-paste, take-suc-set, take-append-add, take-at, drop-at, take-all, length-take-le}
 use Rattle.sha256_block.specs.Fips180.{compress, padding, be32, be64, blocks}

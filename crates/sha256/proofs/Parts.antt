@@ -8,11 +8,11 @@ use native.Mathlib.Numerals.{add-one}
 use native.Mathlib.Omega.{arith}
 use lib.Dec.{eqb}
 use lib.ListN.{length, getD, take, set, replicate, length-set}
-use Rattle.sha256_block.specs.Fips180.{digest, sha256}
+use Rattle.sha256_block.specs.Fips180.{digest}
 use Rattle.sha256.specs.declared.Sha256.{Sha256}
 use Rattle.sha256.specs.Stream.{pickList, absorb1, absorbed, inProgress, started, finished}
 use Rattle.sha256.specs.Steps.{closing, partAt}
-use Rattle.sha256.proofs.Stream.{absorbed-append, digest-law, finished-closing}
+use Rattle.sha256.proofs.Stream.{absorbed-append, finished-closing}
 
 -- the block keeps its 64 places
 one-length : (full : Bool) (b : List ℕ) → length b ≡ 64 → length (pickList full (replicate 64 0) b) ≡ 64

@@ -1,7 +1,7 @@
 -- The hash after one block is known by its hash value alone: the block has been compressed, and the next one is empty.
 -- Assumes nothing.
 use Prim.Native.Nat.{ℕ, _+_, _*_, _/_, _%_, _^_}
-use mathlib.Core.Path.{_≡_, refl, ap, _∙_}
+use mathlib.Core.Path.{_≡_, refl, _∙_}
 use mathlib.Core.List.{List, [], _++_}
 use native.Mathlib.Omega.{arith}
 use lib.Dec.{lit<}
@@ -9,7 +9,6 @@ use lib.ListN.{length, drop, drop-of-length-le}
 use lib.Seq.{sets}
 use Rattle.sha256_block.specs.Fips180.{compress, H0, sha256}
 use Rattle.sha256_block.proofs.Blocks.{one-block}
-use Rattle.sha256.specs.declared.Sha256.{Sha256}
 use Rattle.sha256.specs.Stream.{absorbed, started, afterBlock, hashAfter}
 use Rattle.sha256.proofs.Stream.{absorbed-append, digest-law, starting, empty}
 

@@ -10,7 +10,7 @@ use native.Mathlib.Decide.{ℕ-discrete}
 use native.Mathlib.Omega.{arith}
 use borrow.Author.Tests.{eq-eqb, ne-eqb}
 use lib.Dec.{eqb, lit<}
-use lib.ListN.{length, set, take, drop, replicate, length-append, length-replicate, length-take, length-drop, take-append-drop, drop-of-length-le}
+use lib.ListN.{length, set, take, drop, replicate, length-append, length-drop, take-append-drop, drop-of-length-le}
 use lib.Seq.{sets, sets-eq, paste, length-paste, take-length, take-all, drop-drop, length-take-le, take-append-add, drop-append-add}
 use Rattle.sha256_block.specs.Fips180.{compress, digest, padding, padded, be64, blocks, sha256, H0}
 use Rattle.sha256.specs.declared.Sha256.{Sha256}

@@ -223,8 +223,8 @@ pub fn digest_after(value: [u32; 8], message: &[u8]) -> [u8; 32]
 {
     let mut h = value;
     let mut block = [0; 64];
-    let count = absorb_into(&mut h, &mut block, 64, message);
-    sealed(h, &mut block, count)
+    let all = absorb_into(&mut h, &mut block, 64, message);
+    sealed(h, &mut block, all)
 }
 
 // The same for a message that is a digest: it needs no absorbing.

@@ -15,7 +15,7 @@ use Rattle.hmac.proofs.Laws.{hmacSha256-length}
 use Rattle.prf.proofs.Lists.{cancel-back}
 use Rattle.prf.proofs.Laws.{input-apart}
 use Rattle.usage.specs.Rfc5295.{usageText}
-use Rattle.usage.specs.Requests.{Request, labelOf, dataOf, lengthOf, textOf, inputOf}
+use Rattle.usage.specs.Requests.{labelOf, dataOf, lengthOf, textOf, inputOf}
 use Rattle.usage.specs.Statements.{Separated}
 use Rattle.usage.proofs.Accepting.{sound}
 

@@ -1,7 +1,6 @@
 -- The two examples of SHA-256 that NIST publishes for FIPS 180-4, as statements about the definition. Assumes nothing.
 use mathlib.Core.Path.{_≡_}
-use mathlib.Core.List.{List, [], _∷_}
-use Prim.Native.Nat.{ℕ}
+use mathlib.Core.List.{[], _∷_}
 use Rattle.sha256_block.specs.Fips180.{sha256}
 
 -- the message "abc", of one block

@@ -1,8 +1,7 @@
 -- Of VMSK requests with one domain, the texts are equal exactly when the server IDs are: the domain is cancelled from the back.
 -- Assumes nothing.
-use mathlib.Core.Path.{_≡_, refl}
-use mathlib.Core.Logic.{_↔_}
-use mathlib.Core.List.{List, append-cancel-right}
+use mathlib.Core.Path.{refl}
+use mathlib.Core.List.{append-cancel-right}
 use Rattle.visited.specs.Visited.{vmskText, vmskKey}
 use Rattle.visited.specs.Statements.{VmskSeparated, VmskSeam}
 

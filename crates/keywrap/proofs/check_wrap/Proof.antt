@@ -6,7 +6,7 @@ use Rattle.refusal.specs.Checks.{bare, unless}
 use Prim.Native.Nat.{_≤_}
 use mathlib.Core.Bool.{Bool}
 use native.Mathlib.Omega.{arith}
-use mathlib.Core.Path.{_≡_, refl, sym, ap, ap₂, _∙_}
+use mathlib.Core.Path.{sym, ap, _∙_}
 use borrow.Author.Needs.{needs}
 use Rattle.keywrap.proofs.check_wrap.Statement.{statement}
 use Rattle.keywrap.proofs.check_wrap.Tie as tie

@@ -1,10 +1,9 @@
 -- `keywrap::copy` meets its contract: after i turns d is its old content with the first i elements of s pasted in.
 -- Assumes nothing.
 use Rattle.keywrap.proofs.Parts.{copied, copied-more}
-use lib.Seq.{paste, paste-zero, paste-suc}
-use native.Mathlib.Numerals.{add-one}
-use Prim.Native.Nat.{ℕ, _+_, _-_, _*_, _≤_, _<_}
-use mathlib.Core.Path.{_≡_, refl, sym, ap, ap₂, _∙_}
+use lib.Seq.{paste, paste-zero}
+use Prim.Native.Nat.{_-_, _≤_, _<_}
+use mathlib.Core.Path.{_≡_, refl, ap, _∙_}
 use denote.Ref.{now}
 use lib.ListN.{length, length-set}
 use native.Mathlib.Omega.{arith}

@@ -1,7 +1,6 @@
 -- `keywrap::front` meets its contract.
 -- Assumes nothing.
 use denote.Ref.{now}
-use native.Mathlib.Omega.{arith}
 use Rattle.keywrap.proofs.Parts.{front-is}
 use borrow.Author.Needs.{needs}
 use Rattle.keywrap.proofs.front.Statement.{statement}

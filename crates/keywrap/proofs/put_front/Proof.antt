@@ -1,7 +1,7 @@
 -- `keywrap::put_front` meets its contract.
 -- Assumes nothing.
 use denote.Ref.{now}
-use lib.ListN.{length, length-set}
+use lib.ListN.{length-set}
 use native.Mathlib.Omega.{arith}
 use Rattle.keywrap.proofs.Parts.{stored-is}
 use borrow.Author.Needs.{needs}

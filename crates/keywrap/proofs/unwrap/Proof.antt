@@ -3,12 +3,10 @@
 use Rattle.keywrap.specs.Rfc3394.{unwrappedKey}
 use Rattle.keywrap.specs.Calls.{keyLength}
 use Rattle.keywrap.proofs.Parts.{unwrap-bounds, unwrap-refused, unwrap-passed}
-use mathlib.Core.List.{List}
-use Prim.Native.Nat.{ℕ}
 use Rattle.refusal.specs.Answers.{checkedAs, answerTo, bufferAfter}
-use Rattle.refusal.specs.Checks.{Check, bare, unless}
+use Rattle.refusal.specs.Checks.{Check}
 use denote.Ref.{now}
-use mathlib.Core.Path.{_≡_, refl, sym, ap, ap₂, _∙_}
+use mathlib.Core.Path.{sym, ap, _∙_}
 use borrow.Author.Needs.{needs}
 use Rattle.keywrap.proofs.unwrap.Statement.{statement}
 use Rattle.keywrap.proofs.unwrap.Tie as tie

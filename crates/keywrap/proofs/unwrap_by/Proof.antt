@@ -12,7 +12,7 @@ use Prim.Native.Nat.{ℕ, _≤_}
 use Rattle.refusal.specs.Answers.{checkedAs, wrote, answerTo, bufferAfter}
 use Rattle.refusal.specs.Checks.{Check, bare, unless}
 use denote.Ref.{now}
-use mathlib.Core.Path.{_≡_, refl, sym, ap, ap₂, _∙_}
+use mathlib.Core.Path.{sym, ap, _∙_}
 use native.Mathlib.Omega.{arith}
 use borrow.Author.Needs.{needs}
 use Rattle.keywrap.proofs.unwrap_by.Statement.{statement}

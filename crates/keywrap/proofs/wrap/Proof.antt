@@ -3,12 +3,11 @@
 use Rattle.keywrap.specs.Rfc3394.{wrapped}
 use Rattle.keywrap.proofs.Parts.{wrap-bounds}
 use lib.ListN.{length}
-use mathlib.Core.List.{List}
-use Prim.Native.Nat.{ℕ, _+_}
+use Prim.Native.Nat.{_+_}
 use Rattle.refusal.specs.Answers.{checkedAs, answerTo, bufferAfter}
-use Rattle.refusal.specs.Checks.{Check, bare, unless}
+use Rattle.refusal.specs.Checks.{Check}
 use denote.Ref.{now}
-use mathlib.Core.Path.{_≡_, refl, sym, ap, ap₂, _∙_}
+use mathlib.Core.Path.{sym, ap, _∙_}
 use borrow.Author.Needs.{needs}
 use Rattle.keywrap.proofs.wrap.Statement.{statement}
 use Rattle.keywrap.proofs.wrap.Tie as tie

@@ -1,14 +1,13 @@
 -- `keywrap::wrap_pass` meets its contract: after i turns A and the blocks are those of the pass over i blocks.
 -- Assumes nothing.
-use mathlib.Core.List.{List}
 use borrow.Rule.Slice.PartMut.{same-len-mid}
 use Rattle.keywrap.specs.Rfc3394.{Registers, wrapPass}
 use Rattle.aes128.specs.Cipher.{cipher}
 use Rattle.keywrap.proofs.Parts.{pass-more}
 use lib.ListN.{length}
 use denote.Ref.{now}
-use Prim.Native.Nat.{ℕ, _+_, _-_, _*_, _≤_, _<_}
-use mathlib.Core.Path.{_≡_, refl, sym, ap, ap₂, _∙_}
+use Prim.Native.Nat.{ℕ, _+_, _-_, _*_, _≤_}
+use mathlib.Core.Path.{_≡_, refl, ap, _∙_}
 use native.Mathlib.Omega.{arith}
 use borrow.Author.Needs.{needs}
 use Rattle.keywrap.proofs.wrap_pass.Statement.{statement}

@@ -3,11 +3,10 @@
 use Rattle.keywrap.specs.Rfc3394.{Registers, wrapPasses}
 use Rattle.aes128.specs.Cipher.{cipher}
 use Rattle.keywrap.proofs.Parts.{passes-more, count-more}
-use mathlib.Core.List.{List}
 use lib.ListN.{length}
 use denote.Ref.{now}
-use Prim.Native.Nat.{ℕ, _+_, _-_, _*_, _≤_, _<_}
-use mathlib.Core.Path.{_≡_, refl, sym, ap, ap₂, _∙_}
+use Prim.Native.Nat.{ℕ, _+_, _-_, _*_, _≤_}
+use mathlib.Core.Path.{_≡_, refl, sym, ap, _∙_}
 use native.Mathlib.Omega.{arith}
 use borrow.Author.Needs.{needs}
 use Rattle.keywrap.proofs.wrap_passes.Statement.{statement}

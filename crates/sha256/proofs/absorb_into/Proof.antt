@@ -1,7 +1,7 @@
 -- `sha256::absorb_into` meets its contract: bytes that leave the block short of full (proofs/Stream.antt, `part-law`), or those that fill it, the whole
 -- blocks after them, and the rest (`over-law`).
 -- Assumes nothing.
-use mathlib.Core.Path.{_≡_, refl, sym}
+use mathlib.Core.Path.{refl, sym}
 use Prim.Native.Nat.{_+_, _-_, _%_, _^_, _<_, _≤_}
 use native.Mathlib.Omega.{arith}
 use borrow.Author.Needs.{needs}

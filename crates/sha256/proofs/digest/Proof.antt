@@ -1,7 +1,6 @@
 -- `sha256::digest` meets its contract: the whole blocks from the message itself, the bytes after them from a block (proofs/Stream.antt, `at-once`).
 -- Assumes nothing.
-use mathlib.Core.Path.{refl}
-use Prim.Native.Nat.{_-_, _%_, _^_, _<_}
+use Prim.Native.Nat.{_-_, _^_, _<_}
 use native.Mathlib.Omega.{arith}
 use denote.Ref.{now}
 use lib.ListN.{length}

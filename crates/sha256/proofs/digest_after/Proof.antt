@@ -1,6 +1,6 @@
 -- `sha256::digest_after` meets its contract: what is absorbed after the block, and the digest of that (proofs/Parts.antt, `sealed-law`).
 -- Assumes nothing.
-use mathlib.Core.Path.{_≡_, refl}
+use mathlib.Core.Path.{refl}
 use Prim.Native.Nat.{_^_, _<_}
 use denote.Ref.{now}
 use Rattle.sha256.specs.Stream.{afterBlock, hashAfter}

@@ -2,13 +2,13 @@
 -- Assumes nothing.
 use mathlib.Core.Path.{_≡_, refl, ap, _∙_}
 use mathlib.Core.List.{List, [], _∷_}
-use Prim.Native.Nat.{ℕ, _+_, _-_, _^_, _<_, _≤_}
+use Prim.Native.Nat.{ℕ, _-_, _^_, _<_, _≤_}
 use native.Mathlib.Omega.{arith}
 use borrow.Author.Needs.{needs}
 use denote.Ref.{now}
 use lib.Dec.{lit<}
 use lib.ListN.{length, take}
-use Rattle.sha256.specs.Stream.{inProgress, absorbed, afterBlock, hashAfter}
+use Rattle.sha256.specs.Stream.{inProgress, afterBlock, hashAfter}
 use Rattle.sha256.proofs.Parts.{block-kept, sealed-law, absorbedAll, next-part, all-six}
 use Rattle.sha256.proofs.digest_after_parts.Statement.{statement}
 use Rattle.sha256.proofs.digest_after_parts.Tie as tie

@@ -1,6 +1,6 @@
 -- `sha256::digest_of_two` meets its contract: what is absorbed in two parts is absorbed joined.
 -- Assumes nothing.
-use mathlib.Core.Path.{_≡_, refl, ap, _∙_}
+use mathlib.Core.Path.{refl, ap, _∙_}
 use mathlib.Core.List.{_++_}
 use Prim.Native.Nat.{_^_, _<_}
 use denote.Ref.{now}

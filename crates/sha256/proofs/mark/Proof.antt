@@ -1,12 +1,11 @@
 -- `sha256::mark` meets its contract: after the turn at j, zeros from at + 1 to j (proofs/Closing.antt, `mark-turn`).
 -- Assumes nothing.
-use borrow.Author.Needs.{needs}
-use mathlib.Core.Path.{_≡_, sym, ap, _∙_}
-use Prim.Native.Nat.{ℕ, _+_, _-_, _<_, _≤_}
+use mathlib.Core.Path.{_≡_}
+use Prim.Native.Nat.{_+_, _-_, _<_, _≤_}
 use native.Mathlib.Omega.{arith}
 use denote.Ref.{now}
-use lib.ListN.{length, replicate, set, length-set}
-use lib.Seq.{paste, paste-zero}
+use lib.ListN.{length, replicate, length-set}
+use lib.Seq.{paste}
 use Rattle.sha256.proofs.Closing.{mark-none, mark-turn, mark-done}
 use Rattle.sha256.proofs.mark.Statement.{statement}
 use Rattle.sha256.proofs.mark.Tie as tie

@@ -4,7 +4,6 @@ use native.Mathlib.Nat.{le-trans}
 use lib.Dec.{lit≤}
 use denote.Ref.{now}
 use Rattle.sha256_block.proofs.Schedule.{loaded}
-use borrow.Author.Needs.{needs}
 use Rattle.sha256_block.proofs.load.Statement.{statement}
 use Rattle.sha256_block.proofs.load.Tie as tie
 

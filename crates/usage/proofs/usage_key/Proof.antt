@@ -1,7 +1,6 @@
 -- `usage::usage_key` meets its contract: the expansion's tests after its own are the request's, and the text in parts is the request's.
 -- Assumes nothing.
 use Prim.Native.Nat.{ℕ}
-use mathlib.Core.Path.{_≡_}
 use borrow.Author.Needs.{needs}
 use denote.Ref.{now}
 use lib.ListN.{length}
