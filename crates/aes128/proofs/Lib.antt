@@ -1,4 +1,7 @@
+pub mod Equivalent
+mod Filled
 mod Four
+mod Lookups
 mod Mix
 pub mod Rounds
 mod Steps

@@ -338,3 +338,13 @@ premix a b c d =
     ∙ ap₂ (λ (p q : ℕ). mixX (bitXor a (by4 (bitXor a c))) (bitXor b (by4 (bitXor b d))) (bitXor c (by4 p)) (bitXor d (by4 q))) (xor-comm c a) (xor-comm d b)
     ∙ half-mix a b c d (by4 (bitXor a c)) (by4 (bitXor b d)) (four a c) (four b d)
     ∙ sym (inv-is a b c d)
+
+-- ---- the inverse mixing of a sum
+
+pub inv-mix-add : (a b c d e f g h : ℕ)
+    → invMixByte (bitXor a e) (bitXor b f) (bitXor c g) (bitXor d h) ≡ bitXor (invMixByte a b c d) (invMixByte e f g h)
+inv-mix-add a b c d e f g h =
+    inv-is (bitXor a e) (bitXor b f) (bitXor c g) (bitXor d h)
+    ∙ ap₄ bitXor xor-comm xor-assoc (lin14 a e) (lin11 b f) (lin13 c g) (lin9 d h)
+    ∙ sym (add4 bitXor xor-comm xor-assoc (by14 a) (by11 b) (by13 c) (by9 d) (by14 e) (by11 f) (by13 g) (by9 h))
+    ∙ sym (ap₂ bitXor (inv-is a b c d) (inv-is e f g h))

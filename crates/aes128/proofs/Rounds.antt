@@ -1,14 +1,15 @@
 -- The cipher and the inverse cipher undo each other, both ways, under round keys of sixteen bytes each, and those of any key are such.
 -- Each step undoes its inverse; so does a round, where the steps of the inverse cipher are grouped from one look-up to the next; and so do the ten.
 -- Assumes nothing.
-use mathlib.Core.Path.{_≡_, refl, sym, ap, ap₂, _∙_}
+use mathlib.Core.Path.{_≡_, refl, sym, ap, ap₂, _∙_, subst}
 use mathlib.Core.List.{List, [], _∷_}
-use Prim.Native.Nat.{ℕ, zero, suc, _+_, _-_, _≤_, _<_}
-use native.Mathlib.Nat.{not-suc-le-zero, le-of-suc-le-suc}
-use native.Mathlib.Numerals.{add-one, sub-one}
+use Prim.Native.Nat.{ℕ, zero, suc, _+_, _<_}
+use native.Mathlib.Numerals.{add-one}
 use native.Mathlib.Omega.{arith}
-use lib.ListN.{getD}
-use Rattle.aes128.specs.State.{State, Column, column, Block, block, subBytes, invSubBytes, shiftRows, invShiftRows, mixColumns, invMixColumns, addColumn, addRoundKey}
+use lib.ListN.{getD, length}
+use lib.Seq.{ext-getD}
+use Rattle.aes_sbox.specs.Field.{xtime}
+use Rattle.aes128.specs.State.{State, Column, column, Block, block, invSubBytes, shiftRows, invShiftRows, mixColumns, invMixColumns, addColumn, addRoundKey}
 use Rattle.aes128.specs.Cipher.{round, lastRound, invRound, invLastRound, rounds, invRounds, cipher, invCipher}
 use Rattle.aes128.specs.KeyExpansion.{rcon, keyCore, nextKey, roundKey, expandKey}
 use Rattle.aes128.proofs.Four.{four}
@@ -16,7 +17,7 @@ use Rattle.aes128.proofs.Steps.{subBytes-block, invSubBytes-block, unsu
 use Rattle.aes128.proofs.Words.{xor-byte, xtime-byte}
 use Rattle.aes_sbox.proofs.Tables.{sboxOf-byte}
 
--- ---- the inverse cipher, grouped from one look-up to the next, as the code takes it
+-- ---- the inverse cipher, grouped from one look-up to the next
 
 abbrev pub begun : State → State
 begun s = invSubBytes (invShiftRows s)
@@ -169,20 +170,24 @@ unfolding roundKey
 roundKey-block k b zero = b
 roundKey-block k b (suc n) = nextKey-block (rcon n) (rcon-byte n) (roundKey-block k b n)
 
-pub expandKey-keys : (k : State) → Block k → Keys (expandKey k)
+-- round key n stands at place n
+expandKey-at : (k : State) (n : ℕ) → n < 11 → getD (expandKey k) n [] ≡ roundKey k n
 unfolding expandKey
-expandKey-keys k b zero h = roundKey-block k b 0
-expandKey-keys k b (suc zero) h = roundKey-block k b 1
-expandKey-keys k b (suc (suc zero)) h = roundKey-block k b 2
-expandKey-keys k b (suc (suc (suc zero))) h = roundKey-block k b 3
-expandKey-keys k b (suc (suc (suc (suc zero)))) h = roundKey-block k b 4
-expandKey-keys k b (suc (suc (suc (suc (suc zero))))) h = roundKey-block k b 5
-expandKey-keys k b (suc (suc (suc (suc (suc (suc zero)))))) h = roundKey-block k b 6
-expandKey-keys k b (suc (suc (suc (suc (suc (suc (suc zero))))))) h = roundKey-block k b 7
-expandKey-keys k b (suc (suc (suc (suc (suc (suc (suc (suc zero)))))))) h = roundKey-block k b 8
-expandKey-keys k b (suc (suc (suc (suc (suc (suc (suc (suc (suc zero))))))))) h = roundKey-block k b 9
-expandKey-keys k b (suc (suc (suc (suc (suc (suc (suc (suc (suc (suc zero)))))))))) h = roundKey-block k b 10
-expandKey-keys k b (suc (suc (suc (suc (suc (suc (suc (suc (suc (suc (suc n))))))))))) h = absurd (omega arith)
+expandKey-at k zero h = refl
+expandKey-at k (suc zero) h = refl
+expandKey-at k (suc (suc zero)) h = refl
+expandKey-at k (suc (suc (suc zero))) h = refl
+expandKey-at k (suc (suc (suc (suc zero)))) h = refl
+expandKey-at k (suc (suc (suc (suc (suc zero))))) h = refl
+expandKey-at k (suc (suc (suc (suc (suc (suc zero)))))) h = refl
+expandKey-at k (suc (suc (suc (suc (suc (suc (suc zero))))))) h = refl
+expandKey-at k (suc (suc (suc (suc (suc (suc (suc (suc zero)))))))) h = refl
+expandKey-at k (suc (suc (suc (suc (suc (suc (suc (suc (suc zero))))))))) h = refl
+expandKey-at k (suc (suc (suc (suc (suc (suc (suc (suc (suc (suc zero)))))))))) h = refl
+expandKey-at k (suc (suc (suc (suc (suc (suc (suc (suc (suc (suc (suc n))))))))))) h = absurd (omega arith)
+
+pub expandKey-keys : (k : State) → Block k → Keys (expandKey k)
+expandKey-keys k b n h = subst Block (sym (expandKey-at k n h)) (roundKey-block k b n)
 
 -- ---- what the code takes of these, step by step
 
@@ -197,6 +202,24 @@ next-words k r core w0 w1 w2 w3 e p0 p1 p2 p3 =
     let q2 = p2 ∙ ap (addColumn (getD k 2 [])) q1 in
     four q0 q1 q2 (p3 ∙ ap (addColumn (getD k 3 [])) q2)
 
+-- the key expansion's loop: before it, a turn of it, and its end
+pub at-zero : (P : ℕ → Type 0) → P 0 → (n : ℕ) → n < 1 → P n
+at-zero P p zero h = p
+at-zero P p (suc n) h = absurd (omega arith)
+
+module _ (k : State) (i : ℕ) where
+  pub next-step : (c : ℕ) (x u : State) → x ≡ roundKey k i → c ≡ rcon i → u ≡ nextKey x c → u ≡ roundKey k (i + 1)
+  unfolding roundKey
+  next-step c x u p q e = e ∙ ap₂ nextKey p q ∙ rw add-one
+
+  pub constant-step : (c d : ℕ) → c ≡ rcon i → d ≡ xtime c → d ≡ rcon (i + 1)
+  unfolding rcon
+  constant-step c d p e = e ∙ ap xtime p ∙ rw add-one
+
+pub expanded : (k : State) (ks : List State) → length ks ≡ 11 → ((n : ℕ) → n < 11 → getD ks n [] ≡ roundKey k n) → ks ≡ expandKey k
+unfolding expandKey
+expanded k ks len each = ext-getD [] ks (expandKey k) len (λ n h. let l : n < 11 = omega (arith, h, len) in each n l ∙ sym (expandKey-at k n l))
+
 -- a turn of the cipher's loop, and its end
 module _ (ks : List State) where
   pub round-step : (i : ℕ) (s t u : State) → t ≡ rounds ks i s → u ≡ round (getD ks (i + 1) []) t → u ≡ rounds ks (i + 1) s
@@ -207,17 +230,3 @@ module _ (ks : List State) where
       → r ≡ cipher ks s
   unfolding cipher
   cipher-end i s t u r p q e h = h ∙ ap (lastRound (getD ks 10 [])) (q ∙ ap₂ (rounds ks) e p)
-
-  -- a turn of the inverse cipher's loop, and its end
-  pub turn-step : (i : ℕ) (t u : State) → 0 < i → u ≡ begun (invMixColumns (addRoundKey t (getD ks i []))) → turns ks (i - 1) u ≡ turns ks i t
-  unfolding turns goneOn
-  turn-step zero t u h e = absurd (not-suc-le-zero h)
-  turn-step (suc i) t u h e = rw sub-one (ap (turns ks i) e)
-
-  pub invCipher-end : (i : ℕ) (s y t u r : State) → y ≡ addRoundKey s (getD ks 10 []) → t ≡ begun y → turns ks i u ≡ turns ks 9 t → i ≡ 0
-      → r ≡ addRoundKey u (getD ks 0 []) → r ≡ invCipher ks s
-  unfolding turns
-  invCipher-end i s y t u r p q w e h =
-      h
-      ∙ ap (λ (x : State). addRoundKey x (getD ks 0 [])) (ap (λ (n : ℕ). turns ks n u) (sym e) ∙ w ∙ ap (turns ks 9) (q ∙ ap begun p))
-      ∙ sym (regrouped ks s)

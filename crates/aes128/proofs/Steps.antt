@@ -23,7 +23,7 @@ mulBits-byte zero h b = omega arith
 mulBits-byte (suc n) {a} h b =
     xor-byte (bit (λ (x : ℕ). x * a < 256) (omega arith) (omega arith) (b % 2) (mod2-lt b)) (mulBits-byte n (xtime-byte a) (b / 2))
 
-mul-byte : {a : ℕ} → a < 256 → (b : ℕ) → mul a b < 256
+pub mul-byte : {a : ℕ} → a < 256 → (b : ℕ) → mul a b < 256
 unfolding mul
 mul-byte h b = mulBits-byte 8 h b
 

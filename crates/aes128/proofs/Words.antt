@@ -5,11 +5,11 @@ use mathlib.Core.Path.{_≡_, refl, sym, ap, ap₂, _∙_}
 use mathlib.Core.List.{List, [], _∷_}
 use Prim.Native.Nat.{ℕ, _+_, _*_, _/_, _%_, _<_}
 use native.Mathlib.Omega.{arith}
-use lib.Bits.{bitAnd, bitXor, and-block, and-mask, xor-block, xor-lt}
+use lib.Bits.{bitAnd, bitXor, and-block, and-mask, xor-block, xor-lt, xor-mod, xor-shr}
 use lib.ListN.{getD}
 use Rattle.aes_sbox.specs.Field.{xtime}
-use Rattle.aes128.specs.State.{eachRow, mixByte, invMixByte, mixColumn}
-use Rattle.aes128.specs.Words.{wordOf, columnOf, doubled, turned1, turned2}
+use Rattle.aes128.specs.State.{eachRow, mixByte, invMixByte, mixColumn, addColumn}
+use Rattle.aes128.specs.Words.{wordOf, columnOf, doubled, turned1, turned2, sumOf}
 use Rattle.aes128.proofs.Four.{four}
 use Rattle.aes128.proofs.Mix.{by4, one-doubling, premix}
 
@@ -30,7 +30,7 @@ word≡ p q r s = λ i. wordOf (p i) (q i) (r i) (s i)
 -- ---- sums, and masks, byte by byte
 
 module _ (a b c d e f g h : ℕ) (ha : a < 256) (hb : b < 256) (hc : c < 256) (he : e < 256) (hf : f < 256) (hg : g < 256) where
-  xor-word : bitXor (wordOf a b c d) (wordOf e f g h) ≡ wordOf (bitXor a e) (bitXor b f) (bitXor c g) (bitXor d h)
+  pub xor-word : bitXor (wordOf a b c d) (wordOf e f g h) ≡ wordOf (bitXor a e) (bitXor b f) (bitXor c g) (bitXor d h)
   xor-word =
       xor-block 8 ((d * 256 + c) * 256 + b) ((h * 256 + g) * 256 + f) a e ha he
       ∙ ap (λ (x : ℕ). x * 256 + bitXor a e)
@@ -41,6 +41,26 @@ module _ (a b c d e f g h : ℕ) (ha : a < 256) (hb : b < 256) (hc : c < 256) (h
       and-block 8 ((d * 256 + c) * 256 + b) ((h * 256 + g) * 256 + f) a e ha he
       ∙ ap (λ (x : ℕ). x * 256 + bitAnd a e)
       (and-block 8 (d * 256 + c) (h * 256 + g) b f hb hf ∙ ap (λ (x : ℕ). x * 256 + bitAnd b f) (and-block 8 d h c g hc hg))
+
+-- ---- the column of a sum
+
+column-xor : (x y : ℕ) → columnOf (bitXor x y) ≡ addColumn (columnOf x) (columnOf y)
+column-xor x y =
+    four
+    (xor-mod x y 8)
+    (ap (λ (z : ℕ). z % 256) (xor-shr x y 8) ∙ xor-mod (x / 256) (y / 256) 8)
+    (ap (λ (z : ℕ). z % 256) (xor-shr x y 16) ∙ xor-mod (x / 65536) (y / 65536) 8)
+    (ap (λ (z : ℕ). z % 256) (xor-shr x y 24) ∙ xor-mod (x / 16777216) (y / 16777216) 8)
+
+pub added-columns : (x y : ℕ) (u v : List ℕ) → columnOf x ≡ u → columnOf y ≡ v → columnOf (bitXor x y) ≡ addColumn u v
+added-columns x y u v p q = column-xor x y ∙ ap₂ addColumn p q
+
+pub summed-columns : (a b c d e f g y : ℕ) (v : List ℕ) → e ≡ turned1 b → f ≡ turned1 (bitXor c e) → g ≡ turned1 (bitXor d f) → columnOf y ≡ v
+    → columnOf (bitXor (bitXor a g) y) ≡ addColumn (columnOf (sumOf a b c d)) v
+summed-columns a b c d e f g y v p q r h =
+    let f′ : f ≡ turned1 (bitXor c (turned1 b)) = q ∙ ap (λ (x : ℕ). turned1 (bitXor c x)) p in
+    let g′ : g ≡ turned1 (bitXor d (turned1 (bitXor c (turned1 b)))) = r ∙ ap (λ (x : ℕ). turned1 (bitXor d x)) f′ in
+    added-columns (bitXor a g) y _ v (ap (λ (x : ℕ). columnOf (bitXor a x)) g′) h
 
 -- ---- a word times a number, and a word shifted by one bit to the left, with a bit a from below
 
@@ -75,13 +95,13 @@ by-128 y a = omega arith
 -- ---- the other maps of words, on bytes
 
 module _ (a b c d : ℕ) (ha : a < 256) (hb : b < 256) (hc : c < 256) (hd : d < 256) where
-  turn1-word : turned1 (wordOf a b c d) ≡ wordOf b c d a
+  pub turn1-word : turned1 (wordOf a b c d) ≡ wordOf b c d a
   turn1-word = omega arith
 
   turn2-word : turned2 (wordOf a b c d) ≡ wordOf c d a b
   turn2-word = omega arith
 
-  column-word : columnOf (wordOf a b c d) ≡ a ∷ b ∷ c ∷ d ∷ []
+  pub column-word : columnOf (wordOf a b c d) ≡ a ∷ b ∷ c ∷ d ∷ []
   column-word = four (omega arith) (omega arith) (omega arith) (omega arith)
 
   -- the seven low bits of each byte, shifted

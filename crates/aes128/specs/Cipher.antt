@@ -1,7 +1,9 @@
--- FIPS 197 sections 5.1 and 5.3: the cipher and the inverse cipher of AES-128 (Nr = 10), under the round keys ks, counted from 0.
+-- FIPS 197 sections 5.1 and 5.3: the cipher, the inverse cipher and the equivalent inverse cipher of AES-128 (Nr = 10), under the round
+-- keys ks, counted from 0.
 -- Assumes nothing.
 use mathlib.Core.List.{List, []}
-use Prim.Native.Nat.{ℕ, zero, suc}
+use mathlib.Core.Path.{_≡_}
+use Prim.Native.Nat.{ℕ, zero, suc, _<_}
 use lib.ListN.{getD}
 use Rattle.aes128.specs.State.{State, subBytes, invSubBytes, shiftRows, invShiftRows, mixColumns, invMixColumns, addRoundKey}
 
@@ -38,3 +40,27 @@ invLastRound k s = addRoundKey (invSubBytes (invShiftRows s)) k
 -- Figure 12.
 unfoldable pub invCipher : List State → State → State
 invCipher ks s = invLastRound (getD ks 0 []) (invRounds ks 9 (addRoundKey s (getD ks 10 [])))
+
+-- Figure 15, the equivalent inverse cipher: a round with the round key k.
+unfoldable pub eqInvRound : State → State → State
+eqInvRound k s = addRoundKey (invMixColumns (invShiftRows (invSubBytes s))) k
+
+-- The rounds n down to 1.
+unfoldable pub eqInvRounds : List State → ℕ → State → State
+eqInvRounds ks zero s = s
+eqInvRounds ks (suc n) s = eqInvRounds ks n (eqInvRound (getD ks (suc n) []) s)
+
+-- Its last round.
+unfoldable pub eqInvLastRound : State → State → State
+eqInvLastRound k s = addRoundKey (invShiftRows (invSubBytes s)) k
+
+-- Figure 15.
+unfoldable pub eqInvCipher : List State → State → State
+eqInvCipher ks s = eqInvLastRound (getD ks 0 []) (eqInvRounds ks 9 (addRoundKey s (getD ks 10 [])))
+
+-- Section 5.3.5: ds are the round keys of the equivalent inverse cipher, where ks are those of the cipher. All but the first and the
+-- last are InvMixColumns of the cipher's.
+pub record EqKeys (ks ds : List State) : Type 0 where
+  pub first : getD ds 0 [] ≡ getD ks 0 []
+  pub middle : (n : ℕ) → 0 < n → n < 10 → getD ds n [] ≡ invMixColumns (getD ks n [])
+  pub last : getD ds 10 [] ≡ getD ks 10 []

@@ -1,107 +1,157 @@
-// AES-128 by FIPS 197: the key expansion, the cipher and the inverse cipher. The state is four columns of four bytes, passed by value.
-// A table is named once in each public function and lent from there, since a constant is laid on the stack wherever it is named.
-mod inv_sbox;
-mod sbox;
+// AES-128 by FIPS 197: the key expansion, the cipher, and the inverse cipher in its equivalent form (section 5.3.5). Blocks and round keys
+// are four columns of four bytes. Within the rounds a column is one word of 32 bits, and each of a round's sixteen bytes is looked up in a
+// table of words.
 mod word;
 
-use inv_sbox::INV_SBOX;
-use sbox::SBOX;
+use aes_lookup::inv_sbox;
+use aes_lookup::key_sbox;
+use aes_lookup::mixed_sbox;
+use aes_lookup::sbox;
+use aes_lookup::unmixed_sbox;
 ghost use mathlib.Core.Path.{_≡_};
-ghost use Rattle.aes_sbox.specs.Sbox.{sboxOf, invSboxOf, TableOf, ByTable};
-ghost use Rattle.aes128.specs.State.{columns, bytes, shiftRows, invShiftRows, mixColumn, invMixColumn, mixColumns, invMixColumns, addColumn, addRoundKey, invSubBytes};
-ghost use Rattle.aes128.specs.Cipher.{round as roundOf, lastRound, cipher, invCipher};
+ghost use Prim.Native.Nat.{_<_};
+ghost use lib.ListN.{length};
+ghost use Rattle.aes_sbox.specs.Field.{xtime};
+ghost use Rattle.aes_sbox.specs.Tables.{sbox as sboxTable, invSbox, mixedSbox, unmixedSbox};
+ghost use Rattle.aes128.specs.State.{shiftRows, invShiftRows, mixColumn, invMixColumn, invMixColumns, addColumn, addRoundKey};
+ghost use Rattle.aes128.specs.Words.{stateOf, upward, downward, EachBy, sumsOf};
+ghost use Rattle.aes128.specs.Cipher.{round as roundOf, lastRound, cipher, eqInvRound, eqInvLastRound, eqInvCipher, EqKeys};
 ghost use Rattle.aes128.specs.KeyExpansion.{keyCore, nextKey, expandKey};
 
-// The substitution of a byte by a table.
-fn sub_byte(table: &[u8; 256], x: u8) -> u8
-    ensures { λ r. ⌜ ByTable (now (table .entry)) (λ f. r ≡ f x) ⌝ }
-{
-    table[x as usize]
-}
-
-// The substitution of a column's bytes.
-fn sub_column(table: &[u8; 256], w: [u8; 4]) -> [u8; 4]
-    ensures { λ r. ⌜ ByTable (now (table .entry)) (λ f. r ≡ bytes f w) ⌝ }
+// The bytes of the state s, its rows shifted by ShiftRows, in the order in which they are looked up.
+fn shifted(s: [u32; 4]) -> [u32; 16]
+    ensures { λ r. ⌜ r ≡ upward (shiftRows (stateOf s)) ⌝ }
 {
     [
-        sub_byte(table, w[0]),
-        sub_byte(table, w[1]),
-        sub_byte(table, w[2]),
-        sub_byte(table, w[3]),
+        s[3] / 16777216 % 256,
+        s[2] / 65536 % 256,
+        s[1] / 256 % 256,
+        s[0] % 256,
+        s[0] / 16777216 % 256,
+        s[3] / 65536 % 256,
+        s[2] / 256 % 256,
+        s[1] % 256,
+        s[1] / 16777216 % 256,
+        s[0] / 65536 % 256,
+        s[3] / 256 % 256,
+        s[2] % 256,
+        s[2] / 16777216 % 256,
+        s[1] / 65536 % 256,
+        s[0] / 256 % 256,
+        s[3] % 256,
     ]
 }
 
-// The substitution of each byte of the state: SubBytes by the S-box, InvSubBytes by the inverse S-box.
-fn sub_bytes(table: &[u8; 256], s: [[u8; 4]; 4]) -> [[u8; 4]; 4]
-    ensures { λ r. ⌜ ByTable (now (table .entry)) (λ f. r ≡ columns (bytes f) s) ⌝ }
+// The bytes of the state t, its rows shifted by InvShiftRows, in the order in which they are looked up.
+fn inv_shifted(t: [u32; 4]) -> [u32; 16]
+    ensures { λ r. ⌜ r ≡ upward (invShiftRows (stateOf t)) ⌝ }
 {
     [
-        sub_column(table, s[0]),
-        sub_column(table, s[1]),
-        sub_column(table, s[2]),
-        sub_column(table, s[3]),
+        t[1] / 16777216 % 256,
+        t[2] / 65536 % 256,
+        t[3] / 256 % 256,
+        t[0] % 256,
+        t[2] / 16777216 % 256,
+        t[3] / 65536 % 256,
+        t[0] / 256 % 256,
+        t[1] % 256,
+        t[3] / 16777216 % 256,
+        t[0] / 65536 % 256,
+        t[1] / 256 % 256,
+        t[2] % 256,
+        t[0] / 16777216 % 256,
+        t[1] / 65536 % 256,
+        t[2] / 256 % 256,
+        t[3] % 256,
     ]
 }
 
-// ShiftRows.
-fn shift_rows(s: [[u8; 4]; 4]) -> [[u8; 4]; 4]
-    ensures { λ r. ⌜ r ≡ shiftRows s ⌝ }
+// What each of sixteen bytes brings to a mixed column.
+fn each_mixed(b: [u32; 16]) -> [u32; 16]
+    ensures { λ r. ⌜ EachBy mixedSbox 16 b r ⌝ }
+{
+    let mut w = [0u32; 16];
+    let mut i: usize = 0;
+    while i < 16 {
+        w[i] = mixed_sbox::entry(b[i]);
+        i += 1;
+    }
+    w
+}
+
+// What each of sixteen bytes brings to a column whose mixing is undone.
+fn each_unmixed(b: [u32; 16]) -> [u32; 16]
+    ensures { λ r. ⌜ EachBy unmixedSbox 16 b r ⌝ }
+{
+    let mut w = [0u32; 16];
+    let mut i: usize = 0;
+    while i < 16 {
+        w[i] = unmixed_sbox::entry(b[i]);
+        i += 1;
+    }
+    w
+}
+
+// Each of sixteen bytes by the S-box.
+fn each_sub(b: [u32; 16]) -> [u8; 16]
+    ensures { λ r. ⌜ EachBy sboxTable 16 b r ⌝ }
+{
+    let mut w = [0u8; 16];
+    let mut i: usize = 0;
+    while i < 16 {
+        w[i] = sbox::entry(b[i]);
+        i += 1;
+    }
+    w
+}
+
+// Each of sixteen bytes by the inverse S-box.
+fn each_inv_sub(b: [u32; 16]) -> [u8; 16]
+    ensures { λ r. ⌜ EachBy invSbox 16 b r ⌝ }
+{
+    let mut w = [0u8; 16];
+    let mut i: usize = 0;
+    while i < 16 {
+        w[i] = inv_sbox::entry(b[i]);
+        i += 1;
+    }
+    w
+}
+
+// Each of four bytes by the S-box.
+fn each_key_sub(b: [u32; 4]) -> [u8; 4]
+    ensures { λ r. ⌜ EachBy sboxTable 4 b r ⌝ }
+{
+    let mut w = [0u8; 4];
+    let mut i: usize = 0;
+    while i < 4 {
+        w[i] = key_sbox::entry(b[i]);
+        i += 1;
+    }
+    w
+}
+
+// The columns of sixteen bytes that were looked up.
+fn columns(w: [u8; 16]) -> [[u8; 4]; 4]
+    ensures { λ r. ⌜ r ≡ downward w ⌝ }
 {
     [
-        [s[0][0], s[1][1], s[2][2], s[3][3]],
-        [s[1][0], s[2][1], s[3][2], s[0][3]],
-        [s[2][0], s[3][1], s[0][2], s[1][3]],
-        [s[3][0], s[0][1], s[1][2], s[2][3]],
+        [w[3], w[2], w[1], w[0]],
+        [w[7], w[6], w[5], w[4]],
+        [w[11], w[10], w[9], w[8]],
+        [w[15], w[14], w[13], w[12]],
     ]
 }
 
-// InvShiftRows.
-fn inv_shift_rows(s: [[u8; 4]; 4]) -> [[u8; 4]; 4]
-    ensures { λ r. ⌜ r ≡ invShiftRows s ⌝ }
+// The sum of what the bytes of each column bring to it, and of the round key k.
+fn sums(k: [[u8; 4]; 4], w: [u32; 16]) -> [u32; 4]
+    ensures { λ r. ⌜ stateOf r ≡ addRoundKey (sumsOf w) k ⌝ }
 {
     [
-        [s[0][0], s[3][1], s[2][2], s[1][3]],
-        [s[1][0], s[0][1], s[3][2], s[2][3]],
-        [s[2][0], s[1][1], s[0][2], s[3][3]],
-        [s[3][0], s[2][1], s[1][2], s[0][3]],
-    ]
-}
-
-// A column mixed.
-fn mix_column(w: [u8; 4]) -> [u8; 4]
-    ensures { λ r. ⌜ r ≡ mixColumn w ⌝ }
-{
-    word::mixed(w[0], w[1], w[2], w[3])
-}
-
-// A column's mixing undone.
-fn inv_mix_column(w: [u8; 4]) -> [u8; 4]
-    ensures { λ r. ⌜ r ≡ invMixColumn w ⌝ }
-{
-    mix_column(word::premixed(w[0], w[1], w[2], w[3]))
-}
-
-// MixColumns.
-fn mix_columns(s: [[u8; 4]; 4]) -> [[u8; 4]; 4]
-    ensures { λ r. ⌜ r ≡ mixColumns s ⌝ }
-{
-    [
-        mix_column(s[0]),
-        mix_column(s[1]),
-        mix_column(s[2]),
-        mix_column(s[3]),
-    ]
-}
-
-// InvMixColumns.
-fn inv_mix_columns(s: [[u8; 4]; 4]) -> [[u8; 4]; 4]
-    ensures { λ r. ⌜ r ≡ invMixColumns s ⌝ }
-{
-    [
-        inv_mix_column(s[0]),
-        inv_mix_column(s[1]),
-        inv_mix_column(s[2]),
-        inv_mix_column(s[3]),
+        word::sum(k[0], w[3], w[2], w[1], w[0]),
+        word::sum(k[1], w[7], w[6], w[5], w[4]),
+        word::sum(k[2], w[11], w[10], w[9], w[8]),
+        word::sum(k[3], w[15], w[14], w[13], w[12]),
     ]
 }
 
@@ -124,104 +174,159 @@ fn add_round_key(s: [[u8; 4]; 4], k: [[u8; 4]; 4]) -> [[u8; 4]; 4]
     ]
 }
 
-// A round with the round key k.
-fn round(table: &[u8; 256], k: [[u8; 4]; 4], s: [[u8; 4]; 4]) -> [[u8; 4]; 4]
-    requires { ⌜ TableOf sboxOf (now table) ⌝ }
-    ensures { λ r. ⌜ r ≡ roundOf k s ⌝ }
+// AddRoundKey, as words.
+fn first_words(s: [[u8; 4]; 4], k: [[u8; 4]; 4]) -> [u32; 4]
+    ensures { λ r. ⌜ stateOf r ≡ addRoundKey s k ⌝ }
 {
-    add_round_key(mix_columns(shift_rows(sub_bytes(table, s))), k)
+    [
+        word::added(s[0], k[0]),
+        word::added(s[1], k[1]),
+        word::added(s[2], k[2]),
+        word::added(s[3], k[3]),
+    ]
+}
+
+// A round with the round key k.
+fn round(k: [[u8; 4]; 4], t: [u32; 4]) -> [u32; 4]
+    ensures { λ r. ⌜ stateOf r ≡ roundOf k (stateOf t) ⌝ }
+{
+    sums(k, each_mixed(shifted(t)))
 }
 
 // The last round.
-fn last_round(table: &[u8; 256], k: [[u8; 4]; 4], s: [[u8; 4]; 4]) -> [[u8; 4]; 4]
-    requires { ⌜ TableOf sboxOf (now table) ⌝ }
-    ensures { λ r. ⌜ r ≡ lastRound k s ⌝ }
+fn last_round(k: [[u8; 4]; 4], t: [u32; 4]) -> [[u8; 4]; 4]
+    ensures { λ r. ⌜ r ≡ lastRound k (stateOf t) ⌝ }
 {
-    add_round_key(shift_rows(sub_bytes(table, s)), k)
+    add_round_key(columns(each_sub(shifted(t))), k)
 }
 
-// InvShiftRows and InvSubBytes, with which a round of the inverse cipher begins.
-fn inv_begin(table: &[u8; 256], s: [[u8; 4]; 4]) -> [[u8; 4]; 4]
-    requires { ⌜ TableOf invSboxOf (now table) ⌝ }
-    ensures { λ r. ⌜ r ≡ invSubBytes (invShiftRows s) ⌝ }
+// A round of the equivalent inverse cipher with the round key k.
+fn inv_round(k: [[u8; 4]; 4], t: [u32; 4]) -> [u32; 4]
+    ensures { λ r. ⌜ stateOf r ≡ eqInvRound k (stateOf t) ⌝ }
 {
-    sub_bytes(table, inv_shift_rows(s))
+    sums(k, each_unmixed(inv_shifted(t)))
 }
 
-// The rest of a round of the inverse cipher, with the round key k, and the beginning of the next.
-fn inv_go_on(table: &[u8; 256], k: [[u8; 4]; 4], s: [[u8; 4]; 4]) -> [[u8; 4]; 4]
-    requires { ⌜ TableOf invSboxOf (now table) ⌝ }
-    ensures { λ r. ⌜ r ≡ invSubBytes (invShiftRows (invMixColumns (addRoundKey s k))) ⌝ }
+// Its last round.
+fn inv_last_round(k: [[u8; 4]; 4], t: [u32; 4]) -> [[u8; 4]; 4]
+    ensures { λ r. ⌜ r ≡ eqInvLastRound k (stateOf t) ⌝ }
 {
-    inv_begin(table, inv_mix_columns(add_round_key(s, k)))
+    add_round_key(columns(each_inv_sub(inv_shifted(t))), k)
+}
+
+// A column mixed.
+fn mix_column(w: [u8; 4]) -> [u8; 4]
+    ensures { λ r. ⌜ r ≡ mixColumn w ⌝ }
+{
+    word::mixed(w[0], w[1], w[2], w[3])
+}
+
+// A column's mixing undone.
+fn inv_mix_column(w: [u8; 4]) -> [u8; 4]
+    ensures { λ r. ⌜ r ≡ invMixColumn w ⌝ }
+{
+    mix_column(word::premixed(w[0], w[1], w[2], w[3]))
+}
+
+// InvMixColumns.
+fn inv_mix_columns(s: [[u8; 4]; 4]) -> [[u8; 4]; 4]
+    ensures { λ r. ⌜ r ≡ invMixColumns s ⌝ }
+{
+    [
+        inv_mix_column(s[0]),
+        inv_mix_column(s[1]),
+        inv_mix_column(s[2]),
+        inv_mix_column(s[3]),
+    ]
+}
+
+// A byte as a number of 32 bits.
+fn wide(x: u8) -> u32
+    ensures same { λ r. ⌜ r ≡ x ⌝ }
+    ensures byte { λ r. ⌜ r < 256 ⌝ }
+{
+    x as u32
 }
 
 // SubWord(RotWord(w)), with the round constant c.
-fn key_core(table: &[u8; 256], w: [u8; 4], c: u8) -> [u8; 4]
-    requires { ⌜ TableOf sboxOf (now table) ⌝ }
+fn key_core(w: [u8; 4], c: u8) -> [u8; 4]
     ensures { λ r. ⌜ r ≡ keyCore w c ⌝ }
 {
-    let t = sub_column(table, [w[1], w[2], w[3], w[0]]);
+    let t = each_key_sub([wide(w[1]), wide(w[2]), wide(w[3]), wide(w[0])]);
     [t[0] ^ c, t[1], t[2], t[3]]
 }
 
 // The round key after k, with the round constant c.
-fn next_key(table: &[u8; 256], k: [[u8; 4]; 4], c: u8) -> [[u8; 4]; 4]
-    requires { ⌜ TableOf sboxOf (now table) ⌝ }
+fn next_key(k: [[u8; 4]; 4], c: u8) -> [[u8; 4]; 4]
     ensures { λ r. ⌜ r ≡ nextKey k c ⌝ }
 {
-    let w0 = add_column(k[0], key_core(table, k[3], c));
+    let w0 = add_column(k[0], key_core(k[3], c));
     let w1 = add_column(k[1], w0);
     let w2 = add_column(k[2], w1);
     let w3 = add_column(k[3], w2);
     [w0, w1, w2, w3]
 }
 
-// The eleven round keys of a key: KeyExpansion. The round constants are the powers of {02}.
-pub fn expand_key(k: [[u8; 4]; 4]) -> [[[u8; 4]; 4]; 11]
-    ensures { λ r. ⌜ r ≡ expandKey k ⌝ }
+// The round constant after c: {02}·c.
+fn next_constant(c: u8) -> u8
+    ensures { λ r. ⌜ r ≡ xtime c ⌝ }
 {
-    let table = &SBOX;
-    let k1 = next_key(table, k, 0x01);
-    let k2 = next_key(table, k1, 0x02);
-    let k3 = next_key(table, k2, 0x04);
-    let k4 = next_key(table, k3, 0x08);
-    let k5 = next_key(table, k4, 0x10);
-    let k6 = next_key(table, k5, 0x20);
-    let k7 = next_key(table, k6, 0x40);
-    let k8 = next_key(table, k7, 0x80);
-    let k9 = next_key(table, k8, 0x1b);
-    let k10 = next_key(table, k9, 0x36);
-    [k, k1, k2, k3, k4, k5, k6, k7, k8, k9, k10]
+    (c % 128 * 2) ^ (c / 128 * 27)
+}
+
+// KeyExpansion: the eleven round keys of the key k, into ks.
+pub fn expand_key(k: [[u8; 4]; 4], ks: &mut [[[u8; 4]; 4]; 11])
+    ensures { λ _. ⌜ now (ks .exit) ≡ expandKey k ⌝ }
+{
+    *ks = [k; 11];
+    let mut x = k;
+    let mut c: u8 = 1;
+    let mut i: usize = 0;
+    while i < 10 {
+        let next = next_key(x, c);
+        x = next;
+        c = next_constant(c);
+        i += 1;
+        ks[i] = x;
+    }
+}
+
+// The round keys of the cipher made those of the equivalent inverse cipher: InvMixColumns of all but the first and the last.
+pub fn invert_keys(ks: &mut [[[u8; 4]; 4]; 11])
+    ensures { λ _. ⌜ (length (now (ks .entry)) ≡ 11 → EqKeys (now (ks .entry)) (now (ks .exit))) ⌝ }
+{
+    let mut i: usize = 1;
+    while i < 10 {
+        let k = inv_mix_columns(ks[i]);
+        ks[i] = k;
+        i += 1;
+    }
 }
 
 // Cipher: one block under the round keys ks.
 pub fn encrypt(ks: &[[[u8; 4]; 4]; 11], s: [[u8; 4]; 4]) -> [[u8; 4]; 4]
     ensures { λ r. ⌜ r ≡ cipher (now (ks .entry)) s ⌝ }
 {
-    let table = &SBOX;
-    let mut t = add_round_key(s, ks[0]);
+    let mut t = first_words(s, ks[0]);
     let mut i: usize = 0;
     while i < 9 {
         i += 1;
-        let next = round(table, ks[i], t);
+        let next = round(ks[i], t);
         t = next;
     }
-    last_round(table, ks[10], t)
+    last_round(ks[10], t)
 }
 
-// InvCipher: one block under the round keys ks. Each turn of the loop ends where the bytes have just been looked up, which takes
-// fewer instructions than to end it where the columns have been mixed.
+// EqInvCipher: one block under round keys made by `invert_keys`.
 pub fn decrypt(ks: &[[[u8; 4]; 4]; 11], s: [[u8; 4]; 4]) -> [[u8; 4]; 4]
-    ensures { λ r. ⌜ r ≡ invCipher (now (ks .entry)) s ⌝ }
+    ensures { λ r. ⌜ r ≡ eqInvCipher (now (ks .entry)) s ⌝ }
 {
-    let table = &INV_SBOX;
-    let mut t = inv_begin(table, add_round_key(s, ks[10]));
+    let mut t = first_words(s, ks[10]);
     let mut i: usize = 9;
     while 0 < i {
-        let next = inv_go_on(table, ks[i], t);
+        let next = inv_round(ks[i], t);
         t = next;
         i -= 1;
     }
-    add_round_key(t, ks[0])
+    inv_last_round(ks[0], t)
 }

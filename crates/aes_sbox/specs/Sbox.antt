@@ -1,10 +1,7 @@
 -- FIPS 197 sections 5.1.1 and 5.3.2: the rules of the S-box and of the inverse S-box.
 -- Assumes nothing.
-use Prim.Native.Nat.{ℕ, _<_, _+_, _-_, _*_, _/_, _%_, _^_}
-use mathlib.Core.Path.{_≡_}
-use mathlib.Core.List.{List}
+use Prim.Native.Nat.{ℕ, _+_, _-_, _*_, _/_, _%_, _^_}
 use lib.Bits.{bitXor}
-use lib.ListN.{getD}
 use Rattle.aes_sbox.specs.Field.{mul}
 
 -- The multiplicative inverse of a byte, and {00} of {00}: the 254th power, 254 = 2 + 4 + 8 + 16 + 32 + 64 + 128. The law `inverse-right` shows that it is
@@ -39,11 +36,3 @@ invAffine b = bitXor (rotated b 6) (bitXor (rotated b 3) (bitXor (rotated b 1) 5
 -- 5.3.2: the inverse S-box takes the inverse of the affine map and then the multiplicative inverse.
 unfoldable pub invSboxOf : ℕ → ℕ
 invSboxOf b = inverse (invAffine b)
-
--- A table of a map of bytes: at each of its 256 places what the map gives there.
-abbrev pub TableOf : (ℕ → ℕ) → List ℕ → Type 0
-TableOf f l = (k : ℕ) → k < 256 → getD l k 0 ≡ f k
-
--- What holds by a table l: P of each map of bytes that l is a table of. With it one function looks up in either table.
-abbrev pub ByTable : List ℕ → ((ℕ → ℕ) → Type 0) → Type 0
-ByTable l P = (f : ℕ → ℕ) → TableOf f l → P f

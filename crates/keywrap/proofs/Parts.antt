@@ -17,8 +17,9 @@ use Rattle.refusal.specs.Checks.{Reason, Check, pass, refuse, _andThen_, within
 use Rattle.refusal.specs.Answers.{bufferAfter}
 use Rattle.refusal.proofs.Passing.{and-left, and-right, before-passed, last-passed, test-passed, within-low, within-high}
 use Rattle.aes128.specs.State.{State}
-use Rattle.aes128.specs.Cipher.{cipher, invCipher}
+use Rattle.aes128.specs.Cipher.{cipher, invCipher, eqInvCipher, EqKeys}
 use Rattle.aes128.specs.KeyExpansion.{expandKey}
+use Rattle.aes128.proofs.Equivalent.{equivalent}
 use Rattle.aes128.proofs.Xor.{xor-cancel}
 use Rattle.refusal.specs.Same.{sameList}
 use Rattle.keywrap.specs.Calls.{wrappable, check23, check28, keyLength, wrapCheck, unwrapCheck}
@@ -263,13 +264,21 @@ module _ (kek : List ℕ) (st : State) (ks : List State) (a b r z : List ℕ) (e
     q ∙ ap (λ (k : List State). wrapPasses (cipher k) (length b / 8) 6 (a, b) .1) keys-are,
   )
 
-  pub passes-back : r ≡ unwrapPasses (invCipher ks) (length b / 8) 6 (a, b) .0 → z ≡ unwrapPasses (invCipher ks) (length b / 8) 6 (a, b) .1
-      → (back : Bool) → back ≡ true → (r ≡ passesOf back kek (a, b) .0) × (z ≡ passesOf back kek (a, b) .1)
-  passes-back p q false e = let n : _≡_ {A = ℕ} 0 1 = cc in absurd (omega arith)
-  passes-back p q true e = (
-    p ∙ ap (λ (k : List State). unwrapPasses (invCipher k) (length b / 8) 6 (a, b) .0) keys-are,
-    q ∙ ap (λ (k : List State). unwrapPasses (invCipher k) (length b / 8) 6 (a, b) .1) keys-are,
-  )
+  eleven : length ks ≡ 11
+  unfolding expandKey
+  eleven = ap length eks
+
+  module _ (ds : List State) (keys : length ks ≡ 11 → EqKeys ks ds) where
+    equal : eqInvCipher ds ≡ invCipher (roundKeys kek)
+    equal = (λ i s. equivalent ks ds (keys eleven) s i) ∙ ap invCipher keys-are
+
+    pub passes-back : r ≡ unwrapPasses (eqInvCipher ds) (length b / 8) 6 (a, b) .0 → z ≡ unwrapPasses (eqInvCipher ds) (length b / 8) 6 (a, b) .1
+        → (back : Bool) → back ≡ true → (r ≡ passesOf back kek (a, b) .0) × (z ≡ passesOf back kek (a, b) .1)
+    passes-back p q false e = let n : _≡_ {A = ℕ} 0 1 = cc in absurd (omega arith)
+    passes-back p q true e = (
+      p ∙ ap (λ (d : State → State). unwrapPasses d (length b / 8) 6 (a, b) .0) equal,
+      q ∙ ap (λ (d : State → State). unwrapPasses d (length b / 8) 6 (a, b) .1) equal,
+    )
 
 module _ (kek key out : List ℕ) (k : ℕ) (z : List ℕ) (room : length key + 8 ≤ length out) (ek : k ≡ length key) (ez : z ≡ key) where
   placed : drop 8 (putMid 8 k out z) ≡ z ++ drop k (drop 8 out)

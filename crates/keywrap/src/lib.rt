@@ -3,6 +3,7 @@
 use aes128::decrypt;
 use aes128::encrypt;
 use aes128::expand_key;
+use aes128::invert_keys;
 use refusal::Checked;
 use refusal::Refusal;
 use refusal::Written;
@@ -16,7 +17,7 @@ ghost use Prim.Native.Nat.{_+_, _-_, _*_, _≤_, _<_};
 ghost use lib.ListN.{length, drop, take};
 ghost use Rattle.refusal.specs.Checks.{_andThen_, check6};
 ghost use Rattle.refusal.specs.Answers.{checkedAs, answerOf, answerTo, bufferAfter};
-ghost use Rattle.aes128.specs.Cipher.{cipher, invCipher};
+ghost use Rattle.aes128.specs.Cipher.{cipher, eqInvCipher};
 ghost use Rattle.refusal.specs.Same.{sameList};
 ghost use Rattle.keywrap.specs.Calls.{wrappable, check23, check28, wrapCheck, unwrapCheck, keyLength};
 ghost use Rattle.keywrap.specs.Rfc3394.{joined, high as highOf, low as lowOf, addCount, initialValue, wrapPass, unwrapPass, wrapPasses, unwrapPasses, keyState, passesOf, wrapped as wrappedOf, unwrappedIv, unwrappedKey};
@@ -134,8 +135,8 @@ fn wrap_step(ks: &[[[u8; 4]; 4]; 11], a: [u8; 8], b: &mut [u8], t: u8) -> [u8; 8
 // One step of the unwrapping, on the block b; the next A is returned.
 fn unwrap_step(ks: &[[[u8; 4]; 4]; 11], a: [u8; 8], b: &mut [u8], t: u8) -> [u8; 8]
     requires { ⌜ length (now b) ≡ 8 ⌝ }
-    ensures next { λ r. ⌜ r ≡ highOf (invCipher (now (ks .entry)) (joined (addCount t a) (now (b .entry)))) ⌝ }
-    ensures part { λ _. ⌜ now (b .exit) ≡ lowOf (invCipher (now (ks .entry)) (joined (addCount t a) (now (b .entry)))) ⌝ }
+    ensures next { λ r. ⌜ r ≡ highOf (eqInvCipher (now (ks .entry)) (joined (addCount t a) (now (b .entry)))) ⌝ }
+    ensures part { λ _. ⌜ now (b .exit) ≡ lowOf (eqInvCipher (now (ks .entry)) (joined (addCount t a) (now (b .entry)))) ⌝ }
 {
     let r = front(&b[..]);
     let s = decrypt(ks, join(add_count(a, t), r));
@@ -164,8 +165,8 @@ fn wrap_pass(ks: &[[[u8; 4]; 4]; 11], a: [u8; 8], b: &mut [u8], n: usize, c: u8)
 // A pass back over the n blocks of b, from the last to the first.
 fn unwrap_pass(ks: &[[[u8; 4]; 4]; 11], a: [u8; 8], b: &mut [u8], n: usize, c: u8) -> [u8; 8]
     requires { ⌜ (n * 8 ≤ length (now b)) × (c + n ≤ 255) ⌝ }
-    ensures next { λ r. ⌜ r ≡ unwrapPass (invCipher (now (ks .entry))) c n (a, now (b .entry)) .0 ⌝ }
-    ensures part { λ _. ⌜ now (b .exit) ≡ unwrapPass (invCipher (now (ks .entry))) c n (a, now (b .entry)) .1 ⌝ }
+    ensures next { λ r. ⌜ r ≡ unwrapPass (eqInvCipher (now (ks .entry))) c n (a, now (b .entry)) .0 ⌝ }
+    ensures part { λ _. ⌜ now (b .exit) ≡ unwrapPass (eqInvCipher (now (ks .entry))) c n (a, now (b .entry)) .1 ⌝ }
 {
     let mut x = a;
     let mut i: usize = n;
@@ -201,8 +202,8 @@ fn wrap_passes(ks: &[[[u8; 4]; 4]; 11], a: [u8; 8], b: &mut [u8], n: usize) -> [
 // Six passes back over the n blocks of b.
 fn unwrap_passes(ks: &[[[u8; 4]; 4]; 11], a: [u8; 8], b: &mut [u8], n: usize) -> [u8; 8]
     requires { ⌜ (n * 8 ≤ length (now b)) × (n ≤ 24) ⌝ }
-    ensures next { λ r. ⌜ r ≡ unwrapPasses (invCipher (now (ks .entry))) n 6 (a, now (b .entry)) .0 ⌝ }
-    ensures part { λ _. ⌜ now (b .exit) ≡ unwrapPasses (invCipher (now (ks .entry))) n 6 (a, now (b .entry)) .1 ⌝ }
+    ensures next { λ r. ⌜ r ≡ unwrapPasses (eqInvCipher (now (ks .entry))) n 6 (a, now (b .entry)) .0 ⌝ }
+    ensures part { λ _. ⌜ now (b .exit) ≡ unwrapPasses (eqInvCipher (now (ks .entry))) n 6 (a, now (b .entry)) .1 ⌝ }
 {
     let mut x = a;
     let mut c: u8 = 6 * (n as u8);
@@ -216,16 +217,18 @@ fn unwrap_passes(ks: &[[[u8; 4]; 4]; 11], a: [u8; 8], b: &mut [u8], n: usize) ->
     x
 }
 
-// All passes over b under the KEK, forward or back. Both ways share one function, so that the round keys, and the table that is looked
-// up at the time, take their room on the stack once.
+// All passes over b under the KEK, forward or back. Both ways share one function, so that the round keys take their room on the stack
+// once, and are made those of the inverse cipher in their place.
 fn passes(kek: [u8; 16], back: bool, a: [u8; 8], b: &mut [u8]) -> [u8; 8]
     requires { ⌜ length (now b) ≤ 192 ⌝ }
     ensures next { λ r. ⌜ r ≡ passesOf back kek (a, now (b .entry)) .0 ⌝ }
     ensures part { λ _. ⌜ now (b .exit) ≡ passesOf back kek (a, now (b .entry)) .1 ⌝ }
 {
-    let ks = expand_key(key_state(kek));
+    let mut ks = [[[0u8; 4]; 4]; 11];
+    expand_key(key_state(kek), &mut ks);
     let n = b.len() / 8;
     if back {
+        invert_keys(&mut ks);
         unwrap_passes(&ks, a, b, n)
     } else {
         wrap_passes(&ks, a, b, n)

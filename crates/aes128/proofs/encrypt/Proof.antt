@@ -1,8 +1,8 @@
 -- `aes128::encrypt` meets its contract: after i turns the state is that of i rounds.
 -- Assumes nothing.
 use Rattle.aes128.proofs.Rounds.{round-step, cipher-end}
+use Rattle.aes128.specs.Words.{stateOf}
 use Rattle.aes128.specs.Cipher.{rounds}
-use Rattle.aes_sbox.proofs.Tables.{sbox-rule}
 use mathlib.Core.Path.{_≡_, refl}
 use Prim.Native.Nat.{_≤_, _-_}
 use native.Mathlib.Omega.{arith}
@@ -11,16 +11,16 @@ use Rattle.aes128.proofs.encrypt.Statement.{statement}
 use Rattle.aes128.proofs.encrypt.Tie as tie
 
 abbrev Inv-loop : tie.InvT-loop
-Inv-loop ks table t₀ i₀ t i = (i ≤ 9) × (t ≡ rounds ks i t₀)
+Inv-loop ks t₀ i₀ t i = (i ≤ 9) × (stateOf t ≡ rounds ks i (stateOf t₀))
 
 abbrev μ-loop : tie.MeasureT-loop
-μ-loop ks table t₀ i₀ t i = 9 - i
+μ-loop ks t₀ i₀ t i = 9 - i
 
-element-copy-out-add-round-key : tie.Need-element-copy-out-add-round-key Inv-loop μ-loop
-element-copy-out-add-round-key c = search needs
+element-copy-out-first-words : tie.Need-element-copy-out-first-words Inv-loop μ-loop
+element-copy-out-first-words c = search needs
 
-add-round-key-requires : tie.Need-add-round-key-requires Inv-loop μ-loop
-add-round-key-requires c κs = search needs
+first-words-requires : tie.Need-first-words-requires Inv-loop μ-loop
+first-words-requires c κs = search needs
 
 loop-holds : tie.Need-loop-holds Inv-loop μ-loop
 unfolding rounds
@@ -36,7 +36,7 @@ element-copy-out-round : tie.Need-element-copy-out-round Inv-loop μ-loop
 element-copy-out-round c = search needs
 
 round-requires : tie.Need-round-requires Inv-loop μ-loop
-round-requires c κs = sbox-rule
+round-requires c κs = search needs
 
 loop-less : tie.Need-loop-less Inv-loop μ-loop
 loop-less c = search needs
@@ -44,19 +44,19 @@ loop-less c = search needs
 loop-again : tie.Need-loop-again Inv-loop μ-loop
 loop-again c =
     let p = c .before .before .before in
-    (omega arith, round-step (p .before .before .before .before .args .ks .now) (p .loop .i) _ _ _ (p .loop .inv .1) (c .round .ensures))
+    (omega arith, round-step (p .before .before .before .args .ks .now) (p .loop .i) _ _ _ (p .loop .inv .1) (c .round .ensures))
 
 element-copy-out-last-round : tie.Need-element-copy-out-last-round Inv-loop μ-loop
 element-copy-out-last-round c = search needs
 
 last-round-requires : tie.Need-last-round-requires Inv-loop μ-loop
-last-round-requires c κs = sbox-rule
+last-round-requires c κs = search needs
 
 returns : tie.Need-returns Inv-loop μ-loop
 returns c =
     let p = c .before .before .before in
     let e : p .loop .i ≡ 9 = omega arith in
-    cipher-end (p .before .before .before .before .args .ks .now) (p .loop .i) _ _ _ _ (p .before .add-round-key .ensures) (p .loop .inv .1) e (c .last-round .ensures)
+    cipher-end (p .before .before .before .args .ks .now) (p .loop .i) _ _ _ _ (p .before .first-words .ensures) (p .loop .inv .1) e (c .last-round .ensures)
 
 pub encrypt-spec : {M : Type 1} → statement M
 encrypt-spec =
@@ -64,8 +64,8 @@ encrypt-spec =
     (tie.spec
     Inv-loop
     μ-loop
-    element-copy-out-add-round-key
-    add-round-key-requires
+    element-copy-out-first-words
+    first-words-requires
     loop-holds
     add-i
     mul-round

@@ -1,57 +1,79 @@
--- `aes128::expand_key` meets its contract.
+-- `aes128::expand_key` meets its contract: after i turns the round keys 0 to i stand in their places.
 -- Assumes nothing.
-use Rattle.aes_sbox.proofs.Tables.{sbox-rule}
-use Rattle.aes_sbox.specs.Field.{xtime}
-use Rattle.aes128.specs.KeyExpansion.{rcon, roundKey, expandKey}
+use mathlib.Core.Path.{_≡_, refl, _∙_}
+use mathlib.Core.List.{[]}
+use Prim.Native.Nat.{ℕ, _+_, _-_, _≤_, _<_}
+use native.Mathlib.Omega.{arith}
+use lib.ListN.{length, getD, length-set}
+use Rattle.aes128.specs.State.{State}
+use Rattle.aes128.specs.KeyExpansion.{rcon, roundKey}
+use Rattle.aes128.proofs.Filled.{filled}
+use Rattle.aes128.proofs.Rounds.{at-zero, next-step, constant-step, expanded}
+use borrow.Author.Needs.{needs}
 use Rattle.aes128.proofs.expand_key.Statement.{statement}
 use Rattle.aes128.proofs.expand_key.Tie as tie
 
-next-key-requires : tie.Need-next-key-requires
-next-key-requires c κs = sbox-rule
+abbrev Inv-loop : tie.InvT-loop
+Inv-loop ks₀ x₀ c₀ i₀ ks x c i =
+    (i ≤ 10) × (length ks ≡ 11) × (x ≡ roundKey x₀ i) × (c ≡ rcon i) × ((n : ℕ) → n < i + 1 → getD ks n [] ≡ roundKey x₀ n)
 
-next-key-requires-2 : tie.Need-next-key-requires-2
-next-key-requires-2 c κs = sbox-rule
+abbrev μ-loop : tie.MeasureT-loop
+μ-loop ks₀ x₀ c₀ i₀ ks x c i = 10 - i
 
-next-key-requires-3 : tie.Need-next-key-requires-3
-next-key-requires-3 c κs = sbox-rule
+loop-holds : tie.Need-loop-holds Inv-loop μ-loop
+unfolding roundKey rcon
+loop-holds c = (omega arith, refl, refl, refl, at-zero _ refl)
 
-next-key-requires-4 : tie.Need-next-key-requires-4
-next-key-requires-4 c κs = sbox-rule
+next-key-requires : tie.Need-next-key-requires Inv-loop μ-loop
+next-key-requires c κs = search needs
 
-next-key-requires-5 : tie.Need-next-key-requires-5
-next-key-requires-5 c κs = sbox-rule
+next-constant-requires : tie.Need-next-constant-requires Inv-loop μ-loop
+next-constant-requires c κs = search needs
 
-next-key-requires-6 : tie.Need-next-key-requires-6
-next-key-requires-6 c κs = sbox-rule
+add-i : tie.Need-add-i Inv-loop μ-loop
+add-i c = search needs
 
-next-key-requires-7 : tie.Need-next-key-requires-7
-next-key-requires-7 c κs = sbox-rule
+mul-x : tie.Need-mul-x Inv-loop μ-loop
+mul-x c = search needs
 
-next-key-requires-8 : tie.Need-next-key-requires-8
-next-key-requires-8 c κs = sbox-rule
+element-set-from-x : tie.Need-element-set-from-x Inv-loop μ-loop
+element-set-from-x c = search needs
 
-next-key-requires-9 : tie.Need-next-key-requires-9
-next-key-requires-9 c κs = sbox-rule
+loop-less : tie.Need-loop-less Inv-loop μ-loop
+loop-less c = search needs
 
-next-key-requires-10 : tie.Need-next-key-requires-10
-next-key-requires-10 c κs = sbox-rule
+loop-again : tie.Need-loop-again Inv-loop μ-loop
+loop-again c =
+    let p = c .before .before .before in
+    let k = p .before .before .args .k in
+    let i = p .loop .i in
+    let len = p .loop .inv .1 in
+    let e = next-step k i (p .loop .c) (p .loop .x) _ (p .loop .inv .2) (p .loop .inv .3) (c .before .next-key .ensures) in (
+      omega arith,
+      length-set (p .loop .ks) (i + 1) (c .before .next-key .result) ∙ len,
+      e,
+      constant-step k i (p .loop .c) _ (p .loop .inv .3) (c .next-constant .ensures),
+      filled (λ (n : ℕ) (y : State). y ≡ roundKey k n) (p .loop .ks) (i + 1) _ [] (omega (arith, len)) e (p .loop .inv .4),
+    )
 
-returns : tie.Need-returns
-unfolding expandKey roundKey rcon xtime
-returns c = cc
+returns : tie.Need-returns Inv-loop μ-loop
+returns c =
+    let p = c .before in
+    let e : p .loop .i ≡ 10 = omega arith in
+    expanded (p .before .before .args .k) (p .loop .ks) (p .loop .inv .1) (λ n h. p .loop .inv .4 n (omega (arith, e, h)))
 
 pub expand-key-spec : {M : Type 1} → statement M
 expand-key-spec =
     tie.close
     (tie.spec
+    Inv-loop
+    μ-loop
+    loop-holds
     next-key-requires
-    next-key-requires-2
-    next-key-requires-3
-    next-key-requires-4
-    next-key-requires-5
-    next-key-requires-6
-    next-key-requires-7
-    next-key-requires-8
-    next-key-requires-9
-    next-key-requires-10
+    next-constant-requires
+    add-i
+    mul-x
+    element-set-from-x
+    loop-less
+    loop-again
     returns)

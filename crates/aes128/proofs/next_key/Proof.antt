@@ -38,7 +38,7 @@ add-column-requires-4 c κs = search needs
 returns : tie.Need-returns
 returns c =
     let s = c .before .before .before .before .before .before .before .before .before .before .args in
-    next-words (s .t2) (s .c) _ _ _ _ _ (c .before .before .before .before .before .before .before .key-core .ensures) (c .before .before .before .before .before .before .add-column .ensures) (c .before .before .before .before .add-column2 .ensures) (c .before .before .add-column3 .ensures)
+    next-words (s .t1) (s .c) _ _ _ _ _ (c .before .before .before .before .before .before .before .key-core .ensures) (c .before .before .before .before .before .before .add-column .ensures) (c .before .before .before .before .add-column2 .ensures) (c .before .before .add-column3 .ensures)
     (c .add-column4 .ensures)
 
 pub next-key-spec : {M : Type 1} → statement M

@@ -12,6 +12,9 @@ key-state-requires c κs = search needs
 expand-key-requires : tie.Need-expand-key-requires
 expand-key-requires c κs = search needs
 
+invert-keys-requires : tie.Need-invert-keys-requires
+invert-keys-requires c κs = search needs
+
 unwrap-passes-requires : tie.Need-unwrap-passes-requires
 unwrap-passes-requires c κs = search needs
 
@@ -23,20 +26,25 @@ same-length c = search needs
 
 returns : tie.Need-returns
 returns c =
-    let e = c .before .before .before .before .before .before in
-    let s = e .before .before .before .args in
-    passes-back (s .kek) _ _ (s .a) (now (s .b)) _ _ (e .before .key-state .ensures) (e .expand-key .ensures) (c .before .before .unwrap-passes .ensures .0)
-    (c .before .before .unwrap-passes .ensures .1) (s .back) (c .before .before .before .before .before .if1 .taken)
+    let u = c .before .before in
+    let i = u .before .before .before in
+    let e = i .before .before .before in
+    let s = e .before .before .before .before .args in
+    passes-back (s .kek) _ _ (s .a) (now (s .b)) _ _ (e .before .before .key-state .ensures) (e .expand-key .ensures)
+    (i .invert-keys .last .0) (i .invert-keys .ensures) (u .unwrap-passes .ensures .0) (u .unwrap-passes .ensures .1)
+    (s .back) (i .before .before .if1 .taken)
 
 same-length-2 : tie.Need-same-length-2
 same-length-2 c = search needs
 
 returns-2 : tie.Need-returns-2
 returns-2 c =
-    let e = c .before .before .before .before .before .before in
-    let s = e .before .before .before .args in
-    passes-forward (s .kek) _ _ (s .a) (now (s .b)) _ _ (e .before .key-state .ensures) (e .expand-key .ensures) (c .before .before .wrap-passes .ensures .0)
-    (c .before .before .wrap-passes .ensures .1) (s .back) (c .before .before .before .before .before .if1 .left)
+    let w = c .before .before in
+    let i = w .before .before .before in
+    let e = i .before in
+    let s = e .before .before .before .before .args in
+    passes-forward (s .kek) _ _ (s .a) (now (s .b)) _ _ (e .before .before .key-state .ensures) (e .expand-key .ensures)
+    (w .wrap-passes .ensures .0) (w .wrap-passes .ensures .1) (s .back) (i .if1 .left)
 
 pub passes-spec : {M : Type 1} → statement M
 passes-spec =
@@ -44,6 +52,7 @@ passes-spec =
     (tie.spec
     key-state-requires
     expand-key-requires
+    invert-keys-requires
     unwrap-passes-requires
     wrap-passes-requires
     same-length

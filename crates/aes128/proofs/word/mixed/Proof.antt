@@ -27,7 +27,7 @@ returns c =
     let s = k .before in
     c .column .ensures
     ∙ mixed-word (s .args .a) (s .args .b) (s .args .c) (s .args .d) (search needs) (search needs) (search needs) (search needs)
-    _ _ _ _ _ (k .word .ensures) (c .before .before .before .turn1 .ensures) refl (c .before .before .double .ensures) (c .before .turn2 .ensures)
+    _ _ _ _ _ (k .word .ensures .0) (c .before .before .before .turn1 .ensures) refl (c .before .before .double .ensures) (c .before .turn2 .ensures)
 
 pub mixed-spec : {M : Type 1} → statement M
 mixed-spec =

@@ -28,7 +28,7 @@ returns c =
     let s = k .before in
     ap mixColumn (c .column .ensures)
     ∙ premixed-word (s .args .a) (s .args .b) (s .args .c) (s .args .d) (search needs) (search needs) (search needs) (search needs)
-    _ _ _ _ (k .word .ensures) (c .before .before .before .turn2 .ensures) (c .before .before .double .ensures) (c .before .double2 .ensures)
+    _ _ _ _ (k .word .ensures .0) (c .before .before .before .turn2 .ensures) (c .before .before .double .ensures) (c .before .double2 .ensures)
 
 pub premixed-spec : {M : Type 1} → statement M
 premixed-spec =
