@@ -1,6 +1,6 @@
-// AES-128 by FIPS 197: the key expansion, the cipher, and the inverse cipher in its equivalent form (section 5.3.5). Blocks and round keys
-// are four columns of four bytes. Within the rounds a column is one word of 32 bits, and each of a round's sixteen bytes is looked up in a
-// table of words.
+// AES-128 by FIPS 197: the key expansion, the cipher, and the inverse cipher in its equivalent form (section 5.3.5). The state is four columns
+// of four bytes, passed by value. What each of a round's sixteen bytes brings to the mixed columns is looked up as one word of 32 bits, and
+// from round to round a column is such a word.
 mod word;
 
 use aes_lookup::inv_sbox;
@@ -18,52 +18,86 @@ ghost use Rattle.aes128.specs.Words.{stateOf, upward, downward, EachBy, 
 ghost use Rattle.aes128.specs.Cipher.{round as roundOf, lastRound, cipher, eqInvRound, eqInvLastRound, eqInvCipher, EqKeys};
 ghost use Rattle.aes128.specs.KeyExpansion.{keyCore, nextKey, expandKey};
 
-// The bytes of the state s, its rows shifted by ShiftRows, in the order in which they are looked up.
-fn shifted(s: [u32; 4]) -> [u32; 16]
-    ensures { λ r. ⌜ r ≡ upward (shiftRows (stateOf s)) ⌝ }
+// The state of four words.
+fn state(t: [u32; 4]) -> [[u8; 4]; 4]
+    ensures { λ r. ⌜ r ≡ stateOf t ⌝ }
 {
     [
-        s[3] / 16777216 % 256,
-        s[2] / 65536 % 256,
-        s[1] / 256 % 256,
-        s[0] % 256,
-        s[0] / 16777216 % 256,
-        s[3] / 65536 % 256,
-        s[2] / 256 % 256,
-        s[1] % 256,
-        s[1] / 16777216 % 256,
-        s[0] / 65536 % 256,
-        s[3] / 256 % 256,
-        s[2] % 256,
-        s[2] / 16777216 % 256,
-        s[1] / 65536 % 256,
-        s[0] / 256 % 256,
-        s[3] % 256,
+        word::column(t[0]),
+        word::column(t[1]),
+        word::column(t[2]),
+        word::column(t[3]),
     ]
 }
 
-// The bytes of the state t, its rows shifted by InvShiftRows, in the order in which they are looked up.
+// ShiftRows.
+fn shift_rows(s: [[u8; 4]; 4]) -> [[u8; 4]; 4]
+    ensures { λ r. ⌜ r ≡ shiftRows s ⌝ }
+{
+    [
+        [s[0][0], s[1][1], s[2][2], s[3][3]],
+        [s[1][0], s[2][1], s[3][2], s[0][3]],
+        [s[2][0], s[3][1], s[0][2], s[1][3]],
+        [s[3][0], s[0][1], s[1][2], s[2][3]],
+    ]
+}
+
+// InvShiftRows.
+fn inv_shift_rows(s: [[u8; 4]; 4]) -> [[u8; 4]; 4]
+    ensures { λ r. ⌜ r ≡ invShiftRows s ⌝ }
+{
+    [
+        [s[0][0], s[3][1], s[2][2], s[1][3]],
+        [s[1][0], s[0][1], s[3][2], s[2][3]],
+        [s[2][0], s[1][1], s[0][2], s[3][3]],
+        [s[3][0], s[2][1], s[1][2], s[0][3]],
+    ]
+}
+
+// A byte as a number of 32 bits.
+fn wide(x: u8) -> u32
+    ensures same { λ r. ⌜ r ≡ x ⌝ }
+    ensures byte { λ r. ⌜ r < 256 ⌝ }
+{
+    x as u32
+}
+
+// The bytes of a state in the order in which they are looked up.
+fn listed(s: [[u8; 4]; 4]) -> [u32; 16]
+    ensures { λ r. ⌜ r ≡ upward s ⌝ }
+{
+    [
+        wide(s[0][3]),
+        wide(s[0][2]),
+        wide(s[0][1]),
+        wide(s[0][0]),
+        wide(s[1][3]),
+        wide(s[1][2]),
+        wide(s[1][1]),
+        wide(s[1][0]),
+        wide(s[2][3]),
+        wide(s[2][2]),
+        wide(s[2][1]),
+        wide(s[2][0]),
+        wide(s[3][3]),
+        wide(s[3][2]),
+        wide(s[3][1]),
+        wide(s[3][0]),
+    ]
+}
+
+// The bytes of the state t, its rows shifted by ShiftRows.
+fn shifted(t: [u32; 4]) -> [u32; 16]
+    ensures { λ r. ⌜ r ≡ upward (shiftRows (stateOf t)) ⌝ }
+{
+    listed(shift_rows(state(t)))
+}
+
+// The bytes of the state t, its rows shifted by InvShiftRows.
 fn inv_shifted(t: [u32; 4]) -> [u32; 16]
     ensures { λ r. ⌜ r ≡ upward (invShiftRows (stateOf t)) ⌝ }
 {
-    [
-        t[1] / 16777216 % 256,
-        t[2] / 65536 % 256,
-        t[3] / 256 % 256,
-        t[0] % 256,
-        t[2] / 16777216 % 256,
-        t[3] / 65536 % 256,
-        t[0] / 256 % 256,
-        t[1] % 256,
-        t[3] / 16777216 % 256,
-        t[0] / 65536 % 256,
-        t[1] / 256 % 256,
-        t[2] % 256,
-        t[0] / 16777216 % 256,
-        t[1] / 65536 % 256,
-        t[2] / 256 % 256,
-        t[3] % 256,
-    ]
+    listed(inv_shift_rows(state(t)))
 }
 
 // What each of sixteen bytes brings to a mixed column.
@@ -238,14 +272,6 @@ fn inv_mix_columns(s: [[u8; 4]; 4]) -> [[u8; 4]; 4]
         inv_mix_column(s[2]),
         inv_mix_column(s[3]),
     ]
-}
-
-// A byte as a number of 32 bits.
-fn wide(x: u8) -> u32
-    ensures same { λ r. ⌜ r ≡ x ⌝ }
-    ensures byte { λ r. ⌜ r < 256 ⌝ }
-{
-    x as u32
 }
 
 // SubWord(RotWord(w)), with the round constant c.

@@ -13,7 +13,7 @@ fn word(a: u8, b: u8, c: u8, d: u8) -> u32
 }
 
 // The four bytes of a word.
-fn column(x: u32) -> [u8; 4]
+pub fn column(x: u32) -> [u8; 4]
     ensures { λ r. ⌜ r ≡ columnOf x ⌝ }
 {
     [
