@@ -5,9 +5,9 @@ mod word;
 
 use aes_lookup::inv_sbox;
 use aes_lookup::key_sbox;
-use aes_lookup::mixed_sbox;
 use aes_lookup::sbox;
-use aes_lookup::unmixed_sbox;
+use aes_mixed::mixed_sbox;
+use aes_mixed::unmixed_sbox;
 ghost use mathlib.Core.Path.{_≡_};
 ghost use Prim.Native.Nat.{_<_};
 ghost use lib.ListN.{length};

@@ -5,7 +5,7 @@ use mathlib.Core.List.{List}
 use Prim.Native.Nat.{ℕ, _≤_}
 use native.Mathlib.Omega.{arith}
 use lib.ListN.{length, getD}
-use Rattle.aes_sbox.specs.Tables.{sbox, invSbox, mixedSbox, unmixedSbox}
+use Rattle.aes_sbox.specs.Tables.{sbox, invSbox}
 use Rattle.aes_sbox.proofs.Tables.{beyond-end}
 use Rattle.aes_lookup.proofs.beyond.Statement.{statement}
 use Rattle.aes_lookup.proofs.beyond.Tie as tie
@@ -13,7 +13,7 @@ use Rattle.aes_lookup.proofs.beyond.Tie as tie
 returns : tie.Need-returns
 returns c =
     let end : (l : List ℕ) → length l ≤ 256 → 0 ≡ getD l (c .args .x) 0 = λ l h. beyond-end 256 (c .args .x) l h (c .pre) in
-    (end sbox (omega arith), (end invSbox (omega arith), (end mixedSbox (omega arith), end unmixedSbox (omega arith))))
+    (end sbox (omega arith), end invSbox (omega arith))
 
 pub beyond-spec : {M : Type 1} → statement M
 beyond-spec = tie.close (tie.spec returns)
