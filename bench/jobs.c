@@ -117,20 +117,12 @@ void show_job(const struct job *job, void (*put)(const char *))
     memset(&attribute, 0, sizeof attribute);
     memset(&found, 0, sizeof found);
     job->call();
+    const uint64_t numbers[] = {outcome.refusal, outcome.value,   attribute.refusal, attribute.app_id, attribute.lifetime,
+                                attribute.key_len, attribute.type, found.refusal,    found.offers,     found.at,
+                                found.name_at,   found.name_len,  found.same_name};
     put(job->name);
-    show_number(outcome.refusal, put);
-    show_number(outcome.value, put);
-    show_number(attribute.refusal, put);
-    show_number(attribute.app_id, put);
-    show_number(attribute.lifetime, put);
-    show_number(attribute.key_len, put);
-    show_number(attribute.type, put);
-    show_number(found.refusal, put);
-    show_number(found.offers, put);
-    show_number(found.at, put);
-    show_number(found.name_at, put);
-    show_number(found.name_len, put);
-    show_number(found.same_name, put);
+    for (size_t i = 0; i < sizeof numbers / sizeof *numbers; i++)
+        show_number(numbers[i], put);
     put(" ");
     show_bytes(attribute.kek_id, 16, put);
     show_bytes(attribute.key_id, 16, put);

@@ -1,14 +1,11 @@
 -- The column mixing and its inverse undo each other.
 -- Assumes nothing.
 use mathlib.Core.Path.{_≡_, refl, sym, ap, ap₂, _∙_}
-use Prim.Native.Nat.{ℕ, zero, suc, _+_, _*_, _/_, _%_, _^_, _<_}
+use Prim.Native.Nat.{ℕ, zero, suc, _*_, _/_, _%_, _<_}
 use native.Mathlib.Nat.{add-zero, zero-lt-suc, zero-mul, one-mul}
 use lib.Bits.{bitXor, xor-shr, xor-mod, xor-block, xor-comm, xor-zero-r}
 use mathlib.Core.Bool.{Bool}
-use mathlib.Core.List.{List, [], _∷_}
-use lib.ListN.{getD}
-use Rattle.aes128.specs.State.{eachRow, mixByte, invMixByte, mixColumn}
-use Rattle.aes128.proofs.Four.{four as list4}
+use Rattle.aes128.specs.State.{mixByte, invMixByte}
 use lib.Dec.{T, eqb, eqb→eq}
 use Rattle.aes_sbox.specs.Field.{xtime, mulBits, mul}
 use Rattle.aes_sbox.proofs.Table.{both, both-left, both-right, below}

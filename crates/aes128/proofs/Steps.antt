@@ -1,12 +1,10 @@
 -- Each step of a round keeps a state of sixteen bytes one, and the steps undo each other, both ways.
 -- Assumes nothing.
-use mathlib.Core.Path.{_≡_, refl, sym, ap, _∙_}
-use mathlib.Core.List.{List, [], _∷_}
+use mathlib.Core.Path.{_≡_, refl}
+use mathlib.Core.List.{List}
 use Prim.Native.Nat.{ℕ, zero, suc, _*_, _/_, _%_, _<_}
 use native.Mathlib.Omega.{arith}
-use lib.Bits.{bitXor}
-use lib.ListN.{getD}
-use Rattle.aes_sbox.specs.Field.{xtime, mulBits, mul}
+use Rattle.aes_sbox.specs.Field.{mulBits, mul}
 use Rattle.aes_sbox.specs.Sbox.{sboxOf, invSboxOf}
 use Rattle.aes128.specs.State.{State, Column, column, Block, block, columns, bytes, subBytes, invSubBytes, shiftRows, invShiftRows, mixByte, invMixByte, mixColumn, invMixColumn, mixColumns, invMixColumns, addColumn, addRoundKey}
 use Rattle.aes128.proofs.Four.{four}

@@ -1,7 +1,7 @@
 -- The word of a column: sums, doublings and turns of words are those of their bytes, one by one, and so the column that the code mixes as one word is the
 -- mixed column of FIPS 197.
 -- Assumes nothing.
-use mathlib.Core.Path.{_≡_, refl, sym, ap, ap₂, _∙_}
+use mathlib.Core.Path.{_≡_, ap, ap₂, _∙_}
 use mathlib.Core.List.{List, [], _∷_}
 use Prim.Native.Nat.{ℕ, _+_, _*_, _/_, _%_, _<_}
 use native.Mathlib.Omega.{arith}
