@@ -5,7 +5,8 @@ pub mod unmixed_sbox;
 
 ghost use mathlib.Core.Path.{_≡_};
 ghost use lib.ListN.{getD};
-ghost use Rattle.aes_sbox.specs.Tables.{mixedSbox, unmixedSbox, NoneBelow};
+ghost use Rattle.aes_sbox.specs.Tables.{mixedSbox, unmixedSbox};
+ghost use Rattle.lookup.specs.Table.{NoneBelow};
 
 // Past the end of each table. No caller looks up there.
 fn beyond(x: u32) -> u8

@@ -2,16 +2,13 @@
 -- the inverse-then-affine rule, the inverse table is its rule, and each undoes the other, both ways.
 -- Assumes nothing.
 use mathlib.Core.Path.{_≡_, refl, sym, ap, _∙_, subst}
-use mathlib.Core.List.{List, [], _∷_}
 use mathlib.Core.Bool.{Bool}
-use Prim.Native.Nat.{ℕ, zero, suc, _≤_, _<_}
-use native.Mathlib.Nat.{le-of-suc-le-suc, not-suc-le-zero}
-use native.Mathlib.Omega.{arith}
+use Prim.Native.Nat.{ℕ, suc, _<_}
 use lib.Dec.{T, eqb, ltb, eqb→eq, ltb→lt}
-use lib.ListN.{getD, length}
+use lib.ListN.{getD}
 use Rattle.aes_sbox.specs.Field.{xtime, mulBits, mul}
 use Rattle.aes_sbox.specs.Sbox.{inverse, affine, invAffine, sboxOf, invSboxOf}
-use Rattle.aes_sbox.specs.Tables.{sbox, invSbox, mixedSbox, unmixedSbox, mixedWord, unmixedWord, NoneBelow}
+use Rattle.aes_sbox.specs.Tables.{sbox, invSbox, mixedSbox, unmixedSbox, mixedWord, unmixedWord}
 use Rattle.aes_sbox.proofs.Table.{at, below, both, both-left, both-right}
 
 sboxRight : ℕ → ℕ → Bool
@@ -98,21 +95,3 @@ unfolding unmixedRight mul mulBits xtime
 unmixed-rule k h =
     eqb→eq (getD unmixedSbox k 0) (unmixedWord (getD invSbox k 0)) (at unmixedRight unmixedSbox tt k h)
     ∙ ap unmixedWord (invSbox-rule k h)
-
--- ---- past the end of a table
-
-elsewhere : (n x : ℕ) → n ≤ x → (x ≡ n → ⊥) → suc n ≤ x
-elsewhere n x h e = omega (arith, e)
-
-none-below : (n x : ℕ) → NoneBelow n x → n ≤ x
-none-below zero x h = omega arith
-none-below (suc n) x h = elsewhere n x (none-below n x (h .0)) (h .1)
-
-past-end : (l : List ℕ) (x : ℕ) → length l ≤ x → 0 ≡ getD l x 0
-past-end [] x h = refl
-past-end (y ∷ l) zero h = absurd (not-suc-le-zero h)
-past-end (y ∷ l) (suc x) h = past-end l x (le-of-suc-le-suc h)
-
--- a number that is none of the first n is not in a list of at most n
-pub beyond-end : (n x : ℕ) (l : List ℕ) → length l ≤ n → NoneBelow n x → 0 ≡ getD l x 0
-beyond-end n x l h none = let p = none-below n x none in past-end l x (omega (arith, p))

@@ -1,9 +1,8 @@
 -- The tables that the code of AES looks bytes up in, each 256 entries from that of {00} on. proofs/Tables.antt proves each entry to be
 -- what the rules of FIPS 197 (Sbox.antt) give, so that nothing here has to be believed.
 -- Assumes nothing.
-use mathlib.Core.Path.{_≡_}
 use mathlib.Core.List.{List, [], _∷_}
-use Prim.Native.Nat.{ℕ, zero, suc, _+_, _*_}
+use Prim.Native.Nat.{ℕ, _+_, _*_}
 use Rattle.aes_sbox.specs.Field.{mul}
 
 -- Figure 7, the S-box.
@@ -130,8 +129,3 @@ unmixedSbox =
     2180231114 ∷ 1053059257 ∷ 741614648 ∷ 1598071746 ∷ 1925389590 ∷ 203809468 ∷ 2336832552 ∷ 1100287487 ∷
     1895934009 ∷ 3736275976 ∷ 2632234200 ∷ 2428589668 ∷ 1636092795 ∷ 1890988757 ∷ 1952214088 ∷ 1113045200 ∷
     []
-
--- x is none of the numbers below n.
-abbrev pub NoneBelow : ℕ → ℕ → Type 0
-NoneBelow zero x = Unit {0}
-NoneBelow (suc n) x = NoneBelow n x × (x ≡ n → ⊥)

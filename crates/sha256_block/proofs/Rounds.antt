@@ -1,11 +1,14 @@
 -- Sixteen rounds at a time: the rounds of a group, and the four groups of a block.
 -- Assumes nothing.
-use mathlib.Core.Path.{_≡_, refl, ap, _∙_}
-use mathlib.Core.List.{List}
-use Prim.Native.Nat.{ℕ, suc}
-use lib.ListN.{getD, take, drop}
-use Rattle.sha256_block.specs.Fips180.{K, round, rounds, sums, compress}
-use Rattle.sha256_block.specs.Steps.{window, runs}
+use mathlib.Core.Path.{_≡_, refl, sym, ap, _∙_}
+use mathlib.Core.List.{List, [], _∷_}
+use Prim.Native.Nat.{ℕ, zero, suc, _+_, _-_, _*_, _%_, _<_, _≤_}
+use native.Mathlib.Nat.{add-zero, zero-add, add-suc, suc-add, le-of-suc-le-suc, not-suc-le-zero}
+use native.Mathlib.Omega.{arith}
+use lib.ListN.{length, getD, set, length-set}
+use Rattle.lookup.proofs.Filled.{filled}
+use Rattle.sha256_block.specs.Fips180.{K, W, round, rounds, sums, compress}
+use Rattle.sha256_block.specs.Steps.{window, runs, ConstantsFrom}
 
 pub none : (k w s : List ℕ) → s ≡ runs k w s 0
 unfolding runs
@@ -15,39 +18,48 @@ pub more : (k w s : List ℕ) (n : ℕ) {p q : List ℕ} → p ≡ runs k w s n 
 unfolding runs
 more k w s n e f = f ∙ ap (round (getD k n 0) (getD w n 0)) e
 
--- the constants of the sixteen rounds from t on
-abbrev pub constants : ℕ → List ℕ
-constants t = take 16 (drop t K)
+-- a turn of the loop that looks up the constants of a group: the one at j is stored
+module _ (g j : ℕ) (k : List ℕ) (x : ℕ) (lt : j < 16) (few : g < 4) (len : length k ≡ 16) where
+  round-number : (g * 16 + j) % 64 ≡ g * 16 + j
+  round-number = omega arith
 
-group0 : (h b : List ℕ) → runs (constants 0) (window b 0) (rounds h b 0) 16 ≡ rounds h b 16
-unfolding runs window rounds K
-group0 h b = refl
+  pub put-constant : ConstantsFrom (g * 16) j k → x ≡ getD K ((g * 16 + j) % 64) 0 → (length (set k j x) ≡ 16) × ConstantsFrom (g * 16) (j + 1) (set k j x)
+  put-constant before e = (
+    length-set k j x ∙ len,
+    filled (λ (i y : ℕ). y ≡ getD K (g * 16 + i) 0) k j x 0 (omega (arith, len)) (e ∙ ap (λ (m : ℕ). getD K m 0) round-number) before,
+  )
 
-group16 : (h b : List ℕ) → runs (constants 16) (window b 16) (rounds h b 16) 16 ≡ rounds h b 32
-unfolding runs window rounds K
-group16 h b = refl
+-- m values of f, from f i on, and the one at place n
+listed : (ℕ → ℕ) → ℕ → ℕ → List ℕ
+listed f i zero = []
+listed f i (suc m) = f i ∷ listed f (suc i) m
 
-group32 : (h b : List ℕ) → runs (constants 32) (window b 32) (rounds h b 32) 16 ≡ rounds h b 48
-unfolding runs window rounds K
-group32 h b = refl
+listed-at : (f : ℕ → ℕ) (m i n : ℕ) → n < m → getD (listed f i m) n 0 ≡ f (i + n)
+unfolding listed
+listed-at f zero i n h = absurd (not-suc-le-zero h)
+listed-at f (suc m) i zero h = ap f (sym (add-zero i))
+listed-at f (suc m) i (suc n) h = listed-at f m (suc i) n (le-of-suc-le-suc h) ∙ ap f (suc-add i n ∙ sym (add-suc i n))
 
-group48 : (h b : List ℕ) → runs (constants 48) (window b 48) (rounds h b 48) 16 ≡ rounds h b 64
-unfolding runs window rounds K
-group48 h b = refl
+window-at : (b : List ℕ) (t n : ℕ) → n < 16 → getD (window b t) n 0 ≡ W b (t + n)
+unfolding window listed
+window-at b t n h = listed-at (λ (i : ℕ). W b (t + i)) 16 0 n h ∙ ap (λ (i : ℕ). W b (t + i)) (zero-add n)
 
--- a group from the state and the window that it finds
-module _ (h b : List ℕ) {w s r : List ℕ} where
-  pub from0 : s ≡ rounds h b 0 → w ≡ window b 0 → r ≡ runs (constants 0) w s 16 → r ≡ rounds h b 16
-  from0 es ew e = e ∙ (λ i. runs (constants 0) (ew i) (es i) 16) ∙ group0 h b
+-- sixteen rounds from round t on, from the state and the words that they find
+module _ (h b k : List ℕ) (t : ℕ) (constants : ConstantsFrom t 16 k) where
+  first : (n : ℕ) → n ≤ 16 → runs k (window b t) (rounds h b t) n ≡ rounds h b (t + n)
+  unfolding runs rounds
+  first zero le = ap (rounds h b) (sym (add-zero t))
+  first (suc n) le =
+      (λ i. round (constants n le i) (window-at b t n le i) (first n (omega (arith, le)) i)) ∙ ap (rounds h b) (sym (add-suc t n))
 
-  pub from16 : s ≡ rounds h b 16 → w ≡ window b 16 → r ≡ runs (constants 16) w s 16 → r ≡ rounds h b 32
-  from16 es ew e = e ∙ (λ i. runs (constants 16) (ew i) (es i) 16) ∙ group16 h b
+-- a group, and the words that the next one finds
+pub group : (h b : List ℕ) (g : ℕ) (k : List ℕ) {w s r : List ℕ} → ConstantsFrom (g * 16) 16 k
+    → s ≡ rounds h b (g * 16) → w ≡ window b (g * 16) → r ≡ runs k w s 16 → r ≡ rounds h b ((g + 1) * 16)
+group h b g k constants es ew e =
+    e ∙ (λ i. runs k (ew i) (es i) 16) ∙ first h b k (g * 16) constants 16 (omega arith) ∙ ap (rounds h b) (omega arith)
 
-  pub from32 : s ≡ rounds h b 32 → w ≡ window b 32 → r ≡ runs (constants 32) w s 16 → r ≡ rounds h b 48
-  from32 es ew e = e ∙ (λ i. runs (constants 32) (ew i) (es i) 16) ∙ group32 h b
-
-  pub from48 : s ≡ rounds h b 48 → w ≡ window b 48 → r ≡ runs (constants 48) w s 16 → r ≡ rounds h b 64
-  from48 es ew e = e ∙ (λ i. runs (constants 48) (ew i) (es i) 16) ∙ group48 h b
+pub kept : (b : List ℕ) (g : ℕ) {w : List ℕ} → w ≡ window b (g * 16) → w ≡ window b ((g + 1) * 16 - 16)
+kept b g e = e ∙ ap (window b) (omega arith)
 
 pub no-round : (h b : List ℕ) → h ≡ rounds h b 0
 unfolding rounds

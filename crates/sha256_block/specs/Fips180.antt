@@ -36,7 +36,7 @@ abbrev pub σ1 : ℕ → ℕ
 σ1 x = bitXor (bitXor (ROTR 17 x) (ROTR 19 x)) (SHR 10 x)
 
 -- 4.2.2: the sixty-four constants
-unfoldable pub K : List ℕ
+abbrev pub K : List ℕ
 K =
     0x428a2f98 ∷ 0x71374491 ∷ 0xb5c0fbcf ∷ 0xe9b5dba5 ∷ 0x3956c25b ∷ 0x59f111f1 ∷ 0x923f82a4 ∷ 0xab1c5ed5 ∷
     0xd807aa98 ∷ 0x12835b01 ∷ 0x243185be ∷ 0x550c7dc3 ∷ 0x72be5d74 ∷ 0x80deb1fe ∷ 0x9bdc06a7 ∷ 0xc19bf174 ∷

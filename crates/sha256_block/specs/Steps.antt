@@ -1,9 +1,10 @@
 -- What the code's private functions give, said by the definitions of Fips180.antt. Nothing here is part of the standard's reading.
 -- Assumes nothing.
+use mathlib.Core.Path.{_≡_}
 use mathlib.Core.List.{List, [], _∷_}
-use Prim.Native.Nat.{ℕ, zero, suc, _+_}
+use Prim.Native.Nat.{ℕ, zero, suc, _+_, _<_}
 use lib.ListN.{getD}
-use Rattle.sha256_block.specs.Fips180.{W, round}
+use Rattle.sha256_block.specs.Fips180.{K, W, round}
 
 -- sixteen words of the schedule, from word t on
 unfoldable pub window : List ℕ → ℕ → List ℕ
@@ -14,3 +15,7 @@ window b t =
 unfoldable pub runs : List ℕ → List ℕ → List ℕ → ℕ → List ℕ
 runs k w s zero = s
 runs k w s (suc n) = round (getD k n 0) (getD w n 0) (runs k w s n)
+
+-- the first n of k are the constants of the rounds from t on
+abbrev pub ConstantsFrom : ℕ → ℕ → List ℕ → Type 0
+ConstantsFrom t n k = (i : ℕ) → i < n → getD k i 0 ≡ getD K (t + i) 0

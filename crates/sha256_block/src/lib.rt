@@ -1,14 +1,11 @@
 // SHA-256's compression (FIPS 180-4): the hash value after the whole blocks of a message.
 ghost use mathlib.Core.Path.{_≡_};
 ghost use mathlib.Core.List.{List};
-ghost use Prim.Native.Nat.{ℕ, _+_, _*_, _/_, _<_, _≤_, _%_, _^_};
+ghost use Prim.Native.Nat.{ℕ, _+_, _-_, _*_, _/_, _<_, _≤_, _%_, _^_};
 ghost use lib.ListN.{getD, length, set};
 ghost use Rattle.sha256_block.specs.Fips180 as Fips180;
 ghost use Rattle.sha256_block.specs.Steps as Steps;
-use constants::K0;
-use constants::K1;
-use constants::K2;
-use constants::K3;
+use constants::constant;
 
 mod constants;
 
@@ -206,32 +203,27 @@ fn sixteen(s: &mut [u32; 8], k: [u32; 16], w: &[u32; 16])
     *s = s16;
 }
 
-// Rounds 0 to 15.
-fn rounds0(s: &mut [u32; 8], w: &[u32; 16])
-    ensures { λ _. ⌜ ((h b : List ℕ) → now (s .entry) ≡ Fips180.rounds h b 0 → now (w .entry) ≡ Steps.window b 0 → now (s .exit) ≡ Fips180.rounds h b 16) ⌝ }
+// The constants of a group of sixteen rounds, of which a block has four.
+fn group_constants(g: u32) -> [u32; 16]
+    requires { ⌜ g < 4 ⌝ }
+    ensures { λ r. ⌜ Steps.ConstantsFrom (g * 16) 16 r ⌝ }
 {
-    sixteen(s, K0, w);
+    let mut k = [0u32; 16];
+    let mut j: usize = 0;
+    while j < 16 {
+        k[j] = constant((g * 16 + (j as u32)) % 64);
+        j += 1;
+    }
+    k
 }
 
-// Rounds 16 to 31.
-fn rounds1(s: &mut [u32; 8], w: &[u32; 16])
-    ensures { λ _. ⌜ ((h b : List ℕ) → now (s .entry) ≡ Fips180.rounds h b 16 → now (w .entry) ≡ Steps.window b 16 → now (s .exit) ≡ Fips180.rounds h b 32) ⌝ }
+// The words of a group: at first the block's own, then the next sixteen of the schedule.
+fn group_words(w: &mut [u32; 16], g: u32)
+    ensures { λ _. ⌜ ((b : List ℕ) → now (w .entry) ≡ Steps.window b (g * 16 - 16) → now (w .exit) ≡ Steps.window b (g * 16)) ⌝ }
 {
-    sixteen(s, K1, w);
-}
-
-// Rounds 32 to 47.
-fn rounds2(s: &mut [u32; 8], w: &[u32; 16])
-    ensures { λ _. ⌜ ((h b : List ℕ) → now (s .entry) ≡ Fips180.rounds h b 32 → now (w .entry) ≡ Steps.window b 32 → now (s .exit) ≡ Fips180.rounds h b 48) ⌝ }
-{
-    sixteen(s, K2, w);
-}
-
-// Rounds 48 to 63.
-fn rounds3(s: &mut [u32; 8], w: &[u32; 16])
-    ensures { λ _. ⌜ ((h b : List ℕ) → now (s .entry) ≡ Fips180.rounds h b 48 → now (w .entry) ≡ Steps.window b 48 → now (s .exit) ≡ Fips180.rounds h b 64) ⌝ }
-{
-    sixteen(s, K3, w);
+    if 0 < g {
+        refill(w);
+    }
 }
 
 // The hash value and the working variables, word by word.
@@ -257,13 +249,12 @@ fn compress(h: [u32; 8], b: &[u8]) -> [u32; 8]
 {
     let mut w = load(b);
     let mut s = h;
-    rounds0(&mut s, &w);
-    refill(&mut w);
-    rounds1(&mut s, &w);
-    refill(&mut w);
-    rounds2(&mut s, &w);
-    refill(&mut w);
-    rounds3(&mut s, &w);
+    let mut g: u32 = 0;
+    while g < 4 {
+        group_words(&mut w, g);
+        sixteen(&mut s, group_constants(g), &w);
+        g += 1;
+    }
     sum(h, s)
 }
 

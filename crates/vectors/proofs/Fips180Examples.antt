@@ -5,9 +5,9 @@ use Rattle.sha256_block.specs.Fips180.{W, schedule, wordAt, nextW, rounds, roun
 use Rattle.vectors.specs.Fips180Examples.{OneBlock, TwoBlocks}
 
 pub one-block : OneBlock
-unfolding W schedule wordAt nextW rounds round T1 T2 K H0 padding padded sums compress blocks digest sha256
+unfolding W schedule wordAt nextW rounds round T1 T2 H0 padding padded sums compress blocks digest sha256
 one-block = refl
 
 pub two-blocks : TwoBlocks
-unfolding W schedule wordAt nextW rounds round T1 T2 K H0 padding padded sums compress blocks digest sha256
+unfolding W schedule wordAt nextW rounds round T1 T2 H0 padding padded sums compress blocks digest sha256
 two-blocks = refl

@@ -6,7 +6,7 @@ use Prim.Native.Nat.{ℕ, _≤_}
 use native.Mathlib.Omega.{arith}
 use lib.ListN.{length, getD}
 use Rattle.aes_sbox.specs.Tables.{mixedSbox, unmixedSbox}
-use Rattle.aes_sbox.proofs.Tables.{beyond-end}
+use Rattle.lookup.proofs.Table.{beyond-end}
 use Rattle.aes_mixed.proofs.beyond.Statement.{statement}
 use Rattle.aes_mixed.proofs.beyond.Tie as tie
 

@@ -1,65 +1,76 @@
--- `sha256_block::compress` meets its contract: four times sixteen rounds, and the window refilled between them.
+-- `sha256_block::compress` meets its contract: after g groups, g times sixteen rounds are done, and the words are those of the last group.
 -- Assumes nothing.
-use mathlib.Core.Path.{_∙_}
+use mathlib.Core.Path.{_≡_, ap, _∙_}
+use Prim.Native.Nat.{ℕ, _*_, _-_, _≤_}
+use native.Mathlib.Omega.{arith}
 use denote.Ref.{now}
-use Rattle.sha256_block.proofs.Rounds.{no-round, all-rounds}
+use Rattle.sha256_block.specs.Fips180.{rounds}
+use Rattle.sha256_block.specs.Steps.{window}
+use Rattle.sha256_block.proofs.Rounds.{group, kept, no-round, all-rounds}
 use borrow.Author.Needs.{needs}
 use Rattle.sha256_block.proofs.compress.Statement.{statement}
 use Rattle.sha256_block.proofs.compress.Tie as tie
 
-load-requires : tie.Need-load-requires
+abbrev Inv-loop : tie.InvT-loop
+Inv-loop h b w₀ s₀ g₀ w s g = (g ≤ 4) × (s ≡ rounds h b (g * 16)) × (w ≡ window b (g * 16 - 16))
+
+abbrev μ-loop : tie.MeasureT-loop
+μ-loop h b w₀ s₀ g₀ w s g = 4 - g
+
+load-requires : tie.Need-load-requires Inv-loop μ-loop
 load-requires c κs = search needs
 
-rounds0-requires : tie.Need-rounds0-requires
-rounds0-requires c κs = search needs
+loop-holds : tie.Need-loop-holds Inv-loop μ-loop
+loop-holds c = (omega arith, no-round _ _, c .load .ensures)
 
-refill-requires : tie.Need-refill-requires
-refill-requires c κs = search needs
+group-words-requires : tie.Need-group-words-requires Inv-loop μ-loop
+group-words-requires c κs = search needs
 
-rounds1-requires : tie.Need-rounds1-requires
-rounds1-requires c κs = search needs
+group-constants-requires : tie.Need-group-constants-requires Inv-loop μ-loop
+group-constants-requires c κs = search needs
 
-refill-requires-2 : tie.Need-refill-requires-2
-refill-requires-2 c κs = search needs
+sixteen-requires : tie.Need-sixteen-requires Inv-loop μ-loop
+sixteen-requires c κs = search needs
 
-rounds2-requires : tie.Need-rounds2-requires
-rounds2-requires c κs = search needs
+add-g : tie.Need-add-g Inv-loop μ-loop
+add-g c = search needs
 
-refill-requires-3 : tie.Need-refill-requires-3
-refill-requires-3 c κs = search needs
+loop-less : tie.Need-loop-less Inv-loop μ-loop
+loop-less c = search needs
 
-rounds3-requires : tie.Need-rounds3-requires
-rounds3-requires c κs = search needs
+loop-again : tie.Need-loop-again Inv-loop μ-loop
+loop-again c =
+    let u = c .before .before .before .before in
+    let p = u .before .before .before in
+    let a = p .before .before .before .args in
+    let g = p .loop .g in
+    let b = now (a .b) in
+    let words = u .group-words .ensures b (p .loop .inv .2) in
+    (omega arith, group (a .h) b g _ (c .before .before .group-constants .ensures) (p .loop .inv .1) words (c .sixteen .ensures), kept b g words)
 
-sum-requires : tie.Need-sum-requires
+sum-requires : tie.Need-sum-requires Inv-loop μ-loop
 sum-requires c κs = search needs
 
-returns : tie.Need-returns
+returns : tie.Need-returns Inv-loop μ-loop
 returns c =
-    let a = c .before .before .before .before .before .before .before .before .before .before .before .before .before .before .before .before .before .before .before .before .before .args in
-    let h = a .h in
-    let b = now (a .b) in
-    let w0 = c .before .before .before .before .before .before .before .before .before .before .before .before .before .before .before .before .before .before .before .load .ensures in
-    let s0 = c .before .before .before .before .before .before .before .before .before .before .before .before .before .before .before .before .rounds0 .ensures h b (no-round h b) w0 in
-    let w1 = c .before .before .before .before .before .before .before .before .before .before .before .before .before .before .refill .ensures b 0 w0 in
-    let s1 = c .before .before .before .before .before .before .before .before .before .before .before .rounds1 .ensures h b s0 w1 in
-    let w2 = c .before .before .before .before .before .before .before .before .before .refill2 .ensures b 16 w1 in
-    let s2 = c .before .before .before .before .before .before .rounds2 .ensures h b s1 w2 in
-    let w3 = c .before .before .before .before .refill3 .ensures b 32 w2 in
-    let s3 = c .before .rounds3 .ensures h b s2 w3 in
-    c .sum .ensures ∙ all-rounds h b s3
+    let p = c .before .before in
+    let a = p .before .before .before .args in
+    let four : p .loop .g ≡ 4 = omega arith in
+    c .sum .ensures ∙ all-rounds (a .h) (now (a .b)) (p .loop .inv .1 ∙ ap (λ (g : ℕ). rounds (a .h) (now (a .b)) (g * 16)) four)
 
 pub compress-spec : {M : Type 1} → statement M
 compress-spec =
     tie.close
     (tie.spec
+    Inv-loop
+    μ-loop
     load-requires
-    rounds0-requires
-    refill-requires
-    rounds1-requires
-    refill-requires-2
-    rounds2-requires
-    refill-requires-3
-    rounds3-requires
+    loop-holds
+    group-words-requires
+    group-constants-requires
+    sixteen-requires
+    add-g
+    loop-less
+    loop-again
     sum-requires
     returns)

@@ -1,0 +1,75 @@
+-- `sha256_block::group_constants` meets its contract: after j turns the first j constants are looked up.
+-- Assumes nothing.
+use mathlib.Core.Path.{_≡_, refl, subst}
+use Prim.Native.Nat.{ℕ, _*_, _-_, _≤_}
+use native.Mathlib.Omega.{arith}
+use lib.ListN.{length}
+use Rattle.sha256_block.specs.Steps.{ConstantsFrom}
+use Rattle.sha256_block.proofs.Rounds.{put-constant}
+use borrow.Author.Needs.{needs}
+use Rattle.sha256_block.proofs.group_constants.Statement.{statement}
+use Rattle.sha256_block.proofs.group_constants.Tie as tie
+
+abbrev Inv-loop : tie.InvT-loop
+Inv-loop g k₀ j₀ k j = (j ≤ 16) × (length k ≡ 16) × ConstantsFrom (g * 16) j k
+
+abbrev μ-loop : tie.MeasureT-loop
+μ-loop g k₀ j₀ k j = 16 - j
+
+loop-holds : tie.Need-loop-holds Inv-loop μ-loop
+loop-holds c = (omega arith, refl, λ i h. absurd (omega (arith, h)))
+
+mul-constant : tie.Need-mul-constant Inv-loop μ-loop
+mul-constant c = search needs
+
+cast-constant : tie.Need-cast-constant Inv-loop μ-loop
+cast-constant c = search needs
+
+add-constant : tie.Need-add-constant Inv-loop μ-loop
+add-constant c = search needs
+
+constant-requires : tie.Need-constant-requires Inv-loop μ-loop
+constant-requires c κs = search needs
+
+mul-k : tie.Need-mul-k Inv-loop μ-loop
+mul-k c = search needs
+
+array-write-k : tie.Need-array-write-k Inv-loop μ-loop
+array-write-k c = search needs
+
+add-j : tie.Need-add-j Inv-loop μ-loop
+add-j c = search needs
+
+loop-less : tie.Need-loop-less Inv-loop μ-loop
+loop-less c = search needs
+
+loop-again : tie.Need-loop-again Inv-loop μ-loop
+loop-again c =
+    let p = c .before .before in
+    let h = put-constant (p .before .args .g) (p .loop .j) (p .loop .k) (c .constant .result) (omega arith) (p .before .pre) (p .loop .inv .1)
+    (p .loop .inv .2) (c .constant .ensures) in
+    (omega arith, h .0, h .1)
+
+returns : tie.Need-returns Inv-loop μ-loop
+returns c =
+    let p = c .before in
+    let all : p .loop .j ≡ 16 = omega arith in
+    subst (λ (n : ℕ). ConstantsFrom (p .before .args .g * 16) n (p .loop .k)) all (p .loop .inv .2)
+
+pub group-constants-spec : {M : Type 1} → statement M
+group-constants-spec =
+    tie.close
+    (tie.spec
+    Inv-loop
+    μ-loop
+    loop-holds
+    mul-constant
+    cast-constant
+    add-constant
+    constant-requires
+    mul-k
+    array-write-k
+    add-j
+    loop-less
+    loop-again
+    returns)
