@@ -270,33 +270,30 @@ tail-block xs j q e l ed =
     fits : (x : ℕ) → x ≤ 64 → 0 + x ≤ 64
     fits x h = omega arith
 
--- `absorb`, where the block stays short of full
+-- `absorb_into`, where the block stays short of full
 pub part-law : (s : Sha256) (xs : List ℕ) → s .count < 2 ^ 64 → length (s .block) ≡ 64 → length xs < 64 - s .count % 64 → {b : List ℕ} {n : ℕ}
     → b ≡ paste (s .block) (s .count % 64) xs (length xs) → n ≡ (s .count + length xs) % 2 ^ 64 → record { h = s .h; block = b; count = n } ≡ absorbed s xs
 part-law s xs f l h eb en =
     (λ i. record { h = s .h; block = (eb ∙ paste-sets (s .block) xs (s .count % 64) (omega arith)) i; count = en i }) ∙ sym (part s xs f (omega arith))
 
--- `over`
-module _ (s : Sha256) (xs : List ℕ) (a : ℕ) (f : s .count < 2 ^ 64) (l : length (s .block) ≡ 64) (ea : a ≡ s .count % 64) (h : 64 ≤ a + length xs) where
+-- `absorb_into`, where the first k bytes fill the block
+module _ (s : Sha256) (xs : List ℕ) (k : ℕ) (f : s .count < 2 ^ 64) (l : length (s .block) ≡ 64) (ek : s .count % 64 + k ≡ 64) (hk : k ≤ length xs) where
   cut : ℕ
-  cut = length xs - (length xs - (64 - a)) % 64
+  cut = length xs - (length xs - k) % 64
 
   pub over-law : {b g e d : List ℕ} {n : ℕ}
-      → b ≡ paste (s .block) a (take (64 - a) xs) (length (take (64 - a) xs))
+      → b ≡ paste (s .block) (s .count % 64) (take k xs) (length (take k xs))
       → g ≡ blocks (length b / 64) (s .h) b
-      → e ≡ blocks (length (take (length xs - (64 - a)) (drop (64 - a) xs)) / 64) g (take (length xs - (64 - a)) (drop (64 - a) xs))
-      → d ≡ paste empty 0 (take (length xs - (length xs - (length xs - (64 - a)) % 64)) (drop (length xs - (length xs - (64 - a)) % 64) xs)) (length (take (length xs - (length xs - (length xs - (64 - a)) % 64)) (drop (length xs - (length xs - (64 - a)) % 64) xs)))
+      → e ≡ blocks (length (take (length xs - k) (drop k xs)) / 64) g (take (length xs - k) (drop k xs))
+      → d ≡ paste empty 0 (take (length xs - (length xs - (length xs - k) % 64)) (drop (length xs - (length xs - k) % 64) xs)) (length (take (length xs - (length xs - (length xs - k) % 64)) (drop (length xs - (length xs - k) % 64) xs)))
       → n ≡ (s .count + length xs) % 2 ^ 64
       → record { h = e; block = d; count = n } ≡ absorbed s xs
   unfolding cut
   over-law {b} {g} eb eg ee ed en =
-      let k : ℕ = 64 - a in
-      let ek : s .count % 64 + k ≡ 64 = omega arith in
-      let hk : k ≤ length xs = omega arith in
       let lk : length (take k xs) ≡ k = length-take-le k xs hk in
-      let r : a + length (take k xs) ≤ length (s .block) = room a (length (take k xs)) (length (s .block)) lk l (omega arith) in
-      let sb : b ≡ sets (s .block) (s .count % 64) (take k xs) = eb ∙ paste-sets (s .block) (take k xs) a r ∙ ap (λ (j : ℕ). sets (s .block) j (take k xs)) ea in
-      let lb : length b ≡ 64 = ap length eb ∙ length-paste (s .block) a (take k xs) (length (take k xs)) r (le-refl (length (take k xs))) ∙ l in
+      let r : s .count % 64 + length (take k xs) ≤ length (s .block) = omega arith in
+      let sb : b ≡ sets (s .block) (s .count % 64) (take k xs) = eb ∙ paste-sets (s .block) (take k xs) (s .count % 64) r in
+      let lb : length b ≡ 64 = ap length eb ∙ length-paste (s .block) (s .count % 64) (take k xs) (length (take k xs)) r (le-refl (length (take k xs))) ∙ l in
       let sg : g ≡ compress (s .h) (sets (s .block) (s .count % 64) (take k xs)) = eg ∙ one-block (s .h) b lb ∙ ap (compress (s .h)) sb in
       let q : cut ≡ k + length (drop k xs) / 64 * 64 = simp length-drop (cuts (length xs) k hk) in
       (λ i. record {
@@ -306,9 +303,6 @@ module _ (s : Sha256) (xs : List ℕ) (a : ℕ) (f : s .count < 2 ^ 64) (l : len
       })
       ∙ sym (across s xs k f ek hk)
     where
-      room : (a x y : ℕ) → x ≡ 64 - a → y ≡ 64 → a ≤ 64 → a + x ≤ y
-      room a x y p q h = omega arith
-
       cuts : (x k : ℕ) → k ≤ x → x - (x - k) % 64 ≡ k + (x - k) / 64 * 64
       cuts x k h = omega arith
 

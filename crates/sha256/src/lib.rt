@@ -2,7 +2,7 @@
 // value. No branch and no index goes by the bytes absorbed, only by their count.
 ghost use mathlib.Core.Path.{_≡_};
 ghost use mathlib.Core.List.{_∷_, _++_};
-ghost use Prim.Native.Nat.{_+_, _-_, _*_, _/_, _<_, _≤_, _%_, _^_};
+ghost use Prim.Native.Nat.{_+_, _-_, _*_, _/_, _<_, _≤_, _%_, _^_, min};
 ghost use lib.ListN.{length, take, replicate};
 ghost use lib.Seq.{paste};
 ghost use Rattle.sha256_block.specs.Fips180 as Fips180;
@@ -66,6 +66,13 @@ fn to_bytes(h: [u32; 8]) -> [u8; 32]
     put_word(&mut r, 24, h[6]);
     put_word(&mut r, 28, h[7]);
     r
+}
+
+// The lesser of two numbers.
+fn least(x: usize, y: usize) -> usize
+    ensures { λ r. ⌜ r ≡ min x y ⌝ }
+{
+    if x < y { x } else { y }
 }
 
 // Writes `part` into the block from index `at` on: by a loop, which is compiled to a copy.
@@ -138,7 +145,8 @@ fn sealed(h: [u32; 8], block: &mut [u8; 64], count: u64) -> [u8; 32]
 }
 
 // Absorbs the bytes of s into a hash in progress, whose parts are changed where they lie: by value it would be copied at each call. The
-// next count is returned. Bytes that leave the block short of full are only copied.
+// next count is returned. The bytes that the block has room for are copied before the branch, so that the compiler lays out one copy for
+// those that fill it and those that leave it short of full. The latter are only copied.
 fn absorb_into(h: &mut [u32; 8], block: &mut [u8; 64], count: u64, s: &[u8]) -> u64
     requires { ⌜ length (now block) ≡ 64 ⌝ }
     ensures { λ r. ⌜ Stream.inProgress (now (h .exit)) (now (block .exit)) r ≡ Stream.absorbed (Stream.inProgress (now (h .entry)) (now (block .entry)) count) (now (s .entry)) ⌝ }
@@ -146,12 +154,11 @@ fn absorb_into(h: &mut [u32; 8], block: &mut [u8; 64], count: u64, s: &[u8]) -> 
     let at = (count % 64) as usize;
     let n = s.len();
     let next = std::num::wrapping_add_u64(count, n as u64);
+    let k = least(n, 64 - at);
+    fill(block, at, &s[..k]);
     if n < 64 - at {
-        fill(block, at, s);
         return next;
     }
-    let k = 64 - at;
-    fill(block, at, &s[..k]);
     let g = compress_blocks(*h, block);
     *h = compress_blocks(g, &s[k..]);
     let rest = n - (n - k) % 64;

@@ -1,13 +1,13 @@
 -- `sha256::absorb_into` meets its contract: bytes that leave the block short of full (proofs/Stream.antt, `part-law`), or those that fill it, the whole
 -- blocks after them, and the rest (`over-law`).
 -- Assumes nothing.
-use mathlib.Core.Path.{refl, sym}
-use Prim.Native.Nat.{_+_, _-_, _%_, _^_, _<_, _≤_}
+use mathlib.Core.Path.{_≡_, sym}
+use Prim.Native.Nat.{_+_, _%_, _^_, _<_, _≤_}
 use native.Mathlib.Omega.{arith}
 use borrow.Author.Needs.{needs}
 use denote.Ref.{now}
 use lib.ListN.{length, length-take}
-use lib.Seq.{length-take-le}
+use lib.Seq.{take-all, length-take-le}
 use Rattle.sha256.specs.Stream.{inProgress}
 use Rattle.sha256.proofs.Stream.{part-law, over-law}
 use Rattle.sha256.proofs.absorb_into.Statement.{statement}
@@ -16,33 +16,35 @@ use Rattle.sha256.proofs.absorb_into.Tie as tie
 wrapping-add-u64-requires : tie.Need-wrapping-add-u64-requires
 wrapping-add-u64-requires c κs = search needs
 
-sub-if1 : tie.Need-sub-if1
-sub-if1 c = search needs
+sub-least : tie.Need-sub-least
+sub-least c = search needs
 
-fill-requires : tie.Need-fill-requires
-fill-requires c κs = search needs
-
-returns : tie.Need-returns
-returns c =
-    let t = c .before .before in
-    let w = t .before in
-    let st = w .before .before in
-    let a = st .args in
-    let f : a .count < 2 ^ 64 = search needs in
-    part-law (inProgress (now (a .h)) (now (a .block)) (a .count)) (now (a .s)) f (st .pre) (t .if1 .taken) (c .fill .ensures) (w .wrapping-add-u64 .ensures)
-
-sub-k : tie.Need-sub-k
-sub-k c = search needs
+least-requires : tie.Need-least-requires
+least-requires c κs = search needs
 
 slice-aggregate-fill : tie.Need-slice-aggregate-fill
 slice-aggregate-fill c =
-    let e = c .before .before in
-    let a = e .before .before .before .args in
-    let h : 64 - a .count % 64 ≤ length (now (a .s)) = omega arith in
-    sym (length-take-le (64 - a .count % 64) (now (a .s)) h)
+    let m = c .before .before in
+    let xs = now (m .before .before .before .args .s) in
+    let h : m .least .result ≤ length xs = omega arith in
+    sym (length-take-le (m .least .result) xs h)
 
-fill-requires-2 : tie.Need-fill-requires-2
-fill-requires-2 c κs = (simp length-take (omega arith), c .before .before .before .before .before .pre)
+fill-requires : tie.Need-fill-requires
+fill-requires c κs = (simp length-take (omega arith), c .before .before .before .before .before .pre)
+
+sub-if1 : tie.Need-sub-if1
+sub-if1 c = search needs
+
+returns : tie.Need-returns
+returns c =
+    let m = c .before .before .before .before in
+    let w = m .before in
+    let st = w .before .before in
+    let a = st .args in
+    let xs = now (a .s) in
+    let f : a .count < 2 ^ 64 = search needs in
+    let all : length xs ≤ m .least .result = omega arith in
+    part-law (inProgress (now (a .h)) (now (a .block)) (a .count)) xs f (st .pre) (c .if1 .taken) (rw (take-all (m .least .result) xs all) at (c .before .fill .ensures)) (w .wrapping-add-u64 .ensures)
 
 compress-blocks-requires : tie.Need-compress-blocks-requires
 compress-blocks-requires c κs = search needs
@@ -74,34 +76,36 @@ part-fill-start c = search needs
 part-fill-end : tie.Need-part-fill-end
 part-fill-end c = search needs
 
-fill-requires-3 : tie.Need-fill-requires-3
-fill-requires-3 c κs = search needs
+fill-requires-2 : tie.Need-fill-requires-2
+fill-requires-2 c κs = search needs
 
 returns-2 : tie.Need-returns-2
 returns-2 c =
     let b2 = c .before .before .before .before in
     let b1 = b2 .before .before in
-    let b0 = b1 .before .before .before .before in
-    let e = b0 .before .before .before in
-    let w = e .before in
+    let e = b1 .before .before .before .before in
+    let m = e .before .before .before .before in
+    let w = m .before in
     let st = w .before .before in
     let a = st .args in
+    let k = m .least .result in
     let f : a .count < 2 ^ 64 = search needs in
-    let h : 64 ≤ a .count % 64 + length (now (a .s)) = omega arith in
-    over-law (inProgress (now (a .h)) (now (a .block)) (a .count)) (now (a .s)) (a .count % 64) f (st .pre) refl h
-    (b0 .fill2 .ensures) (b1 .compress-blocks .ensures) (b2 .compress-blocks2 .ensures) (c .fill3 .ensures) (w .wrapping-add-u64 .ensures)
+    let ek : a .count % 64 + k ≡ 64 = omega arith in
+    let hk : k ≤ length (now (a .s)) = omega arith in
+    over-law (inProgress (now (a .h)) (now (a .block)) (a .count)) (now (a .s)) k f (st .pre) ek hk
+    (e .before .fill .ensures) (b1 .compress-blocks .ensures) (b2 .compress-blocks2 .ensures) (c .fill2 .ensures) (w .wrapping-add-u64 .ensures)
 
 pub absorb-into-spec : {M : Type 1} → statement M
 absorb-into-spec =
     tie.close
     (tie.spec
     wrapping-add-u64-requires
-    sub-if1
-    fill-requires
-    returns
-    sub-k
+    sub-least
+    least-requires
     slice-aggregate-fill
-    fill-requires-2
+    fill-requires
+    sub-if1
+    returns
     compress-blocks-requires
     sub-compress-blocks
     part-compress-blocks-start
@@ -112,5 +116,5 @@ absorb-into-spec =
     sub-fill
     part-fill-start
     part-fill-end
-    fill-requires-3
+    fill-requires-2
     returns-2)
