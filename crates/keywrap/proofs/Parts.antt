@@ -37,16 +37,15 @@ pub front-is : (l : List ℕ) → 8 ≤ length l
     → getD l 0 0 ∷ getD l 1 0 ∷ getD l 2 0 ∷ getD l 3 0 ∷ getD l 4 0 ∷ getD l 5 0 ∷ getD l 6 0 ∷ getD l 7 0 ∷ [] ≡ take 8 l
 front-is l h = front-eight (eight-of l h)
 
-abbrev stored : List ℕ → List ℕ → List ℕ
-stored l a =
-    set (set (set (set (set (set (set (set l 0 (getD a 0 0)) 1 (getD a 1 0)) 2 (getD a 2 0)) 3 (getD a 3 0)) 4 (getD a 4 0)) 5 (getD a 5 0)) 6 (getD a 6 0)) 7 (getD a 7 0)
+module _ (a b c d e f g h : ℕ) where
+  abbrev stored : List ℕ → List ℕ
+  stored l = set (set (set (set (set (set (set (set l 0 a) 1 b) 2 c) 3 d) 4 e) 5 f) 6 g) 7 h
 
-stored-eight : {l a : List ℕ} → Eight l → Eight a → stored l a ≡ take 8 a ++ drop 8 l
-stored-eight (eight a b c d e f g h l) (eight i j k m n o p q r) = refl
+  stored-eight : {l : List ℕ} → Eight l → stored l ≡ a ∷ b ∷ c ∷ d ∷ e ∷ f ∷ g ∷ h ∷ drop 8 l
+  stored-eight (eight i j k m n o p q l) = refl
 
-pub stored-is : (l a : List ℕ) → 8 ≤ length l → length a ≡ 8 → stored l a ≡ a ++ drop 8 l
-stored-is l a h e =
-    stored-eight (eight-of l h) (eight-of a (omega arith)) ∙ ap (λ (x : List ℕ). x ++ drop 8 l) (ap (λ (n : ℕ). take n a) (sym e) ∙ take-length a)
+  pub stored-is : (l : List ℕ) → 8 ≤ length l → stored l ≡ a ∷ b ∷ c ∷ d ∷ e ∷ f ∷ g ∷ h ∷ drop 8 l
+  stored-is l n = stored-eight (eight-of l n)
 
 -- ---- a list copied over one as long
 
@@ -66,15 +65,15 @@ copied d s e =
 none : (x y : ℕ) → y ≡ 0 → x ≡ bitXor x y
 none x y e = sym (ap (bitXor x) e ∙ xor-zero-r x)
 
-pub small-count : (t : ℕ) (a : List ℕ) → t < 256
-    → getD a 0 0 ∷ getD a 1 0 ∷ getD a 2 0 ∷ getD a 3 0 ∷ getD a 4 0 ∷ getD a 5 0 ∷ getD a 6 0 ∷ bitXor (getD a 7 0) t ∷ [] ≡ addCount t a
+pub small-count : (t a b c d e f g h : ℕ) → t < 256
+    → a ∷ b ∷ c ∷ d ∷ e ∷ f ∷ g ∷ bitXor h t ∷ [] ≡ addCount t (a ∷ b ∷ c ∷ d ∷ e ∷ f ∷ g ∷ h ∷ [])
 unfolding addCount
-small-count t a h =
-    let e : t ≡ t % 256 = omega arith in
-    λ i. none (getD a 0 0) (t / 2 ^ 56 % 256) (omega arith) i ∷ none (getD a 1 0) (t / 2 ^ 48 % 256) (omega arith) i
-    ∷ none (getD a 2 0) (t / 2 ^ 40 % 256) (omega arith) i ∷ none (getD a 3 0) (t / 2 ^ 32 % 256) (omega arith) i
-    ∷ none (getD a 4 0) (t / 2 ^ 24 % 256) (omega arith) i ∷ none (getD a 5 0) (t / 2 ^ 16 % 256) (omega arith) i
-    ∷ none (getD a 6 0) (t / 2 ^ 8 % 256) (omega arith) i ∷ bitXor (getD a 7 0) (e i)
+small-count t a b c d e f g h n =
+    let q : t ≡ t % 256 = omega arith in
+    λ i. none a (t / 2 ^ 56 % 256) (omega arith) i ∷ none b (t / 2 ^ 48 % 256) (omega arith) i
+    ∷ none c (t / 2 ^ 40 % 256) (omega arith) i ∷ none d (t / 2 ^ 32 % 256) (omega arith) i
+    ∷ none e (t / 2 ^ 24 % 256) (omega arith) i ∷ none f (t / 2 ^ 16 % 256) (omega arith) i
+    ∷ none g (t / 2 ^ 8 % 256) (omega arith) i ∷ bitXor h (q i)
     ∷ []
 
 -- ---- the differences of eight bytes, or-ed, are none exactly where the bytes are the same
@@ -123,20 +122,13 @@ pair-none x y = or-none (bitXor x 166) (bitXor y 166) ∙ ap₂ _&&_ (xor-none x
 four-none : (x y z w : ℕ) → eqb (bitOr (pair x y) (pair z w)) 0 ≡ ((eqb x 166 && eqb y 166) && (eqb z 166 && eqb w 166))
 four-none x y z w = or-none (pair x y) (pair z w) ∙ ap₂ _&&_ (pair-none x y) (pair-none z w)
 
-abbrev differences : List ℕ → ℕ
-differences l =
-    bitOr (bitOr (pair (getD l 0 0) (getD l 1 0)) (pair (getD l 2 0) (getD l 3 0))) (bitOr (pair (getD l 4 0) (getD l 5 0)) (pair (getD l 6 0) (getD l 7 0)))
-
-same-eight : {l : List ℕ} → Eight l → length l ≡ 8 → eqb (differences l) 0 ≡ sameList l initialValue
+pub no-difference : (a b c d e f g h : ℕ)
+    → eqb (bitOr (bitOr (pair a b) (pair c d)) (bitOr (pair e f) (pair g h))) 0 ≡ sameList (a ∷ b ∷ c ∷ d ∷ e ∷ f ∷ g ∷ h ∷ []) initialValue
 unfolding sameList
-same-eight (eight a b c d e f g h []) n =
+no-difference a b c d e f g h =
     or-none (bitOr (pair a b) (pair c d)) (bitOr (pair e f) (pair g h))
     ∙ ap₂ _&&_ (four-none a b c d) (four-none e f g h)
     ∙ eight-and (eqb a 166) (eqb b 166) (eqb c 166) (eqb d 166) (eqb e 166) (eqb f 166) (eqb g 166) (eqb h 166)
-same-eight (eight a b c d e f g h (x ∷ l)) n = absurd (omega arith)
-
-pub no-difference : (l : List ℕ) → length l ≡ 8 → eqb (differences l) 0 ≡ sameList l initialValue
-no-difference l e = same-eight (eight-of l (omega arith)) e
 
 -- ---- a step: the block is read, put through the cipher with A, and written back
 

@@ -1,5 +1,6 @@
 // The key wrap of RFC 3394 with AES-128 and the default initial value: a key is wrapped under a key encryption key (KEK), and unwrapped
-// with a check of its integrity. A wrapped key is 8 bytes longer than the key.
+// with a check of its integrity. A wrapped key is 8 bytes longer than the key. The eight bytes of A, and of a block, are held as two
+// columns of the cipher's state: so the compiler keeps each column as a word, and takes no word apart between two steps.
 use aes128::decrypt;
 use aes128::encrypt;
 use aes128::expand_key;
@@ -20,6 +21,7 @@ ghost use Rattle.refusal.specs.Answers.{checkedAs, answerOf, answerTo, bufferAf
 ghost use Rattle.aes128.specs.Cipher.{cipher, eqInvCipher};
 ghost use Rattle.refusal.specs.Same.{sameList};
 ghost use Rattle.keywrap.specs.Calls.{wrappable, check23, check28, wrapCheck, unwrapCheck, keyLength};
+ghost use Rattle.keywrap.specs.Columns.{flat};
 ghost use Rattle.keywrap.specs.Rfc3394.{joined, high as highOf, low as lowOf, addCount, initialValue, wrapPass, unwrapPass, wrapPasses, unwrapPasses, keyState, passesOf, wrapped as wrappedOf, unwrappedIv, unwrappedKey};
 
 // The KEK as a state of the cipher.
@@ -34,27 +36,27 @@ fn key_state(k: [u8; 16]) -> [[u8; 4]; 4]
     ]
 }
 
-// The first eight bytes of b.
-fn front(b: &[u8]) -> [u8; 8]
+// The first eight bytes of b, as two columns.
+fn front(b: &[u8]) -> [[u8; 4]; 2]
     requires { ⌜ 8 ≤ length (now b) ⌝ }
-    ensures { λ r. ⌜ r ≡ take 8 (now (b .entry)) ⌝ }
+    ensures { λ r. ⌜ flat r ≡ take 8 (now (b .entry)) ⌝ }
 {
-    [b[0], b[1], b[2], b[3], b[4], b[5], b[6], b[7]]
+    [[b[0], b[1], b[2], b[3]], [b[4], b[5], b[6], b[7]]]
 }
 
 // The eight bytes of a, to the front of b.
-fn put_front(b: &mut [u8], a: [u8; 8])
+fn put_front(b: &mut [u8], a: [[u8; 4]; 2])
     requires { ⌜ 8 ≤ length (now b) ⌝ }
-    ensures { λ _. ⌜ now (b .exit) ≡ a ++ drop 8 (now (b .entry)) ⌝ }
+    ensures { λ _. ⌜ now (b .exit) ≡ flat a ++ drop 8 (now (b .entry)) ⌝ }
 {
-    b[0] = a[0];
-    b[1] = a[1];
-    b[2] = a[2];
-    b[3] = a[3];
-    b[4] = a[4];
-    b[5] = a[5];
-    b[6] = a[6];
-    b[7] = a[7];
+    b[0] = a[0][0];
+    b[1] = a[0][1];
+    b[2] = a[0][2];
+    b[3] = a[0][3];
+    b[4] = a[1][0];
+    b[5] = a[1][1];
+    b[6] = a[1][2];
+    b[7] = a[1][3];
 }
 
 // Copies s to d, which is as long.
@@ -69,62 +71,44 @@ fn copy(s: &[u8], d: &mut [u8])
     }
 }
 
-// The state A | R.
-fn join(a: [u8; 8], r: [u8; 8]) -> [[u8; 4]; 4]
-    ensures { λ s. ⌜ s ≡ joined a r ⌝ }
+// The state A | R, written byte by byte as its definition is, so that nothing is to be proved; the compiler moves whole columns.
+fn join(a: [[u8; 4]; 2], r: [[u8; 4]; 2]) -> [[u8; 4]; 4]
+    ensures { λ s. ⌜ s ≡ joined (flat a) (flat r) ⌝ }
 {
     [
-        [a[0], a[1], a[2], a[3]],
-        [a[4], a[5], a[6], a[7]],
-        [r[0], r[1], r[2], r[3]],
-        [r[4], r[5], r[6], r[7]],
+        [a[0][0], a[0][1], a[0][2], a[0][3]],
+        [a[1][0], a[1][1], a[1][2], a[1][3]],
+        [r[0][0], r[0][1], r[0][2], r[0][3]],
+        [r[1][0], r[1][1], r[1][2], r[1][3]],
     ]
 }
 
-// The first eight bytes of a state.
-fn high(s: [[u8; 4]; 4]) -> [u8; 8]
-    ensures { λ r. ⌜ r ≡ highOf s ⌝ }
+// The first eight bytes of a state, its first two columns.
+fn high(s: [[u8; 4]; 4]) -> [[u8; 4]; 2]
+    ensures { λ r. ⌜ flat r ≡ highOf s ⌝ }
 {
-    [
-        s[0][0],
-        s[0][1],
-        s[0][2],
-        s[0][3],
-        s[1][0],
-        s[1][1],
-        s[1][2],
-        s[1][3],
-    ]
+    [s[0], s[1]]
 }
 
-// The last eight bytes of a state.
-fn low(s: [[u8; 4]; 4]) -> [u8; 8]
-    ensures { λ r. ⌜ r ≡ lowOf s ⌝ }
+// The last eight bytes of a state, its last two columns.
+fn low(s: [[u8; 4]; 4]) -> [[u8; 4]; 2]
+    ensures { λ r. ⌜ flat r ≡ lowOf s ⌝ }
 {
-    [
-        s[2][0],
-        s[2][1],
-        s[2][2],
-        s[2][3],
-        s[3][0],
-        s[3][1],
-        s[3][2],
-        s[3][3],
-    ]
+    [s[2], s[3]]
 }
 
 // A ^ t. The count t is below 256, so that the last byte alone changes.
-fn add_count(a: [u8; 8], t: u8) -> [u8; 8]
-    ensures { λ r. ⌜ r ≡ addCount t a ⌝ }
+fn add_count(a: [[u8; 4]; 2], t: u8) -> [[u8; 4]; 2]
+    ensures { λ r. ⌜ flat r ≡ addCount t (flat a) ⌝ }
 {
-    [a[0], a[1], a[2], a[3], a[4], a[5], a[6], a[7] ^ t]
+    [a[0], [a[1][0], a[1][1], a[1][2], a[1][3] ^ t]]
 }
 
 // One step of the wrapping, on the block b; the next A is returned.
-fn wrap_step(ks: &[[[u8; 4]; 4]; 11], a: [u8; 8], b: &mut [u8], t: u8) -> [u8; 8]
+fn wrap_step(ks: &[[[u8; 4]; 4]; 11], a: [[u8; 4]; 2], b: &mut [u8], t: u8) -> [[u8; 4]; 2]
     requires { ⌜ length (now b) ≡ 8 ⌝ }
-    ensures next { λ r. ⌜ r ≡ addCount t (highOf (cipher (now (ks .entry)) (joined a (now (b .entry))))) ⌝ }
-    ensures part { λ _. ⌜ now (b .exit) ≡ lowOf (cipher (now (ks .entry)) (joined a (now (b .entry)))) ⌝ }
+    ensures next { λ r. ⌜ flat r ≡ addCount t (highOf (cipher (now (ks .entry)) (joined (flat a) (now (b .entry))))) ⌝ }
+    ensures part { λ _. ⌜ now (b .exit) ≡ lowOf (cipher (now (ks .entry)) (joined (flat a) (now (b .entry)))) ⌝ }
 {
     let r = front(&b[..]);
     let s = encrypt(ks, join(a, r));
@@ -133,10 +117,10 @@ fn wrap_step(ks: &[[[u8; 4]; 4]; 11], a: [u8; 8], b: &mut [u8], t: u8) -> [u8; 8
 }
 
 // One step of the unwrapping, on the block b; the next A is returned.
-fn unwrap_step(ks: &[[[u8; 4]; 4]; 11], a: [u8; 8], b: &mut [u8], t: u8) -> [u8; 8]
+fn unwrap_step(ks: &[[[u8; 4]; 4]; 11], a: [[u8; 4]; 2], b: &mut [u8], t: u8) -> [[u8; 4]; 2]
     requires { ⌜ length (now b) ≡ 8 ⌝ }
-    ensures next { λ r. ⌜ r ≡ highOf (eqInvCipher (now (ks .entry)) (joined (addCount t a) (now (b .entry)))) ⌝ }
-    ensures part { λ _. ⌜ now (b .exit) ≡ lowOf (eqInvCipher (now (ks .entry)) (joined (addCount t a) (now (b .entry)))) ⌝ }
+    ensures next { λ r. ⌜ flat r ≡ highOf (eqInvCipher (now (ks .entry)) (joined (addCount t (flat a)) (now (b .entry)))) ⌝ }
+    ensures part { λ _. ⌜ now (b .exit) ≡ lowOf (eqInvCipher (now (ks .entry)) (joined (addCount t (flat a)) (now (b .entry)))) ⌝ }
 {
     let r = front(&b[..]);
     let s = decrypt(ks, join(add_count(a, t), r));
@@ -145,10 +129,16 @@ fn unwrap_step(ks: &[[[u8; 4]; 4]; 11], a: [u8; 8], b: &mut [u8], t: u8) -> [u8;
 }
 
 // A pass over the n blocks of b, whose counts come after c.
-fn wrap_pass(ks: &[[[u8; 4]; 4]; 11], a: [u8; 8], b: &mut [u8], n: usize, c: u8) -> [u8; 8]
+fn wrap_pass(
+    ks: &[[[u8; 4]; 4]; 11],
+    a: [[u8; 4]; 2],
+    b: &mut [u8],
+    n: usize,
+    c: u8,
+) -> [[u8; 4]; 2]
     requires { ⌜ (n * 8 ≤ length (now b)) × (c + n ≤ 255) ⌝ }
-    ensures next { λ r. ⌜ r ≡ wrapPass (cipher (now (ks .entry))) c n (a, now (b .entry)) .0 ⌝ }
-    ensures part { λ _. ⌜ now (b .exit) ≡ wrapPass (cipher (now (ks .entry))) c n (a, now (b .entry)) .1 ⌝ }
+    ensures next { λ r. ⌜ flat r ≡ wrapPass (cipher (now (ks .entry))) c n (flat a, now (b .entry)) .0 ⌝ }
+    ensures part { λ _. ⌜ now (b .exit) ≡ wrapPass (cipher (now (ks .entry))) c n (flat a, now (b .entry)) .1 ⌝ }
 {
     let mut x = a;
     let mut i: usize = 0;
@@ -163,10 +153,16 @@ fn wrap_pass(ks: &[[[u8; 4]; 4]; 11], a: [u8; 8], b: &mut [u8], n: usize, c: u8)
 }
 
 // A pass back over the n blocks of b, from the last to the first.
-fn unwrap_pass(ks: &[[[u8; 4]; 4]; 11], a: [u8; 8], b: &mut [u8], n: usize, c: u8) -> [u8; 8]
+fn unwrap_pass(
+    ks: &[[[u8; 4]; 4]; 11],
+    a: [[u8; 4]; 2],
+    b: &mut [u8],
+    n: usize,
+    c: u8,
+) -> [[u8; 4]; 2]
     requires { ⌜ (n * 8 ≤ length (now b)) × (c + n ≤ 255) ⌝ }
-    ensures next { λ r. ⌜ r ≡ unwrapPass (eqInvCipher (now (ks .entry))) c n (a, now (b .entry)) .0 ⌝ }
-    ensures part { λ _. ⌜ now (b .exit) ≡ unwrapPass (eqInvCipher (now (ks .entry))) c n (a, now (b .entry)) .1 ⌝ }
+    ensures next { λ r. ⌜ flat r ≡ unwrapPass (eqInvCipher (now (ks .entry))) c n (flat a, now (b .entry)) .0 ⌝ }
+    ensures part { λ _. ⌜ now (b .exit) ≡ unwrapPass (eqInvCipher (now (ks .entry))) c n (flat a, now (b .entry)) .1 ⌝ }
 {
     let mut x = a;
     let mut i: usize = n;
@@ -182,10 +178,10 @@ fn unwrap_pass(ks: &[[[u8; 4]; 4]; 11], a: [u8; 8], b: &mut [u8], n: usize, c: u
 }
 
 // Six passes over the n blocks of b.
-fn wrap_passes(ks: &[[[u8; 4]; 4]; 11], a: [u8; 8], b: &mut [u8], n: usize) -> [u8; 8]
+fn wrap_passes(ks: &[[[u8; 4]; 4]; 11], a: [[u8; 4]; 2], b: &mut [u8], n: usize) -> [[u8; 4]; 2]
     requires { ⌜ (n * 8 ≤ length (now b)) × (n ≤ 24) ⌝ }
-    ensures next { λ r. ⌜ r ≡ wrapPasses (cipher (now (ks .entry))) n 6 (a, now (b .entry)) .0 ⌝ }
-    ensures part { λ _. ⌜ now (b .exit) ≡ wrapPasses (cipher (now (ks .entry))) n 6 (a, now (b .entry)) .1 ⌝ }
+    ensures next { λ r. ⌜ flat r ≡ wrapPasses (cipher (now (ks .entry))) n 6 (flat a, now (b .entry)) .0 ⌝ }
+    ensures part { λ _. ⌜ now (b .exit) ≡ wrapPasses (cipher (now (ks .entry))) n 6 (flat a, now (b .entry)) .1 ⌝ }
 {
     let mut x = a;
     let mut c: u8 = 0;
@@ -200,10 +196,10 @@ fn wrap_passes(ks: &[[[u8; 4]; 4]; 11], a: [u8; 8], b: &mut [u8], n: usize) -> [
 }
 
 // Six passes back over the n blocks of b.
-fn unwrap_passes(ks: &[[[u8; 4]; 4]; 11], a: [u8; 8], b: &mut [u8], n: usize) -> [u8; 8]
+fn unwrap_passes(ks: &[[[u8; 4]; 4]; 11], a: [[u8; 4]; 2], b: &mut [u8], n: usize) -> [[u8; 4]; 2]
     requires { ⌜ (n * 8 ≤ length (now b)) × (n ≤ 24) ⌝ }
-    ensures next { λ r. ⌜ r ≡ unwrapPasses (eqInvCipher (now (ks .entry))) n 6 (a, now (b .entry)) .0 ⌝ }
-    ensures part { λ _. ⌜ now (b .exit) ≡ unwrapPasses (eqInvCipher (now (ks .entry))) n 6 (a, now (b .entry)) .1 ⌝ }
+    ensures next { λ r. ⌜ flat r ≡ unwrapPasses (eqInvCipher (now (ks .entry))) n 6 (flat a, now (b .entry)) .0 ⌝ }
+    ensures part { λ _. ⌜ now (b .exit) ≡ unwrapPasses (eqInvCipher (now (ks .entry))) n 6 (flat a, now (b .entry)) .1 ⌝ }
 {
     let mut x = a;
     let mut c: u8 = 6 * (n as u8);
@@ -219,10 +215,10 @@ fn unwrap_passes(ks: &[[[u8; 4]; 4]; 11], a: [u8; 8], b: &mut [u8], n: usize) ->
 
 // All passes over b under the KEK, forward or back. Both ways share one function, so that the round keys take their room on the stack
 // once, and are made those of the inverse cipher in their place.
-fn passes(kek: [u8; 16], back: bool, a: [u8; 8], b: &mut [u8]) -> [u8; 8]
+fn passes(kek: [u8; 16], back: bool, a: [[u8; 4]; 2], b: &mut [u8]) -> [[u8; 4]; 2]
     requires { ⌜ length (now b) ≤ 192 ⌝ }
-    ensures next { λ r. ⌜ r ≡ passesOf back kek (a, now (b .entry)) .0 ⌝ }
-    ensures part { λ _. ⌜ now (b .exit) ≡ passesOf back kek (a, now (b .entry)) .1 ⌝ }
+    ensures next { λ r. ⌜ flat r ≡ passesOf back kek (flat a, now (b .entry)) .0 ⌝ }
+    ensures part { λ _. ⌜ now (b .exit) ≡ passesOf back kek (flat a, now (b .entry)) .1 ⌝ }
 {
     let mut ks = [[[0u8; 4]; 4]; 11];
     expand_key(key_state(kek), &mut ks);
@@ -260,7 +256,7 @@ fn wrap_into(kek: [u8; 16], key: &[u8], out: &mut [u8])
 {
     let end = key.len() + 8;
     copy(key, &mut out[8..end]);
-    let a = passes(kek, false, [0xa6; 8], &mut out[8..end]);
+    let a = passes(kek, false, [[0xa6; 4]; 2], &mut out[8..end]);
     put_front(out, a);
 }
 
@@ -295,18 +291,18 @@ fn check_unwrap(n: usize, room: usize) -> Checked
 }
 
 // Whether a is the initial value. All eight bytes are read before it is decided.
-fn is_initial(a: [u8; 8]) -> bool
-    ensures { λ r. ⌜ r ≡ sameList a initialValue ⌝ }
+fn is_initial(a: [[u8; 4]; 2]) -> bool
+    ensures { λ r. ⌜ r ≡ sameList (flat a) initialValue ⌝ }
 {
-    let d = ((a[0] ^ 0xa6) | (a[1] ^ 0xa6)) | ((a[2] ^ 0xa6) | (a[3] ^ 0xa6));
-    let e = ((a[4] ^ 0xa6) | (a[5] ^ 0xa6)) | ((a[6] ^ 0xa6) | (a[7] ^ 0xa6));
+    let d = ((a[0][0] ^ 0xa6) | (a[0][1] ^ 0xa6)) | ((a[0][2] ^ 0xa6) | (a[0][3] ^ 0xa6));
+    let e = ((a[1][0] ^ 0xa6) | (a[1][1] ^ 0xa6)) | ((a[1][2] ^ 0xa6) | (a[1][3] ^ 0xa6));
     (d | e) == 0
 }
 
 // Unwraps bytes into scratch, which is as long as the key; what must be the initial value is returned.
-fn unwrap_into(kek: [u8; 16], bytes: &[u8], scratch: &mut [u8]) -> [u8; 8]
+fn unwrap_into(kek: [u8; 16], bytes: &[u8], scratch: &mut [u8]) -> [[u8; 4]; 2]
     requires { ⌜ (8 ≤ length (now bytes)) × (length (now scratch) ≤ 192) × (length (now scratch) ≡ keyLength (now bytes)) ⌝ }
-    ensures next { λ r. ⌜ r ≡ unwrappedIv kek (now (bytes .entry)) ⌝ }
+    ensures next { λ r. ⌜ flat r ≡ unwrappedIv kek (now (bytes .entry)) ⌝ }
     ensures part { λ _. ⌜ now (scratch .exit) ≡ unwrappedKey kek (now (bytes .entry)) ⌝ }
 {
     copy(&bytes[8..], scratch);

@@ -1,5 +1,6 @@
 -- `keywrap::passes` meets its contract.
 -- Assumes nothing.
+use Rattle.keywrap.specs.Columns.{flat}
 use Rattle.keywrap.proofs.Parts.{passes-forward, passes-back}
 use denote.Ref.{now}
 use borrow.Author.Needs.{needs}
@@ -30,7 +31,7 @@ returns c =
     let i = u .before .before .before in
     let e = i .before .before .before in
     let s = e .before .before .before .before .args in
-    passes-back (s .kek) _ _ (s .a) (now (s .b)) _ _ (e .before .before .key-state .ensures) (e .expand-key .ensures)
+    passes-back (s .kek) _ _ (flat (s .a)) (now (s .b)) _ _ (e .before .before .key-state .ensures) (e .expand-key .ensures)
     (i .invert-keys .last .0) (i .invert-keys .ensures) (u .unwrap-passes .ensures .0) (u .unwrap-passes .ensures .1)
     (s .back) (i .before .before .if1 .taken)
 
@@ -43,7 +44,7 @@ returns-2 c =
     let i = w .before .before .before in
     let e = i .before in
     let s = e .before .before .before .before .args in
-    passes-forward (s .kek) _ _ (s .a) (now (s .b)) _ _ (e .before .before .key-state .ensures) (e .expand-key .ensures)
+    passes-forward (s .kek) _ _ (flat (s .a)) (now (s .b)) _ _ (e .before .before .key-state .ensures) (e .expand-key .ensures)
     (w .wrap-passes .ensures .0) (w .wrap-passes .ensures .1) (s .back) (i .if1 .left)
 
 pub passes-spec : {M : Type 1} → statement M

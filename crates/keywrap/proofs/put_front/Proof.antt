@@ -8,50 +8,74 @@ use borrow.Author.Needs.{needs}
 use Rattle.keywrap.proofs.put_front.Statement.{statement}
 use Rattle.keywrap.proofs.put_front.Tie as tie
 
-array-read-b : tie.Need-array-read-b
-array-read-b c = search needs
+index-1-b : tie.Need-index-1-b
+index-1-b c = search needs
+
+index-2-b : tie.Need-index-2-b
+index-2-b c = search needs
 
 slice-write-b : tie.Need-slice-write-b
 slice-write-b c = search needs
 
-array-read-b-2 : tie.Need-array-read-b-2
-array-read-b-2 c = search needs
+index-1-b-2 : tie.Need-index-1-b-2
+index-1-b-2 c = search needs
+
+index-2-b-2 : tie.Need-index-2-b-2
+index-2-b-2 c = search needs
 
 slice-write-b-2 : tie.Need-slice-write-b-2
 slice-write-b-2 c = simp length-set (omega arith)
 
-array-read-b-3 : tie.Need-array-read-b-3
-array-read-b-3 c = search needs
+index-1-b-3 : tie.Need-index-1-b-3
+index-1-b-3 c = search needs
+
+index-2-b-3 : tie.Need-index-2-b-3
+index-2-b-3 c = search needs
 
 slice-write-b-3 : tie.Need-slice-write-b-3
 slice-write-b-3 c = simp length-set (omega arith)
 
-array-read-b-4 : tie.Need-array-read-b-4
-array-read-b-4 c = search needs
+index-1-b-4 : tie.Need-index-1-b-4
+index-1-b-4 c = search needs
+
+index-2-b-4 : tie.Need-index-2-b-4
+index-2-b-4 c = search needs
 
 slice-write-b-4 : tie.Need-slice-write-b-4
 slice-write-b-4 c = simp length-set (omega arith)
 
-array-read-b-5 : tie.Need-array-read-b-5
-array-read-b-5 c = search needs
+index-1-b-5 : tie.Need-index-1-b-5
+index-1-b-5 c = search needs
+
+index-2-b-5 : tie.Need-index-2-b-5
+index-2-b-5 c = search needs
 
 slice-write-b-5 : tie.Need-slice-write-b-5
 slice-write-b-5 c = simp length-set (omega arith)
 
-array-read-b-6 : tie.Need-array-read-b-6
-array-read-b-6 c = search needs
+index-1-b-6 : tie.Need-index-1-b-6
+index-1-b-6 c = search needs
+
+index-2-b-6 : tie.Need-index-2-b-6
+index-2-b-6 c = search needs
 
 slice-write-b-6 : tie.Need-slice-write-b-6
 slice-write-b-6 c = simp length-set (omega arith)
 
-array-read-b-7 : tie.Need-array-read-b-7
-array-read-b-7 c = search needs
+index-1-b-7 : tie.Need-index-1-b-7
+index-1-b-7 c = search needs
+
+index-2-b-7 : tie.Need-index-2-b-7
+index-2-b-7 c = search needs
 
 slice-write-b-7 : tie.Need-slice-write-b-7
 slice-write-b-7 c = simp length-set (omega arith)
 
-array-read-b-8 : tie.Need-array-read-b-8
-array-read-b-8 c = search needs
+index-1-b-8 : tie.Need-index-1-b-8
+index-1-b-8 c = search needs
+
+index-2-b-8 : tie.Need-index-2-b-8
+index-2-b-8 c = search needs
 
 slice-write-b-8 : tie.Need-slice-write-b-8
 slice-write-b-8 c = simp length-set (omega arith)
@@ -60,27 +84,35 @@ same-length : tie.Need-same-length
 same-length c = simp length-set
 
 returns : tie.Need-returns
-returns c = stored-is (now (c .args .b)) (c .args .t2) (omega arith) (c .good .1 .0 .1 .0 .1)
+returns c = let s = c .before .before .before .before .before .before .before .before in stored-is _ _ _ _ _ _ _ _ (now (s .args .b)) (s .pre)
 
 pub put-front-spec : {M : Type 1} → statement M
 put-front-spec =
     tie.close
     (tie.spec
-    array-read-b
+    index-1-b
+    index-2-b
     slice-write-b
-    array-read-b-2
+    index-1-b-2
+    index-2-b-2
     slice-write-b-2
-    array-read-b-3
+    index-1-b-3
+    index-2-b-3
     slice-write-b-3
-    array-read-b-4
+    index-1-b-4
+    index-2-b-4
     slice-write-b-4
-    array-read-b-5
+    index-1-b-5
+    index-2-b-5
     slice-write-b-5
-    array-read-b-6
+    index-1-b-6
+    index-2-b-6
     slice-write-b-6
-    array-read-b-7
+    index-1-b-7
+    index-2-b-7
     slice-write-b-7
-    array-read-b-8
+    index-1-b-8
+    index-2-b-8
     slice-write-b-8
     same-length
     returns)

@@ -1,6 +1,7 @@
 -- `keywrap::unwrap_pass` meets its contract: what is left of the pass, from block i down, comes to what the whole pass comes to.
 -- Assumes nothing.
 use borrow.Rule.Slice.PartMut.{same-len-mid}
+use Rattle.keywrap.specs.Columns.{flat}
 use Rattle.keywrap.specs.Rfc3394.{Registers, unwrapPass}
 use Rattle.aes128.specs.Cipher.{eqInvCipher}
 use Rattle.keywrap.proofs.Parts.{unpass-less}
@@ -14,7 +15,7 @@ use Rattle.keywrap.proofs.unwrap_pass.Statement.{statement}
 use Rattle.keywrap.proofs.unwrap_pass.Tie as tie
 
 abbrev Inv-loop : tie.InvT-loop
-Inv-loop ks b₀ n c x₀ i₀ b x i = (i ≤ n) × (length b ≡ length b₀) × (unwrapPass (eqInvCipher ks) c i (x, b) ≡ unwrapPass (eqInvCipher ks) c n (x₀, b₀))
+Inv-loop ks b₀ n c x₀ i₀ b x i = (i ≤ n) × (length b ≡ length b₀) × (unwrapPass (eqInvCipher ks) c i (flat x, b) ≡ unwrapPass (eqInvCipher ks) c n (flat x₀, b₀))
 
 abbrev μ-loop : tie.MeasureT-loop
 μ-loop ks b₀ n c x₀ i₀ b x i = i
@@ -59,7 +60,7 @@ loop-again c =
     let s = k .before .before .before .before .before .args in (
       omega arith,
       same-len-mid {X = ℕ} ((l .i - 1) * 8) ((l .i - 1) * 8 + 8 - (l .i - 1) * 8) (l .b) (k .unwrap-step .last .1 .1 .0) (k .unwrap-step .kept .1 .1 .0) ∙ l .inv .1,
-      unpass-less (eqInvCipher (now (s .ks))) (s .c) (l .i) ((l .i - 1) * 8) ((l .i - 1) * 8 + 8 - (l .i - 1) * 8) (l .x) (l .b) _ _ (omega arith) refl (omega arith) (k .unwrap-step .ensures .0) (k .unwrap-step .ensures .1) ∙ l .inv .2,
+      unpass-less (eqInvCipher (now (s .ks))) (s .c) (l .i) ((l .i - 1) * 8) ((l .i - 1) * 8 + 8 - (l .i - 1) * 8) (flat (l .x)) (l .b) _ _ (omega arith) refl (omega arith) (k .unwrap-step .ensures .0) (k .unwrap-step .ensures .1) ∙ l .inv .2,
     )
 
 same-length : tie.Need-same-length Inv-loop μ-loop
@@ -71,8 +72,8 @@ returns c =
     let l = c .before .loop in
     let s = c .before .before .before .args in
     let e : l .i ≡ 0 = omega arith in
-    let q : _≡_ {A = Registers} (l .x, l .b) (unwrapPass (eqInvCipher (now (s .ks))) (s .c) (s .n) (_, now (s .b))) =
-    ap (λ (m : ℕ). unwrapPass (eqInvCipher (now (s .ks))) (s .c) m (l .x, l .b)) (sym e) ∙ l .inv .2 in
+    let q : _≡_ {A = Registers} (flat (l .x), l .b) (unwrapPass (eqInvCipher (now (s .ks))) (s .c) (s .n) (_, now (s .b))) =
+    ap (λ (m : ℕ). unwrapPass (eqInvCipher (now (s .ks))) (s .c) m (flat (l .x), l .b)) (sym e) ∙ l .inv .2 in
     (ap (λ (w : Registers). w .0) q, ap (λ (w : Registers). w .1) q)
 
 pub unwrap-pass-spec : {M : Type 1} → statement M

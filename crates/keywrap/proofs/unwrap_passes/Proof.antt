@@ -1,11 +1,12 @@
 -- `keywrap::unwrap_passes` meets its contract: the j passes that are left come to what all six come to, and the count is n * j.
 -- Assumes nothing.
+use Rattle.keywrap.specs.Columns.{flat}
 use Rattle.keywrap.specs.Rfc3394.{Registers, unwrapPasses}
 use Rattle.aes128.specs.Cipher.{eqInvCipher}
 use Rattle.keywrap.proofs.Parts.{unpasses-less, count-less}
 use lib.ListN.{length}
 use denote.Ref.{now}
-use Prim.Native.Nat.{ℕ, _-_, _*_, _≤_}
+use Prim.Native.Nat.{ℕ, _*_, _≤_}
 use mathlib.Core.Path.{_≡_, refl, sym, ap, _∙_}
 use native.Mathlib.Omega.{arith}
 use borrow.Author.Needs.{needs}
@@ -13,7 +14,7 @@ use Rattle.keywrap.proofs.unwrap_passes.Statement.{statement}
 use Rattle.keywrap.proofs.unwrap_passes.Tie as tie
 
 abbrev Inv-loop : tie.InvT-loop
-Inv-loop ks b₀ n x₀ c₀ j₀ b x c j = (j ≤ 6) × (c ≤ 144) × (c ≡ n * j) × (length b ≡ length b₀) × (unwrapPasses (eqInvCipher ks) n j (x, b) ≡ unwrapPasses (eqInvCipher ks) n 6 (x₀, b₀))
+Inv-loop ks b₀ n x₀ c₀ j₀ b x c j = (j ≤ 6) × (c ≤ 144) × (c ≡ n * j) × (length b ≡ length b₀) × (unwrapPasses (eqInvCipher ks) n j (flat x, b) ≡ unwrapPasses (eqInvCipher ks) n 6 (flat x₀, b₀))
 
 abbrev μ-loop : tie.MeasureT-loop
 μ-loop ks b₀ n x₀ c₀ j₀ b x c j = j
@@ -55,7 +56,7 @@ loop-again c =
       omega arith,
       h .1,
       k .unwrap-pass .kept .1 .1 .0 ∙ l .inv .3,
-      unpasses-less (eqInvCipher (now (s .ks))) (s .n) (l .j) _ (l .x) (l .b) _ _ (omega arith) (h .1) (k .unwrap-pass .ensures .0) (k .unwrap-pass .ensures .1) ∙ l .inv .4,
+      unpasses-less (eqInvCipher (now (s .ks))) (s .n) (l .j) _ (flat (l .x)) (l .b) _ _ (omega arith) (h .1) (k .unwrap-pass .ensures .0) (k .unwrap-pass .ensures .1) ∙ l .inv .4,
     )
 
 same-length : tie.Need-same-length Inv-loop μ-loop
@@ -67,8 +68,8 @@ returns c =
     let l = c .before .loop in
     let s = c .before .before .before .args in
     let e : l .j ≡ 0 = omega arith in
-    let q : _≡_ {A = Registers} (l .x, l .b) (unwrapPasses (eqInvCipher (now (s .ks))) (s .n) 6 (_, now (s .b))) =
-    ap (λ (m : ℕ). unwrapPasses (eqInvCipher (now (s .ks))) (s .n) m (l .x, l .b)) (sym e) ∙ l .inv .4 in
+    let q : _≡_ {A = Registers} (flat (l .x), l .b) (unwrapPasses (eqInvCipher (now (s .ks))) (s .n) 6 (_, now (s .b))) =
+    ap (λ (m : ℕ). unwrapPasses (eqInvCipher (now (s .ks))) (s .n) m (flat (l .x), l .b)) (sym e) ∙ l .inv .4 in
     (ap (λ (w : Registers). w .0) q, ap (λ (w : Registers). w .1) q)
 
 pub unwrap-passes-spec : {M : Type 1} → statement M

@@ -1,7 +1,7 @@
 -- `keywrap::unwrap_step` meets its contract.
 -- Assumes nothing.
+use Rattle.keywrap.specs.Columns.{flat}
 use Rattle.keywrap.specs.Rfc3394.{joined, high, addCount}
-use Rattle.keywrap.specs.Rfc3394.{joined, high}
 use Rattle.aes128.specs.Cipher.{eqInvCipher}
 use Prim.Native.Nat.{ℕ}
 use mathlib.Core.List.{List}
@@ -39,8 +39,8 @@ same-length c = search needs
 returns : tie.Need-returns
 returns c =
     let s = c .before .before .before .before .before .before .before .before .before .before .before .before in
-    let e = step-is (eqInvCipher (now (s .args .ks))) (addCount (s .args .t) (s .args .a)) (now (s .args .b)) _ _ _ _ _ (s .pre) (c .before .before .before .before .before .before .before .before .before .front .ensures)
-    (c .before .before .before .before .before .before .before .join .ensures ∙ ap (λ (x : List ℕ). joined x (c .before .before .before .before .before .before .before .before .before .front .result)) (c .before .before .before .before .before .before .before .before .add-count .ensures)) (c .before .before .before .before .before .before .decrypt .ensures)
+    let e = step-is (eqInvCipher (now (s .args .ks))) (addCount (s .args .t) (flat (s .args .a))) (now (s .args .b)) _ _ _ _ _ (s .pre) (c .before .before .before .before .before .before .before .before .before .front .ensures)
+    (c .before .before .before .before .before .before .before .join .ensures ∙ ap (λ (x : List ℕ). joined x (flat (c .before .before .before .before .before .before .before .before .before .front .result))) (c .before .before .before .before .before .before .before .before .add-count .ensures)) (c .before .before .before .before .before .before .decrypt .ensures)
     (c .before .before .before .before .low .ensures) (c .before .before .before .put-front .ensures) in
     (c .high .ensures ∙ ap high (e .0), e .1)
 

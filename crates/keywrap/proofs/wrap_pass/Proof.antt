@@ -1,6 +1,7 @@
 -- `keywrap::wrap_pass` meets its contract: after i turns A and the blocks are those of the pass over i blocks.
 -- Assumes nothing.
 use borrow.Rule.Slice.PartMut.{same-len-mid}
+use Rattle.keywrap.specs.Columns.{flat}
 use Rattle.keywrap.specs.Rfc3394.{Registers, wrapPass}
 use Rattle.aes128.specs.Cipher.{cipher}
 use Rattle.keywrap.proofs.Parts.{pass-more}
@@ -14,7 +15,7 @@ use Rattle.keywrap.proofs.wrap_pass.Statement.{statement}
 use Rattle.keywrap.proofs.wrap_pass.Tie as tie
 
 abbrev Inv-loop : tie.InvT-loop
-Inv-loop ks b₀ n c x₀ i₀ b x i = (i ≤ n) × (length b ≡ length b₀) × _≡_ {A = Registers} (x, b) (wrapPass (cipher ks) c i (x₀, b₀))
+Inv-loop ks b₀ n c x₀ i₀ b x i = (i ≤ n) × (length b ≡ length b₀) × _≡_ {A = Registers} (flat x, b) (wrapPass (cipher ks) c i (flat x₀, b₀))
 
 abbrev μ-loop : tie.MeasureT-loop
 μ-loop ks b₀ n c x₀ i₀ b x i = n - i
@@ -71,8 +72,8 @@ returns c =
     let l = c .before .loop in
     let s = c .before .before .before .args in
     let e : l .i ≡ s .n = omega arith in (
-      ap (λ (w : Registers). w .0) (l .inv .2) ∙ ap (λ (m : ℕ). wrapPass (cipher (now (s .ks))) (s .c) m (s .a, now (s .b)) .0) e,
-      ap (λ (w : Registers). w .1) (l .inv .2) ∙ ap (λ (m : ℕ). wrapPass (cipher (now (s .ks))) (s .c) m (s .a, now (s .b)) .1) e,
+      ap (λ (w : Registers). w .0) (l .inv .2) ∙ ap (λ (m : ℕ). wrapPass (cipher (now (s .ks))) (s .c) m (flat (s .a), now (s .b)) .0) e,
+      ap (λ (w : Registers). w .1) (l .inv .2) ∙ ap (λ (m : ℕ). wrapPass (cipher (now (s .ks))) (s .c) m (flat (s .a), now (s .b)) .1) e,
     )
 
 pub wrap-pass-spec : {M : Type 1} → statement M

@@ -1,5 +1,6 @@
 -- `keywrap::wrap_passes` meets its contract: after j turns A and the blocks are those of j passes, and the count is n * j.
 -- Assumes nothing.
+use Rattle.keywrap.specs.Columns.{flat}
 use Rattle.keywrap.specs.Rfc3394.{Registers, wrapPasses}
 use Rattle.aes128.specs.Cipher.{cipher}
 use Rattle.keywrap.proofs.Parts.{passes-more, count-more}
@@ -13,7 +14,7 @@ use Rattle.keywrap.proofs.wrap_passes.Statement.{statement}
 use Rattle.keywrap.proofs.wrap_passes.Tie as tie
 
 abbrev Inv-loop : tie.InvT-loop
-Inv-loop ks b₀ n x₀ c₀ j₀ b x c j = (j ≤ 6) × (c ≤ 24 * j) × (c ≡ n * j) × (length b ≡ length b₀) × _≡_ {A = Registers} (x, b) (wrapPasses (cipher ks) n j (x₀, b₀))
+Inv-loop ks b₀ n x₀ c₀ j₀ b x c j = (j ≤ 6) × (c ≤ 24 * j) × (c ≡ n * j) × (length b ≡ length b₀) × _≡_ {A = Registers} (flat x, b) (wrapPasses (cipher ks) n j (flat x₀, b₀))
 
 abbrev μ-loop : tie.MeasureT-loop
 μ-loop ks b₀ n x₀ c₀ j₀ b x c j = 6 - j
@@ -57,8 +58,8 @@ returns c =
     let l = c .before .loop in
     let s = c .before .before .before .args in
     let e : l .j ≡ 6 = omega arith in (
-      ap (λ (w : Registers). w .0) (l .inv .4) ∙ ap (λ (m : ℕ). wrapPasses (cipher (now (s .ks))) (s .n) m (s .a, now (s .b)) .0) e,
-      ap (λ (w : Registers). w .1) (l .inv .4) ∙ ap (λ (m : ℕ). wrapPasses (cipher (now (s .ks))) (s .n) m (s .a, now (s .b)) .1) e,
+      ap (λ (w : Registers). w .0) (l .inv .4) ∙ ap (λ (m : ℕ). wrapPasses (cipher (now (s .ks))) (s .n) m (flat (s .a), now (s .b)) .0) e,
+      ap (λ (w : Registers). w .1) (l .inv .4) ∙ ap (λ (m : ℕ). wrapPasses (cipher (now (s .ks))) (s .n) m (flat (s .a), now (s .b)) .1) e,
     )
 
 pub wrap-passes-spec : {M : Type 1} → statement M

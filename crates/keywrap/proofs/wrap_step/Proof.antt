@@ -1,5 +1,6 @@
 -- `keywrap::wrap_step` meets its contract.
 -- Assumes nothing.
+use Rattle.keywrap.specs.Columns.{flat}
 use Rattle.keywrap.specs.Rfc3394.{high, addCount}
 use Rattle.aes128.specs.Cipher.{cipher}
 use denote.Ref.{now}
@@ -36,7 +37,7 @@ same-length c = search needs
 returns : tie.Need-returns
 returns c =
     let s = c .before .before .before .before .before .before .before .before .before .before .before .before in
-    let e = step-is (cipher (now (s .args .ks))) (s .args .a) (now (s .args .b)) _ _ _ _ _ (s .pre) (c .before .before .before .before .before .before .before .before .before .front .ensures) (c .before .before .before .before .before .before .before .before .join .ensures) (c .before .before .before .before .before .before .before .encrypt .ensures)
+    let e = step-is (cipher (now (s .args .ks))) (flat (s .args .a)) (now (s .args .b)) _ _ _ _ _ (s .pre) (c .before .before .before .before .before .before .before .before .before .front .ensures) (c .before .before .before .before .before .before .before .before .join .ensures) (c .before .before .before .before .before .before .before .encrypt .ensures)
     (c .before .before .before .before .before .low .ensures) (c .before .before .before .before .put-front .ensures) in
     (c .add-count .ensures ∙ ap (addCount (s .args .t)) (c .before .high .ensures ∙ ap high (e .0)), e .1)
 
