@@ -13,7 +13,7 @@ use Rattle.aes128.specs.Cipher.{cipher, invCipher}
 use Rattle.aes128.proofs.Rounds.{Keys, cipher-block, invCipher-block, uncipher, recipher, expandKey-keys}
 use Rattle.keywrap.specs.Calls.{Bytes, keyLength}
 use Rattle.keywrap.specs.Rfc3394.{initialValue, Registers, wrapPasses, unwrapPasses, keyState, roundKeys, passesOf, wrapRegisters, wrapped, unwrapRegisters, unwrappedIv, unwrappedKey}
-use Rattle.keywrap.proofs.Bytes.{bytes-append, bytes-take, bytes-drop, half-of, half-bytes, half-length, initial-half}
+use Rattle.keywrap.proofs.Bytes.{bytes-take, bytes-drop, half-of, half-length, initial-half}
 use Rattle.keywrap.proofs.Steps.{Ready, registers≡, passes-ready, unpasses-ready, unpasses-passes, passes-unpasses}
 
 module _ (kek : List ℕ) (k : Bytes kek) where
@@ -67,10 +67,6 @@ module _ (kek : List ℕ) (k : Bytes kek) where
     unfolding wrapped
     length-wrapped = let f = half-length (wrap-ready .first) in let s = wrap-ready .count in simp length-append (omega arith)
 
-    pub bytes-wrapped : Bytes (wrapped kek key)
-    unfolding wrapped
-    bytes-wrapped = bytes-append (wrapRegisters kek key .0) (wrapRegisters kek key .1) (half-bytes (wrap-ready .first)) (wrap-ready .bytes)
-
     -- unwrapping starts where wrapping ended
     again : unwrapRegisters kek (wrapped kek key) ≡ (initialValue, key)
     unfolding unwrapRegisters wrapped
@@ -110,17 +106,9 @@ module _ (kek : List ℕ) (k : Bytes kek) where
     unfolding unwrapRegisters E D
     wrap-unwrap = passes-unpasses E D keepsE keepsD undone redone (length w - 8) (length (drop 8 w) / 8) rest-blocks 6 (take 8 w, drop 8 w) received
 
-    pub length-unwrappedIv : length (unwrappedIv kek w) ≡ 8
-    unfolding unwrappedIv
-    length-unwrappedIv = half-length (unwrap-ready .first)
-
     pub length-unwrappedKey : length (unwrappedKey kek w) ≡ keyLength w
     unfolding unwrappedKey
     length-unwrappedKey = unwrap-ready .count
-
-    pub bytes-unwrappedKey : Bytes (unwrappedKey kek w)
-    unfolding unwrappedKey
-    bytes-unwrappedKey = unwrap-ready .bytes
 
     -- bytes that unwrap with the initial value are the wrapping of their key
     pub wrap-again : unwrappedIv kek w ≡ initialValue → wrapped kek (unwrappedKey kek w) ≡ w

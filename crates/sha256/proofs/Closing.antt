@@ -3,7 +3,6 @@
 use mathlib.Core.Path.{_≡_, refl, sym, ap, _∙_}
 use mathlib.Core.List.{List, [], _∷_, _++_, append-assoc, append-nil}
 use Prim.Native.Nat.{ℕ, zero, suc, _+_, _-_, _*_, _/_, _%_, _^_, _<_, _≤_}
-use native.Mathlib.Nat.{le-refl}
 use native.Mathlib.Numerals.{add-one}
 use native.Mathlib.Omega.{arith}
 use lib.ListN.{length, take, drop, replicate, set, length-set, length-append, length-replicate, getD-replicate, replicate-append-replicate, drop-of-length-le}
@@ -119,16 +118,6 @@ mark-kept b a h l e =
 
     sum : (a : ℕ) → a < 64 → a + suc (63 - a) ≡ 64
     sum a h = omega arith
-
--- `fill` keeps it, with the bytes that fill the block
-pub filled-kept : (b : List ℕ) (a : ℕ) (xs : List ℕ) {c : List ℕ} → length b ≡ 64 → a ≤ 64 → 64 ≤ a + length xs
-    → c ≡ paste b a (take (64 - a) xs) (length (take (64 - a) xs)) → length c ≡ 64
-filled-kept b a xs l h k e =
-    let t : length (take (64 - a) xs) ≡ 64 - a = length-take-le (64 - a) xs (omega arith) in
-    ap length e ∙ length-paste b a (take (64 - a) xs) (length (take (64 - a) xs)) (room a (length b) (length (take (64 - a) xs)) l t h) (le-refl (length (take (64 - a) xs))) ∙ l
-  where
-    room : (a x y : ℕ) → x ≡ 64 → y ≡ 64 - a → a ≤ 64 → a + y ≤ x
-    room a x y p q h = omega arith
 
 -- ---- the padding
 
