@@ -13,9 +13,10 @@ use refusal::in_range;
 use refusal::then_check;
 use refusal::unless;
 ghost use mathlib.Core.Path.{_≡_};
-ghost use mathlib.Core.List.{_++_};
+ghost use mathlib.Core.List.{[], _∷_, _++_};
 ghost use Prim.Native.Nat.{_+_, _-_, _*_, _≤_, _<_};
-ghost use lib.ListN.{length, drop, take};
+ghost use lib.Bits.{bitXor};
+ghost use lib.ListN.{length, drop, take, getD};
 ghost use Rattle.refusal.specs.Checks.{_andThen_, check6};
 ghost use Rattle.refusal.specs.Answers.{checkedAs, answerOf, answerTo, bufferAfter};
 ghost use Rattle.aes128.specs.Cipher.{cipher, eqInvCipher};
@@ -97,11 +98,18 @@ fn low(s: [[u8; 4]; 4]) -> [[u8; 4]; 2]
     [s[2], s[3]]
 }
 
+// A column whose last byte has t added.
+fn add_last(w: [u8; 4], t: u8) -> [u8; 4]
+    ensures { λ r. ⌜ r ≡ getD w 0 0 ∷ getD w 1 0 ∷ getD w 2 0 ∷ bitXor (getD w 3 0) t ∷ [] ⌝ }
+{
+    [w[0], w[1], w[2], w[3] ^ t]
+}
+
 // A ^ t. The count t is below 256, so that the last byte alone changes.
 fn add_count(a: [[u8; 4]; 2], t: u8) -> [[u8; 4]; 2]
     ensures { λ r. ⌜ flat r ≡ addCount t (flat a) ⌝ }
 {
-    [a[0], [a[1][0], a[1][1], a[1][2], a[1][3] ^ t]]
+    [a[0], add_last(a[1], t)]
 }
 
 // One step of the wrapping, on the block b; the next A is returned.
@@ -128,7 +136,8 @@ fn unwrap_step(ks: &[[[u8; 4]; 4]; 11], a: [[u8; 4]; 2], b: &mut [u8], t: u8) ->
     high(s)
 }
 
-// A pass over the n blocks of b, whose counts come after c.
+// A pass over the n blocks of b, whose counts come after c. From block to block each column of A is a variable of its own: as one array
+// the compiler joins the two in a word of 64 bits.
 fn wrap_pass(
     ks: &[[[u8; 4]; 4]; 11],
     a: [[u8; 4]; 2],
@@ -140,16 +149,18 @@ fn wrap_pass(
     ensures next { λ r. ⌜ flat r ≡ wrapPass (cipher (now (ks .entry))) c n (flat a, now (b .entry)) .0 ⌝ }
     ensures part { λ _. ⌜ now (b .exit) ≡ wrapPass (cipher (now (ks .entry))) c n (flat a, now (b .entry)) .1 ⌝ }
 {
-    let mut x = a;
+    let mut x0 = a[0];
+    let mut x1 = a[1];
     let mut i: usize = 0;
     while i < n {
         let at = i * 8;
         let end = at + 8;
         i += 1;
-        let next = wrap_step(ks, x, &mut b[at..end], c + (i as u8));
-        x = next;
+        let next = wrap_step(ks, [x0, x1], &mut b[at..end], c + (i as u8));
+        x0 = next[0];
+        x1 = next[1];
     }
-    x
+    [x0, x1]
 }
 
 // A pass back over the n blocks of b, from the last to the first.
@@ -164,17 +175,19 @@ fn unwrap_pass(
     ensures next { λ r. ⌜ flat r ≡ unwrapPass (eqInvCipher (now (ks .entry))) c n (flat a, now (b .entry)) .0 ⌝ }
     ensures part { λ _. ⌜ now (b .exit) ≡ unwrapPass (eqInvCipher (now (ks .entry))) c n (flat a, now (b .entry)) .1 ⌝ }
 {
-    let mut x = a;
+    let mut x0 = a[0];
+    let mut x1 = a[1];
     let mut i: usize = n;
     while 0 < i {
         let t = c + (i as u8);
         i -= 1;
         let at = i * 8;
         let end = at + 8;
-        let next = unwrap_step(ks, x, &mut b[at..end], t);
-        x = next;
+        let next = unwrap_step(ks, [x0, x1], &mut b[at..end], t);
+        x0 = next[0];
+        x1 = next[1];
     }
-    x
+    [x0, x1]
 }
 
 // Six passes over the n blocks of b.
