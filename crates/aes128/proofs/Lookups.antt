@@ -12,7 +12,7 @@ use Rattle.aes_sbox.specs.Sbox.{sboxOf, invSboxOf}
 use Rattle.aes_sbox.specs.Tables.{sbox, invSbox, mixedSbox, unmixedSbox, mixedWord, unmixedWord}
 use Rattle.aes_sbox.proofs.Tables.{sbox-rule, invSbox-rule, mixed-rule, unmixed-rule, sboxOf-byte, invSboxOf-byte}
 use Rattle.aes128.specs.State.{State, Column, column, Block, block, columns, bytes, subBytes, invSubBytes, shiftRows, invShiftRows, mixByte, invMixByte, mixColumn, invMixColumn, mixColumns, invMixColumns, addRoundKey}
-use Rattle.aes128.specs.Words.{wordOf, columnOf, stateOf, turned1, upward, downward, EachBy, sumOf, sumsOf}
+use Rattle.aes128.specs.Words.{wordOf, columnOf, stateOf, turned1, listedBytes, listedState, EachBy, sumOf, sumsOf}
 use Rattle.aes128.specs.Cipher.{round, lastRound, eqInvRound, eqInvLastRound}
 use Rattle.aes128.specs.KeyExpansion.{keyCore}
 use Rattle.aes128.proofs.Four.{four}
@@ -100,18 +100,18 @@ state-block : (t : List ℕ) → Block (stateOf t)
 state-block t = block (word-column (getD t 0 0)) (word-column (getD t 1 0)) (word-column (getD t 2 0)) (word-column (getD t 3 0))
 
 module _ (table : List ℕ) (f : ℕ → ℕ) (rule : (k : ℕ) → k < 256 → getD table k 0 ≡ f k) where
-  module _ (s : State) (b w : List ℕ) (p : b ≡ upward s) (e : EachBy table 16 b w) where
-    look : (k : ℕ) → k < 16 → getD (upward s) k 0 < 256 → getD w k 0 ≡ f (getD (upward s) k 0)
-    look k h small = e k h ∙ ap (λ (l : List ℕ). getD table (getD l k 0) 0) p ∙ rule (getD (upward s) k 0) small
+  module _ (s : State) (b w : List ℕ) (p : b ≡ listedBytes s) (e : EachBy table 16 b w) where
+    look : (k : ℕ) → k < 16 → getD (listedBytes s) k 0 < 256 → getD w k 0 ≡ f (getD (listedBytes s) k 0)
+    look k h small = e k h ∙ ap (λ (l : List ℕ). getD table (getD l k 0) 0) p ∙ rule (getD (listedBytes s) k 0) small
 
-  looked-columns : (s : State) → Block s → (b w : List ℕ) → b ≡ upward s → EachBy table 16 b w → downward w ≡ columns (bytes f) s
+  looked-columns : (s : State) → Block s → (b w : List ℕ) → b ≡ listedBytes s → EachBy table 16 b w → listedState w ≡ columns (bytes f) s
   looked-columns s (block (column h00 h10 h20 h30) (column h01 h11 h21 h31) (column h02 h12 h22 h32) (column h03 h13 h23 h33)) b w p e =
       let at = look s b w p e in
       four
-      (four (at 3 (omega arith) h00) (at 2 (omega arith) h10) (at 1 (omega arith) h20) (at 0 (omega arith) h30))
-      (four (at 7 (omega arith) h01) (at 6 (omega arith) h11) (at 5 (omega arith) h21) (at 4 (omega arith) h31))
-      (four (at 11 (omega arith) h02) (at 10 (omega arith) h12) (at 9 (omega arith) h22) (at 8 (omega arith) h32))
-      (four (at 15 (omega arith) h03) (at 14 (omega arith) h13) (at 13 (omega arith) h23) (at 12 (omega arith) h33))
+      (four (at 3 (omega arith) h00) (at 1 (omega arith) h10) (at 2 (omega arith) h20) (at 0 (omega arith) h30))
+      (four (at 7 (omega arith) h01) (at 5 (omega arith) h11) (at 6 (omega arith) h21) (at 4 (omega arith) h31))
+      (four (at 11 (omega arith) h02) (at 9 (omega arith) h12) (at 10 (omega arith) h22) (at 8 (omega arith) h32))
+      (four (at 15 (omega arith) h03) (at 13 (omega arith) h13) (at 14 (omega arith) h23) (at 12 (omega arith) h33))
 
 -- the columns of their sums
 module _ (table : List ℕ) (word sub : ℕ → ℕ) (mix : List ℕ → List ℕ)
@@ -122,19 +122,19 @@ module _ (table : List ℕ) (word sub : ℕ → ℕ) (mix : List ℕ → List �
   one hx hy hz hu ex ey ez eu =
       (λ n. columnOf (sumOf (ex n) (ey n) (ez n) (eu n))) ∙ sum _ _ _ _ (sub-byte _ hx) (sub-byte _ hy) (sub-byte _ hz) (sub-byte _ hu)
 
-  summed : (s : State) → Block s → (b w : List ℕ) → b ≡ upward s → EachBy table 16 b w → sumsOf w ≡ columns (λ (x : List ℕ). mix (bytes sub x)) s
+  summed : (s : State) → Block s → (b w : List ℕ) → b ≡ listedBytes s → EachBy table 16 b w → sumsOf w ≡ columns (λ (x : List ℕ). mix (bytes sub x)) s
   summed s (block (column h00 h10 h20 h30) (column h01 h11 h21 h31) (column h02 h12 h22 h32) (column h03 h13 h23 h33)) b w p e =
       let at = look table (λ k. word (sub k)) rule s b w p e in
       four
-      (one h00 h10 h20 h30 (at 3 (omega arith) h00) (at 2 (omega arith) h10) (at 1 (omega arith) h20) (at 0 (omega arith) h30))
-      (one h01 h11 h21 h31 (at 7 (omega arith) h01) (at 6 (omega arith) h11) (at 5 (omega arith) h21) (at 4 (omega arith) h31))
-      (one h02 h12 h22 h32 (at 11 (omega arith) h02) (at 10 (omega arith) h12) (at 9 (omega arith) h22) (at 8 (omega arith) h32))
-      (one h03 h13 h23 h33 (at 15 (omega arith) h03) (at 14 (omega arith) h13) (at 13 (omega arith) h23) (at 12 (omega arith) h33))
+      (one h00 h10 h20 h30 (at 3 (omega arith) h00) (at 1 (omega arith) h10) (at 2 (omega arith) h20) (at 0 (omega arith) h30))
+      (one h01 h11 h21 h31 (at 7 (omega arith) h01) (at 5 (omega arith) h11) (at 6 (omega arith) h21) (at 4 (omega arith) h31))
+      (one h02 h12 h22 h32 (at 11 (omega arith) h02) (at 9 (omega arith) h12) (at 10 (omega arith) h22) (at 8 (omega arith) h32))
+      (one h03 h13 h23 h33 (at 15 (omega arith) h03) (at 13 (omega arith) h13) (at 14 (omega arith) h23) (at 12 (omega arith) h33))
 
 -- ---- the rounds
 
 module _ (k : State) (t b : List ℕ) where
-  pub round-by : b ≡ upward (shiftRows (stateOf t)) → (w r : List ℕ) → EachBy mixedSbox 16 b w → stateOf r ≡ addRoundKey (sumsOf w) k
+  pub round-by : b ≡ listedBytes (shiftRows (stateOf t)) → (w r : List ℕ) → EachBy mixedSbox 16 b w → stateOf r ≡ addRoundKey (sumsOf w) k
       → stateOf r ≡ round k (stateOf t)
   unfolding round mixColumns subBytes
   round-by p w r e h =
@@ -142,13 +142,13 @@ module _ (k : State) (t b : List ℕ) where
       ∙ ap (λ (x : State). addRoundKey x k)
       (summed mixedSbox mixedWord sboxOf mixColumn mixed-rule sboxOf-byte mixed-sum _ (shiftRows-block (state-block t)) b w p e)
 
-  pub last-round-by : b ≡ upward (shiftRows (stateOf t)) → (w : List ℕ) (u r : State) → EachBy sbox 16 b w → u ≡ downward w → r ≡ addRoundKey u k
+  pub last-round-by : b ≡ listedBytes (shiftRows (stateOf t)) → (w : List ℕ) (u r : State) → EachBy sbox 16 b w → u ≡ listedState w → r ≡ addRoundKey u k
       → r ≡ lastRound k (stateOf t)
   unfolding lastRound subBytes
   last-round-by p w u r e q h =
       h ∙ ap (λ (x : State). addRoundKey x k) (q ∙ looked-columns sbox sboxOf sbox-rule _ (shiftRows-block (state-block t)) b w p e)
 
-  pub inv-round-by : b ≡ upward (invShiftRows (stateOf t)) → (w r : List ℕ) → EachBy unmixedSbox 16 b w → stateOf r ≡ addRoundKey (sumsOf w) k
+  pub inv-round-by : b ≡ listedBytes (invShiftRows (stateOf t)) → (w r : List ℕ) → EachBy unmixedSbox 16 b w → stateOf r ≡ addRoundKey (sumsOf w) k
       → stateOf r ≡ eqInvRound k (stateOf t)
   unfolding eqInvRound invMixColumns invSubBytes
   inv-round-by p w r e h =
@@ -156,7 +156,7 @@ module _ (k : State) (t b : List ℕ) where
       ∙ ap (λ (x : State). addRoundKey x k)
       (summed unmixedSbox unmixedWord invSboxOf invMixColumn unmixed-rule invSboxOf-byte unmixed-sum _ (invShiftRows-block (state-block t)) b w p e)
 
-  pub inv-last-round-by : b ≡ upward (invShiftRows (stateOf t)) → (w : List ℕ) (u r : State) → EachBy invSbox 16 b w → u ≡ downward w → r ≡ addRoundKey u k
+  pub inv-last-round-by : b ≡ listedBytes (invShiftRows (stateOf t)) → (w : List ℕ) (u r : State) → EachBy invSbox 16 b w → u ≡ listedState w → r ≡ addRoundKey u k
       → r ≡ eqInvLastRound k (stateOf t)
   unfolding eqInvLastRound invSubBytes
   inv-last-round-by p w u r e q h =

@@ -29,21 +29,22 @@ turned1 x = x / 256 + x % 256 * 16777216
 abbrev pub turned2 : ℕ → ℕ
 turned2 x = x / 65536 + x % 65536 * 65536
 
--- The bytes of a state, column after column, each column from its last row up.
-abbrev pub upward : State → List ℕ
-upward s =
-    byteAt s 3 0 ∷ byteAt s 2 0 ∷ byteAt s 1 0 ∷ byteAt s 0 0 ∷
-    byteAt s 3 1 ∷ byteAt s 2 1 ∷ byteAt s 1 1 ∷ byteAt s 0 1 ∷
-    byteAt s 3 2 ∷ byteAt s 2 2 ∷ byteAt s 1 2 ∷ byteAt s 0 2 ∷
-    byteAt s 3 3 ∷ byteAt s 2 3 ∷ byteAt s 1 3 ∷ byteAt s 0 3 ∷ []
+-- The bytes of a state in the order in which the code looks them up: column after column, each by its rows 3, 1, 2 and 0. It is the order in
+-- which the compiler keeps most of them in registers.
+abbrev pub listedBytes : State → List ℕ
+listedBytes s =
+    byteAt s 3 0 ∷ byteAt s 1 0 ∷ byteAt s 2 0 ∷ byteAt s 0 0 ∷
+    byteAt s 3 1 ∷ byteAt s 1 1 ∷ byteAt s 2 1 ∷ byteAt s 0 1 ∷
+    byteAt s 3 2 ∷ byteAt s 1 2 ∷ byteAt s 2 2 ∷ byteAt s 0 2 ∷
+    byteAt s 3 3 ∷ byteAt s 1 3 ∷ byteAt s 2 3 ∷ byteAt s 0 3 ∷ []
 
 -- The state of sixteen bytes in that order.
-abbrev pub downward : List ℕ → State
-downward w =
-    (getD w 3 0 ∷ getD w 2 0 ∷ getD w 1 0 ∷ getD w 0 0 ∷ [])
-    ∷ (getD w 7 0 ∷ getD w 6 0 ∷ getD w 5 0 ∷ getD w 4 0 ∷ [])
-    ∷ (getD w 11 0 ∷ getD w 10 0 ∷ getD w 9 0 ∷ getD w 8 0 ∷ [])
-    ∷ (getD w 15 0 ∷ getD w 14 0 ∷ getD w 13 0 ∷ getD w 12 0 ∷ [])
+abbrev pub listedState : List ℕ → State
+listedState w =
+    (getD w 3 0 ∷ getD w 1 0 ∷ getD w 2 0 ∷ getD w 0 0 ∷ [])
+    ∷ (getD w 7 0 ∷ getD w 5 0 ∷ getD w 6 0 ∷ getD w 4 0 ∷ [])
+    ∷ (getD w 11 0 ∷ getD w 9 0 ∷ getD w 10 0 ∷ getD w 8 0 ∷ [])
+    ∷ (getD w 15 0 ∷ getD w 13 0 ∷ getD w 14 0 ∷ getD w 12 0 ∷ [])
     ∷ []
 
 -- Each of the n numbers of r is the table's entry at the number of b in its place.
@@ -54,11 +55,11 @@ EachBy table n b r = (k : ℕ) → k < n → getD r k 0 ≡ getD table (getD b k
 abbrev pub sumOf : ℕ → ℕ → ℕ → ℕ → ℕ
 sumOf a b c d = bitXor a (turned1 (bitXor d (turned1 (bitXor c (turned1 b)))))
 
--- The columns of these sums, of sixteen words in the order of `upward`.
+-- The columns of these sums, of sixteen words in the order of `listedBytes`.
 abbrev pub sumsOf : List ℕ → State
 sumsOf w =
-    columnOf (sumOf (getD w 3 0) (getD w 2 0) (getD w 1 0) (getD w 0 0))
-    ∷ columnOf (sumOf (getD w 7 0) (getD w 6 0) (getD w 5 0) (getD w 4 0))
-    ∷ columnOf (sumOf (getD w 11 0) (getD w 10 0) (getD w 9 0) (getD w 8 0))
-    ∷ columnOf (sumOf (getD w 15 0) (getD w 14 0) (getD w 13 0) (getD w 12 0))
+    columnOf (sumOf (getD w 3 0) (getD w 1 0) (getD w 2 0) (getD w 0 0))
+    ∷ columnOf (sumOf (getD w 7 0) (getD w 5 0) (getD w 6 0) (getD w 4 0))
+    ∷ columnOf (sumOf (getD w 11 0) (getD w 9 0) (getD w 10 0) (getD w 8 0))
+    ∷ columnOf (sumOf (getD w 15 0) (getD w 13 0) (getD w 14 0) (getD w 12 0))
     ∷ []

@@ -14,7 +14,7 @@ ghost use lib.ListN.{length};
 ghost use Rattle.aes_sbox.specs.Field.{xtime};
 ghost use Rattle.aes_sbox.specs.Tables.{sbox as sboxTable, invSbox, mixedSbox, unmixedSbox};
 ghost use Rattle.aes128.specs.State.{shiftRows, invShiftRows, mixColumn, invMixColumn, invMixColumns, addColumn, addRoundKey};
-ghost use Rattle.aes128.specs.Words.{stateOf, upward, downward, EachBy, sumsOf};
+ghost use Rattle.aes128.specs.Words.{stateOf, listedBytes, listedState, EachBy, sumsOf};
 ghost use Rattle.aes128.specs.Cipher.{round as roundOf, lastRound, cipher, eqInvRound, eqInvLastRound, eqInvCipher, EqKeys};
 ghost use Rattle.aes128.specs.KeyExpansion.{keyCore, nextKey, expandKey};
 
@@ -64,38 +64,38 @@ fn wide(x: u8) -> u32
 
 // The bytes of a state in the order in which they are looked up.
 fn listed(s: [[u8; 4]; 4]) -> [u32; 16]
-    ensures { λ r. ⌜ r ≡ upward s ⌝ }
+    ensures { λ r. ⌜ r ≡ listedBytes s ⌝ }
 {
     [
         wide(s[0][3]),
-        wide(s[0][2]),
         wide(s[0][1]),
+        wide(s[0][2]),
         wide(s[0][0]),
         wide(s[1][3]),
-        wide(s[1][2]),
         wide(s[1][1]),
+        wide(s[1][2]),
         wide(s[1][0]),
         wide(s[2][3]),
-        wide(s[2][2]),
         wide(s[2][1]),
+        wide(s[2][2]),
         wide(s[2][0]),
         wide(s[3][3]),
-        wide(s[3][2]),
         wide(s[3][1]),
+        wide(s[3][2]),
         wide(s[3][0]),
     ]
 }
 
 // The bytes of the state t, its rows shifted by ShiftRows.
 fn shifted(t: [u32; 4]) -> [u32; 16]
-    ensures { λ r. ⌜ r ≡ upward (shiftRows (stateOf t)) ⌝ }
+    ensures { λ r. ⌜ r ≡ listedBytes (shiftRows (stateOf t)) ⌝ }
 {
     listed(shift_rows(state(t)))
 }
 
 // The bytes of the state t, its rows shifted by InvShiftRows.
 fn inv_shifted(t: [u32; 4]) -> [u32; 16]
-    ensures { λ r. ⌜ r ≡ upward (invShiftRows (stateOf t)) ⌝ }
+    ensures { λ r. ⌜ r ≡ listedBytes (invShiftRows (stateOf t)) ⌝ }
 {
     listed(inv_shift_rows(state(t)))
 }
@@ -167,13 +167,13 @@ fn each_key_sub(b: [u32; 4]) -> [u8; 4]
 
 // The columns of sixteen bytes that were looked up.
 fn columns(w: [u8; 16]) -> [[u8; 4]; 4]
-    ensures { λ r. ⌜ r ≡ downward w ⌝ }
+    ensures { λ r. ⌜ r ≡ listedState w ⌝ }
 {
     [
-        [w[3], w[2], w[1], w[0]],
-        [w[7], w[6], w[5], w[4]],
-        [w[11], w[10], w[9], w[8]],
-        [w[15], w[14], w[13], w[12]],
+        [w[3], w[1], w[2], w[0]],
+        [w[7], w[5], w[6], w[4]],
+        [w[11], w[9], w[10], w[8]],
+        [w[15], w[13], w[14], w[12]],
     ]
 }
 
@@ -182,10 +182,10 @@ fn sums(k: [[u8; 4]; 4], w: [u32; 16]) -> [u32; 4]
     ensures { λ r. ⌜ stateOf r ≡ addRoundKey (sumsOf w) k ⌝ }
 {
     [
-        word::sum(k[0], w[3], w[2], w[1], w[0]),
-        word::sum(k[1], w[7], w[6], w[5], w[4]),
-        word::sum(k[2], w[11], w[10], w[9], w[8]),
-        word::sum(k[3], w[15], w[14], w[13], w[12]),
+        word::sum(k[0], w[3], w[1], w[2], w[0]),
+        word::sum(k[1], w[7], w[5], w[6], w[4]),
+        word::sum(k[2], w[11], w[9], w[10], w[8]),
+        word::sum(k[3], w[15], w[13], w[14], w[12]),
     ]
 }
 

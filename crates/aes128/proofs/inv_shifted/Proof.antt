@@ -2,7 +2,7 @@
 -- Assumes nothing.
 use mathlib.Core.Path.{ap, _∙_}
 use Rattle.aes128.specs.State.{invShiftRows}
-use Rattle.aes128.specs.Words.{upward}
+use Rattle.aes128.specs.Words.{listedBytes}
 use borrow.Author.Needs.{needs}
 use Rattle.aes128.proofs.inv_shifted.Statement.{statement}
 use Rattle.aes128.proofs.inv_shifted.Tie as tie
@@ -17,7 +17,7 @@ listed-requires : tie.Need-listed-requires
 listed-requires c κs = search needs
 
 returns : tie.Need-returns
-returns c = c .listed .ensures ∙ ap upward (c .before .inv-shift-rows .ensures ∙ ap invShiftRows (c .before .before .state .ensures))
+returns c = c .listed .ensures ∙ ap listedBytes (c .before .inv-shift-rows .ensures ∙ ap invShiftRows (c .before .before .state .ensures))
 
 pub inv-shifted-spec : {M : Type 1} → statement M
 inv-shifted-spec =
