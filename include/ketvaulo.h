@@ -25,6 +25,7 @@
  *   byte of `out`. An accepted call returns 0 as its refusal, and alters only what it says it writes; the rest of `out` stays.
  * - No call keeps a pointer, allocates or blocks, and none has a state, so calls may come from anywhere, and the same call twice gives the
  *   same answer.
+ * - No call takes more than some 1.2 KiB of stack. That is measured and not proved; docs/PERFORMANCE.md has the figures.
  *
  * Every call is proved to do what is said here, for every input. The proofs cover the library, not the C code that calls it. They speak of
  * answers and buffers, not of time or of what is left on the stack: AES looks up tables by secret bytes, and no call wipes its stack.
