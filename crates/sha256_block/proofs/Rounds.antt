@@ -5,8 +5,8 @@ use mathlib.Core.List.{List, [], _∷_}
 use Prim.Native.Nat.{ℕ, zero, suc, _+_, _-_, _*_, _%_, _<_, _≤_}
 use native.Mathlib.Nat.{add-zero, zero-add, add-suc, suc-add, le-of-suc-le-suc, not-suc-le-zero}
 use native.Mathlib.Omega.{arith}
-use lib.ListN.{length, getD, set, length-set}
-use Rattle.lookup.proofs.Filled.{filled}
+use lib.ListN.{length, getD, set}
+use Rattle.lookup.proofs.Filled.{filled-of}
 use Rattle.sha256_block.specs.Fips180.{K, W, round, rounds, sums, compress}
 use Rattle.sha256_block.specs.Steps.{window, runs, ConstantsFrom}
 
@@ -24,10 +24,8 @@ module _ (g j : ℕ) (k : List ℕ) (x : ℕ) (lt : j < 16) (few : g < 4) (len :
   round-number = omega arith
 
   pub put-constant : ConstantsFrom (g * 16) j k → x ≡ getD K ((g * 16 + j) % 64) 0 → (length (set k j x) ≡ 16) × ConstantsFrom (g * 16) (j + 1) (set k j x)
-  put-constant before e = (
-    length-set k j x ∙ len,
-    filled (λ (i y : ℕ). y ≡ getD K (g * 16 + i) 0) k j x 0 (omega (arith, len)) (e ∙ ap (λ (m : ℕ). getD K m 0) round-number) before,
-  )
+  put-constant before e =
+      filled-of (λ (i y : ℕ). y ≡ getD K (g * 16 + i) 0) k j x 0 16 lt len (e ∙ ap (λ (m : ℕ). getD K m 0) round-number) before
 
 -- m values of f, from f i on, and the one at place n
 listed : (ℕ → ℕ) → ℕ → ℕ → List ℕ

@@ -203,7 +203,8 @@ fn sixteen(s: &mut [u32; 8], k: [u32; 16], w: &[u32; 16])
     *s = s16;
 }
 
-// The constants of a group of sixteen rounds, of which a block has four.
+// The constants of a group of sixteen rounds, of which a block has four. The remainder changes no number: it shows the compiler that the look-up
+// stays in the table.
 fn group_constants(g: u32) -> [u32; 16]
     requires { ⌜ g < 4 ⌝ }
     ensures { λ r. ⌜ Steps.ConstantsFrom (g * 16) 16 r ⌝ }
