@@ -11,7 +11,7 @@ use lib.ListN.{length, getD, set}
 use lib.Seq.{getD-set-other}
 use Rattle.aes128.specs.State.{State, invSubBytes, invShiftRows, invMixColumn, invMixColumns, addColumn, addRoundKey}
 use Rattle.aes128.specs.Cipher.{invRound, invRounds, invLastRound, invCipher, eqInvRound, eqInvRounds, eqInvLastRound, eqInvCipher, EqKeys}
-use Rattle.lookup.proofs.Filled.{filled}
+use Rattle.tables.proofs.Filled.{filled}
 use Rattle.aes128.proofs.Four.{four}
 use Rattle.aes128.proofs.Mix.{inv-mix-add}
 

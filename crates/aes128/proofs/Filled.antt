@@ -4,7 +4,7 @@ use mathlib.Core.Path.{_≡_, subst}
 use mathlib.Core.List.{List}
 use Prim.Native.Nat.{ℕ, _+_, _<_}
 use lib.ListN.{length, getD, set}
-use Rattle.lookup.proofs.Filled.{filled-of}
+use Rattle.tables.proofs.Filled.{filled-of}
 use Rattle.aes128.specs.Words.{EachBy}
 
 -- a turn of a loop that looks n numbers up in a table, and its end

@@ -8,7 +8,7 @@ pub mod sbox;
 ghost use mathlib.Core.Path.{_≡_};
 ghost use lib.ListN.{getD};
 ghost use Rattle.aes_sbox.specs.Tables.{sbox as sboxList, invSbox};
-ghost use Rattle.lookup.specs.Table.{NoneBelow};
+ghost use Rattle.tables.specs.Table.{NoneBelow};
 
 // Past the end of each table. No caller looks up there.
 fn beyond(x: u32) -> u8

@@ -7,7 +7,7 @@ use borrow.Author.Tests.{le-leb, lt-leb}
 use lib.ListN.{length, take, drop}
 use Rattle.refusal.specs.Checks.{Reason, bare, unless}
 use Rattle.area.specs.Area.{attributes, whole, refusal, readOn, reading, answered, refused, areaAnswer, areaBuffer}
-use Rattle.refusal.specs.Same.{sameList}
+use Rattle.slices.specs.Same.{sameList}
 use Rattle.area.specs.declared.Name.the-variants.{Missing}
 
 -- room for 17 is checked first

@@ -2,7 +2,7 @@
 -- Assumes nothing.
 use mathlib.Core.Path.{refl}
 use Rattle.refusal.specs.Checks.{unless}
-use Rattle.refusal.specs.Same.{sameList}
+use Rattle.slices.specs.Same.{sameList}
 use Rattle.area.specs.Area.{inBounds, kdf, zeros, kdfInput, attribute, attributesFrom, attributes, readOn, reading, areaAnswer, areaBuffer}
 use Rattle.area.specs.Cases.{Cases}
 

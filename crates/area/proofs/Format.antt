@@ -10,7 +10,7 @@ use borrow.Author.Tests.{leb-true, eqb-true}
 use lib.ListN.{length, getD, drop, length-drop}
 use lib.Seq.{drop-drop, drop-length}
 use lib.Dec.{leb, ltb, eqb, eqb·suc-zero}
-use Rattle.refusal.proofs.Passing.{and-left, and-right}
+use Rattle.slices.proofs.Truth.{and-left, and-right}
 use Rattle.refusal.specs.Checks.{bare}
 use Rattle.refusal.specs.declared.Refusal.the-variants.{AttributeBounds, KdfLength, KdfInput}
 use Rattle.area.specs.Area.{typeOf, wordsOf, numberIn, inBytes, inBounds, kdf, zeros, wordsFor, padding, kdfInput, attribute, attributesFrom, attributes, whole, refusal, ended, readOn}

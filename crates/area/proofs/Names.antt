@@ -10,7 +10,7 @@ use lib.ListN.{length, getD, drop, drop-of-length-le}
 use lib.Seq.{drop-cons}
 use lib.Dec.{eqb}
 use Rattle.area.specs.Area.{zeros}
-use Rattle.refusal.specs.Same.{sameList}
+use Rattle.slices.specs.Same.{sameList}
 
 zeros-step : (s : List ℕ) (i : ℕ) → i < length s → zeros (drop i s) ≡ (eqb (getD s i 0) 0 && zeros (drop (i + 1) s))
 unfolding zeros

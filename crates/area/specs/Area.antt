@@ -9,7 +9,7 @@ use lib.Dec.{leb, ltb, eqb}
 use Rattle.refusal.specs.Checks.{Reason, bare, Check, pass, refuse, check6}
 use Rattle.refusal.specs.Answers.{reasonOf}
 use Rattle.refusal.specs.declared.Refusal.the-variants.{AttributeBounds, KdfLength, KdfInput}
-use Rattle.refusal.specs.Same.{sameList}
+use Rattle.slices.specs.Same.{sameList}
 use Rattle.area.specs.declared.Attribute.{Attribute}
 use Rattle.area.specs.declared.Attribute.the-variants.{Offer, Named, Other, Faulty}
 use Rattle.area.specs.declared.Words.{Words}

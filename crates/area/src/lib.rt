@@ -6,7 +6,7 @@ ghost use Prim.Native.Nat.{ℕ, _+_, _*_, _^_, _≤_, _<_};
 ghost use lib.ListN.{length, take, drop};
 ghost use Rattle.area.specs.Area.{wordsOf, numberIn, inBytes, inBounds, kdfInput, readOn, attributes, areaAnswerOf, areaAnswer, areaBuffer};
 ghost use Rattle.area.specs.Area;
-ghost use Rattle.refusal.specs.Same.{sameList};
+ghost use Rattle.slices.specs.Same.{sameList};
 ghost use Rattle.area.specs.Steps.{stepOn, stepAt, addedCount, addedOn, walkedCount, walkedAs};
 ghost use Rattle.area.specs.declared.Attribute.{Attribute};
 ghost use Rattle.area.specs.declared.Name.the-variants.{Missing};

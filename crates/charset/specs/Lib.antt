@@ -1,4 +1,3 @@
-pub mod Ascii
 pub mod Bytes
 pub mod Forms
 pub mod Checks

@@ -10,7 +10,8 @@ use lib.ListN.{length, getD}
 use Rattle.refusal.specs.Checks.{Check, pass, refuse, bare, within}
 use Rattle.refusal.specs.Answers.{answerOf}
 use Rattle.refusal.specs.declared.Written.{Written}
-use Rattle.refusal.proofs.Passing.{before-passed, last-passed, test-passed, within-high, and-left, and-right}
+use Rattle.refusal.proofs.Passing.{before-passed, last-passed, test-passed, within-high}
+use Rattle.slices.proofs.Truth.{and-left, and-right}
 use Rattle.keywrap.specs.Calls.{wrappable}
 use Rattle.key_frame.specs.KeyFrame.{keyLengthIn, lengthHolds, frameCheck}
 use Rattle.key_frame.specs.declared.KeyFields.{KeyFields}

@@ -16,7 +16,7 @@ use Rattle.keywrap.specs.Rfc3394.{initialValue, wrapped, unwrappedIv}
 use Rattle.keywrap.specs.Calls.{Bytes}
 use Rattle.keywrap.proofs.Bytes.{bytes-drop}
 use Rattle.keywrap.proofs.Laws.{length-wrapped, unwrap-initial, unwrap-key, length-unwrappedKey, wrap-again}
-use Rattle.refusal.proofs.Same.{same-equal, equal-same}
+use Rattle.slices.proofs.Same.{same-equal, equal-same}
 use Rattle.key_frame.specs.KeyFrame.{fieldsIn, wrappedIn, keyLengthIn, frameCheck}
 use Rattle.key_frame.specs.declared.KeyFields.{KeyFields}
 use Rattle.key_frame.proofs.Frames.{framed, passed-then, test-holds, kind-passes}

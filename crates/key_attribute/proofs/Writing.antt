@@ -11,7 +11,8 @@ use lib.Dec.{eqb}
 use lib.ListN.{length, take, drop, length-append, length-drop}
 use Rattle.refusal.specs.Checks.{pass, unless, _andThen_}
 use Rattle.refusal.specs.Answers.{bufferAfter}
-use Rattle.refusal.proofs.Passing.{and-left, and-right, before-passed, last-passed, test-passed}
+use Rattle.refusal.proofs.Passing.{before-passed, last-passed, test-passed}
+use Rattle.slices.proofs.Truth.{and-left, and-right}
 use Rattle.keywrap.specs.Rfc3394.{wrapped}
 use Rattle.keywrap.specs.Calls.{wrappable, wrapCheck}
 use Rattle.key_frame.specs.KeyFrame.{header, check20}

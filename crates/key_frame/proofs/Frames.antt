@@ -9,9 +9,10 @@ use borrow.Author.Tests.{eqb-true, eqb-false, eq-eqb, le-leb, lt-leb, not-true}
 use lib.Dec.{leb, eqb}
 use lib.ListN.{length, getD}
 use Rattle.refusal.specs.Checks.{Reason, Check, pass, refuse, bare, unless, _andThen_, within}
-use Rattle.refusal.proofs.Passing.{and-left, and-right, within-low, within-high, before-passed, last-passed, test-passed}
-use Rattle.refusal.specs.Same.{sameList}
-use Rattle.refusal.proofs.Same.{same-equal, equal-same}
+use Rattle.refusal.proofs.Passing.{within-low, within-high, before-passed, last-passed, test-passed}
+use Rattle.slices.proofs.Truth.{and-left, and-right}
+use Rattle.slices.specs.Same.{sameList}
+use Rattle.slices.proofs.Same.{same-equal, equal-same}
 use Rattle.keywrap.specs.Rfc3394.{initialValue}
 use Rattle.keywrap.specs.Calls.{wrappable}
 use Rattle.key_frame.specs.KeyFrame.{ivIn, check20, lengthHolds, check25, check26, check27, frameCheck}

@@ -7,7 +7,7 @@ use mathlib.Core.List.{List, [], _∷_, _++_}
 use lib.Dec.{leb, eqb}
 use lib.ListN.{length, take, drop, getD}
 use Rattle.refusal.specs.Checks.{Check, bare, unless, _andThen_}
-use Rattle.refusal.specs.Same.{sameList}
+use Rattle.slices.specs.Same.{sameList}
 use Rattle.keywrap.specs.Rfc3394.{initialValue}
 use Rattle.keywrap.specs.Calls.{wrappable}
 use Rattle.key_frame.specs.declared.KeyFields.{KeyFields}

@@ -4,7 +4,7 @@ ghost use Prim.Native.Nat.{_≤_};
 ghost use lib.ListN.{length, getD};
 ghost use Rattle.refusal.specs.Checks.{_andThen_};
 ghost use Rattle.refusal.specs.Answers.{checkedAs};
-ghost use Rattle.refusal.specs.Same.{sameList};
+ghost use Rattle.slices.specs.Same.{sameList};
 ghost use Rattle.keywrap.specs.Rfc3394.{initialValue};
 ghost use Rattle.keywrap.specs.Calls.{wrappable};
 ghost use Rattle.key_frame.specs.KeyFrame.{check20, lengthHolds, check25, check26, check27, frameCheck};

@@ -15,13 +15,14 @@ use lib.ListN.{length, getD, set, take, drop, length-drop, replicate}
 use lib.Seq.{take-length, drop-length, paste, paste-suc, take-at, drop-at, take-all, drop-drop, length-take-le}
 use Rattle.refusal.specs.Checks.{Reason, Check, pass, refuse, _andThen_, within, check6}
 use Rattle.refusal.specs.Answers.{bufferAfter}
-use Rattle.refusal.proofs.Passing.{and-left, and-right, before-passed, last-passed, test-passed, within-low, within-high}
+use Rattle.refusal.proofs.Passing.{before-passed, last-passed, test-passed, within-low, within-high}
+use Rattle.slices.proofs.Truth.{and-left, and-right}
 use Rattle.aes128.specs.State.{State}
 use Rattle.aes128.specs.Cipher.{cipher, invCipher, eqInvCipher, EqKeys}
 use Rattle.aes128.specs.KeyExpansion.{expandKey}
 use Rattle.aes128.proofs.Equivalent.{equivalent}
 use Rattle.aes128.proofs.Xor.{xor-cancel}
-use Rattle.refusal.specs.Same.{sameList}
+use Rattle.slices.specs.Same.{sameList}
 use Rattle.keywrap.specs.Calls.{wrappable, check23, check28, keyLength, wrapCheck, unwrapCheck}
 use Rattle.keywrap.specs.Rfc3394.{joined, high, low, addCount, initialValue, blockAt, withBlock, Registers, wrapStep, unwrapStep, wrapPass, unwrapPass, wrapPasses, unwrapPasses, keyState, roundKeys, passesOf, wrapRegisters, wrapped, unwrapRegisters, unwrappedIv, unwrappedKey}
 use Rattle.keywrap.proofs.Bytes.{Eight, eight, eight-of}

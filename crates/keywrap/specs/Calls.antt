@@ -6,7 +6,7 @@ use Prim.Native.Nat.{ℕ, _+_, _-_, _%_, _<_}
 use lib.Dec.{eqb}
 use lib.ListN.{getD, length}
 use Rattle.refusal.specs.Checks.{Check, bare, unless, _andThen_, within, check6}
-use Rattle.refusal.specs.Same.{sameList}
+use Rattle.slices.specs.Same.{sameList}
 use Rattle.keywrap.specs.Rfc3394.{initialValue, unwrappedIv}
 
 -- A list of bytes, as every lent slice of bytes is one.

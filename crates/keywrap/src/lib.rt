@@ -20,7 +20,7 @@ ghost use lib.ListN.{length, drop, take, getD};
 ghost use Rattle.refusal.specs.Checks.{_andThen_, check6};
 ghost use Rattle.refusal.specs.Answers.{checkedAs, answerOf, answerTo, bufferAfter};
 ghost use Rattle.aes128.specs.Cipher.{cipher, eqInvCipher};
-ghost use Rattle.refusal.specs.Same.{sameList};
+ghost use Rattle.slices.specs.Same.{sameList};
 ghost use Rattle.keywrap.specs.Calls.{wrappable, check23, check28, wrapCheck, unwrapCheck, keyLength};
 ghost use Rattle.keywrap.specs.Columns.{flat};
 ghost use Rattle.keywrap.specs.Rfc3394.{joined, high as highOf, low as lowOf, addCount, initialValue, wrapPass, unwrapPass, wrapPasses, unwrapPasses, keyState, passesOf, wrapped as wrappedOf, unwrappedIv, unwrappedKey};

@@ -13,12 +13,12 @@ use lib.ListN.{length, getD, drop}
 use lib.Seq.{take-at}
 use Rattle.refusal.specs.Checks.{Reason, Check, pass, refuse, unless, _andThen_, within}
 use Rattle.refusal.proofs.Passing.{before-passed, last-passed, test-passed}
-use Rattle.refusal.specs.Same.{sameList}
+use Rattle.slices.specs.Same.{sameList}
 use Rattle.offers.specs.Rfc5448.{stands, repeats, firstSupported, positionIf, isFirst, renewedList, check10, check11, check13, check14, chooseCheck, answerCheck, renewedCheck}
 use Rattle.offers.specs.Answers.{ask, firstRoundAt, firstRoundTo, firstRound, serverAnswer, serverBuffer, accepted, renewedTo, renewedAnswer}
 use Rattle.offers.specs.Negotiation.{negotiated}
 use Rattle.offers.specs.Statements.{OfferCases, FirstIsFirst, SupportedAsSet, ReplyAfterFirst, UnalteredAccepted, RenewedDetermines}
-use Rattle.refusal.proofs.Same.{same-equal, equal-same}
+use Rattle.slices.proofs.Same.{same-equal, equal-same}
 
 pub offer-cases : OfferCases
 unfolding firstRound serverAnswer serverBuffer renewedAnswer chooseCheck answerCheck renewedCheck stands repeats firstSupported isFirst sameList unless _andThen_ within

@@ -10,7 +10,7 @@ ghost use lib.ListN.{length, drop};
 ghost use Rattle.refusal.specs.Checks.{bare, _andThen_};
 ghost use Rattle.refusal.specs.Checks;
 ghost use Rattle.refusal.specs.Answers.{checkedAs, answerOf};
-ghost use Rattle.refusal.specs.Same.{sameList};
+ghost use Rattle.slices.specs.Same.{sameList};
 ghost use Rattle.offers.specs.Rfc5448.{stands, repeats, firstSupported, isFirst, renewedList, check10, check11, check13, check14};
 ghost use Rattle.offers.specs.Answers.{firstRoundOf, firstRoundTo, firstRound, serverAnswer, serverBuffer, renewedOf, renewedAnswer};
 ghost use Rattle.offers.specs.Negotiation.{valueNamed, negotiated, negotiatedBuffer};

@@ -34,6 +34,28 @@ use Rattle.refusal.specs.declared.Refusal.the-variants.{
   EncType,
   IvField,
   Integrity,
+  KdfInputPadding,
+  NetworkNameDiffers,
+  DomainLabel,
+  LabelSyntax,
+  HandoverKeyLength,
+  IdentifierLength,
+  PacketLength,
+  PacketAttributeBounds,
+  MacAttribute,
+  MacDiffers,
+  BundleCount,
+  BundleContents,
+  BundleEnd,
+  RepeatedKeyId,
+  AkaInputLength,
+  NetworkNameLength,
+  IdentityLength,
+  SlotsFull,
+  NoSuchSlot,
+  ParentNotLive,
+  TooDeep,
+  KeyIdUnlikeContents,
 }
 use Rattle.refusal.specs.declared.Written.{Written}
 use Rattle.refusal.specs.declared.Written.the-variants.{Wrote, Refused}
@@ -70,6 +92,28 @@ numberOf ReservedByte = 25
 numberOf EncType = 26
 numberOf IvField = 27
 numberOf Integrity = 28
+numberOf KdfInputPadding = 29
+numberOf NetworkNameDiffers = 30
+numberOf DomainLabel = 31
+numberOf LabelSyntax = 32
+numberOf HandoverKeyLength = 33
+numberOf IdentifierLength = 34
+numberOf PacketLength = 35
+numberOf PacketAttributeBounds = 36
+numberOf MacAttribute = 37
+numberOf MacDiffers = 38
+numberOf BundleCount = 39
+numberOf BundleContents = 40
+numberOf BundleEnd = 41
+numberOf RepeatedKeyId = 42
+numberOf AkaInputLength = 43
+numberOf NetworkNameLength = 44
+numberOf IdentityLength = 45
+numberOf SlotsFull = 46
+numberOf NoSuchSlot = 47
+numberOf ParentNotLive = 48
+numberOf TooDeep = 49
+numberOf KeyIdUnlikeContents = 50
 
 -- what a refusal returns: its number and nothing else
 abbrev pub reasonOf : Refusal → Reason

@@ -1,44 +1,115 @@
 // Refusals by name and by number, the tests of a call in their order, and the answer of a call that writes (document 01, "Refusal
 // numbers"). Every other crate checks its input with these.
 ghost use mathlib.Core.Path.{_≡_};
-ghost use mathlib.Core.List.{_++_};
-ghost use Prim.Native.Nat.{_≤_};
-ghost use lib.ListN.{length, drop};
+ghost use lib.ListN.{length};
 ghost use Rattle.refusal.specs.Checks.{within, _andThen_, check1, check6};
 ghost use Rattle.refusal.specs.Checks;
 ghost use Rattle.refusal.specs.Answers.{numberOf, reasonOf, checkedAs, answerOf, answerTo, bufferAfter};
 
-// Why a call refuses. A refusal is document 01's term: a numbered answer that leaves every lent buffer as it was. `numberOf` of
-// specs/Answers.antt gives each its number, in this order from 1 on.
+// Why a call refuses. A refusal is document 01's term: a numbered answer that leaves every lent buffer as it was. Each variant has the words of
+// its paper: 1 to 28 those of document 01, 29 to 50 those of document 02, with the request in brackets. No call gives a number of a request
+// that has not landed. `numberOf` of specs/Answers.antt gives each its number.
 pub enum Refusal {
+    // root key (EMSK, VRK, VMSK) not 64 to 128 bytes
     RootKeyLength,
+    // label not 1 to 255 bytes
     LabelLength,
+    // a label byte outside 32 to 126
     LabelByte,
+    // optional data over 2,048 bytes
     DataLength,
+    // key length not 1 to 8,160
     KeyLength,
+    // output buffer too short
     Room,
+    // server ID not 1 to 255 bytes, or a byte of it outside 33 to 126
     ServerId,
+    // domain not 1 to 253 bytes, or a byte not a letter, digit, hyphen or dot
     Domain,
+    // Session-ID not 1 to 255 bytes
     SessionId,
+    // offers not 1 to 16 (1 to 17 when reading an area)
     OfferCount,
+    // an offer value occurs twice
     RepeatedOffer,
+    // no offer is supported
     NoOfferSupported,
+    // reply (on renewal, the choice) equals the first offer
     ReplyIsFirst,
+    // reply (on renewal, the choice) is not among the offers
     ReplyNotOffered,
+    // renewed list is not the choice followed by the original
     RenewedList,
+    // attribute without a length byte, of length 0, or past the area's end
     AttributeBounds,
+    // AT_KDF whose length is not 1
     KdfLength,
+    // AT_KDF_INPUT whose length disagrees with its name length, or whose padding is not zero
     KdfInput,
+    // AT_KDF_INPUT missing or repeated
     NetworkName,
+    // attribute type 0
     AttributeType,
+    // KEK ID or Key ID not 16 bytes
     IdLength,
+    // KEK not 16 bytes
     KekLength,
+    // key to wrap not a multiple of 8 from 16 to 192 bytes
     KeyToWrapLength,
+    // Key attribute of wrong length
     KeyAttributeLength,
+    // reserved byte not zero
     ReservedByte,
+    // Enc Type not 0
     EncType,
+    // IV field not eight bytes A6
     IvField,
+    // unwrapping does not yield the initial value A6 (eight times)
     Integrity,
+    // padding that is not zero (request 1)
+    KdfInputPadding,
+    // a differing name (5)
+    NetworkNameDiffers,
+    // a usage request under the EMSK with the domain label (6)
+    DomainLabel,
+    // a label with a space, a comma, over 64 bytes without an at-sign, or an at-sign that is a second, first or last (7)
+    LabelSyntax,
+    // an rRK not 64 or an R0-Key not 32 bytes (2)
+    HandoverKeyLength,
+    // an identifier of wrong length (2)
+    IdentifierLength,
+    // packet length outside the limits or unlike its header (8)
+    PacketLength,
+    // any attribute shorter than 2 or past the end (8)
+    PacketAttributeBounds,
+    // attribute absent, repeated, not 52 long, reserved not zero, or another MAC Type (8)
+    MacAttribute,
+    // MAC differs (8)
+    MacDiffers,
+    // under two bytes or a wrong count (9)
+    BundleCount,
+    // contents cut short or an offset that is not the previous end (9)
+    BundleContents,
+    // a file not ending with the last body (9)
+    BundleEnd,
+    // repeated Key ID (9)
+    RepeatedKeyId,
+    // CK, IK or SQN of wrong length (11)
+    AkaInputLength,
+    // a name over 1,016 bytes (11)
+    NetworkNameLength,
+    // an identity not 1 to 255 bytes (11)
+    IdentityLength,
+    // full (12)
+    SlotsFull,
+    // no such live slot (12)
+    NoSuchSlot,
+    // parent not live (13)
+    ParentNotLive,
+    // too deep (13)
+    TooDeep,
+    // a Key ID unlike its line (9)
+    KeyIdUnlikeContents,
 }
 
 // What the tests of a call come to: all passed, or the first that did not.
@@ -86,6 +157,28 @@ pub fn number(why: Refusal) -> u32
         Refusal::EncType => 26,
         Refusal::IvField => 27,
         Refusal::Integrity => 28,
+        Refusal::KdfInputPadding => 29,
+        Refusal::NetworkNameDiffers => 30,
+        Refusal::DomainLabel => 31,
+        Refusal::LabelSyntax => 32,
+        Refusal::HandoverKeyLength => 33,
+        Refusal::IdentifierLength => 34,
+        Refusal::PacketLength => 35,
+        Refusal::PacketAttributeBounds => 36,
+        Refusal::MacAttribute => 37,
+        Refusal::MacDiffers => 38,
+        Refusal::BundleCount => 39,
+        Refusal::BundleContents => 40,
+        Refusal::BundleEnd => 41,
+        Refusal::RepeatedKeyId => 42,
+        Refusal::AkaInputLength => 43,
+        Refusal::NetworkNameLength => 44,
+        Refusal::IdentityLength => 45,
+        Refusal::SlotsFull => 46,
+        Refusal::NoSuchSlot => 47,
+        Refusal::ParentNotLive => 48,
+        Refusal::TooDeep => 49,
+        Refusal::KeyIdUnlikeContents => 50,
     }
 }
 
@@ -131,18 +224,6 @@ pub fn check_room(n: usize, room: usize) -> Checked
     unless(n <= room, Refusal::Room)
 }
 
-// Copies bytes to the start of out.
-fn copy(bytes: &[u8], out: &mut [u8])
-    requires { ⌜ length (now bytes) ≤ length (now out) ⌝ }
-    ensures { λ _. ⌜ now (out .exit) ≡ now (bytes .entry) ++ drop (length (now (bytes .entry))) (now (out .entry)) ⌝ }
-{
-    let mut j = 0;
-    while j < bytes.len() {
-        out[j] = bytes[j];
-        j += 1;
-    }
-}
-
 // The answer of a call whose result is at hand, by its tests and then that of the room: the bytes go to the start of out, or nothing does.
 pub fn put(check: Checked, bytes: &[u8], out: &mut [u8]) -> Written
     ensures answer { λ r. ⌜ answerOf r ≡ answerTo (checkedAs check andThen check6 (length (now (bytes .entry))) (length (now (out .entry)))) (length (now (bytes .entry))) ⌝ }
@@ -153,7 +234,7 @@ pub fn put(check: Checked, bytes: &[u8], out: &mut [u8]) -> Written
     match all {
         Checked::Failed(reason) => Written::Refused(reason),
         Checked::Passed => {
-            copy(bytes, out);
+            bytes::copy(bytes, out);
             Written::Wrote(n)
         }
     }

@@ -6,7 +6,7 @@ use Prim.Native.Nat.{ℕ, zero, suc, _+_, _-_, _*_, _%_, _<_, _≤_}
 use native.Mathlib.Nat.{add-zero, zero-add, add-suc, suc-add, le-of-suc-le-suc, not-suc-le-zero}
 use native.Mathlib.Omega.{arith}
 use lib.ListN.{length, getD, set}
-use Rattle.lookup.proofs.Filled.{filled-of}
+use Rattle.tables.proofs.Filled.{filled-of}
 use Rattle.sha256_block.specs.Fips180.{K, W, round, rounds, sums, compress}
 use Rattle.sha256_block.specs.Steps.{window, runs, ConstantsFrom}
 

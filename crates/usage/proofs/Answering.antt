@@ -7,7 +7,7 @@ use Rattle.refusal.specs.Checks.{Check, _andThen_, check1, check6}
 use Rattle.refusal.specs.Answers.{Answer, answerTo, bufferAfter}
 use Rattle.refusal.proofs.Passing.{then-assoc}
 use Rattle.charset.specs.Checks.{labelCheck}
-use Rattle.prf.specs.PrfPlus.{check5, expandCheck}
+use Rattle.prf_plus.specs.PrfPlus.{check5, expandCheck}
 use Rattle.usage.specs.Rfc5295.{check4}
 use Rattle.usage.specs.Requests.{Request, forUsage, checkOf, lengthOf, keyOf, requestAnswer, requestBuffer}
 

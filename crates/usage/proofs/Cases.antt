@@ -3,8 +3,8 @@
 use Prim.Native.Nat.{ℕ}
 use mathlib.Core.Path.{_≡_, refl}
 use mathlib.Core.List.{[], _∷_}
-use Rattle.charset.specs.Ascii.{ascii}
-use Rattle.prf.specs.PrfPlus.{inputAfter, block, blockInput}
+use Rattle.slices.specs.Ascii.{ascii}
+use Rattle.prf_plus.specs.PrfPlus.{inputAfter, block, blockInput}
 use Rattle.usage.specs.Rfc5295.{usageText}
 use Rattle.usage.specs.Requests.{forUsage, textOf, inputOf}
 use Rattle.usage.specs.Statements.{UsageCases}

@@ -7,13 +7,13 @@ use mathlib.Core.List.{List, [], _∷_, _++_}
 use lib.ListN.{length, take, replicate}
 use Rattle.refusal.specs.Checks.{refuse, bare, unless, _andThen_, within}
 use Rattle.refusal.proofs.Passing.{then-pass}
-use Rattle.charset.specs.Ascii.{ascii}
+use Rattle.slices.specs.Ascii.{ascii}
 use Rattle.charset.specs.Bytes.{every, labelByte}
 use Rattle.charset.specs.Checks.{labelCheck}
 use Rattle.hmac.specs.Rfc2104.{hmacSha256}
 use Rattle.hmac.proofs.Laws.{hmacSha256-length}
-use Rattle.prf.specs.PrfPlus.{blockCount, block, blocks, prfPlus}
-use Rattle.prf.proofs.Laws.{count-le, block-of-input, first-input, later-input, prfPlus-length}
+use Rattle.prf_plus.specs.PrfPlus.{blockCount, block, blocks, prfPlus}
+use Rattle.prf_plus.proofs.Laws.{count-le, block-of-input, first-input, later-input, prfPlus-length}
 use Rattle.usage.specs.Requests.{Request, forUsage, forVrk, lengthOf, checkOf, Accepted, vrkLabel, textOf, inputOf, keyOf}
 use Rattle.usage.specs.Statements.{VrkIsUsage}
 use Rattle.usage.proofs.Accepting.{sound}

@@ -8,12 +8,12 @@ use mathlib.Core.List.{List, [], _∷_, _++_}
 use native.Mathlib.Nat.{not-suc-le-zero}
 use native.Mathlib.Omega.{arith}
 use Rattle.refusal.specs.Checks.{within}
-use Rattle.refusal.proofs.Passing.{and-left, and-right}
+use Rattle.slices.proofs.Truth.{and-left, and-right}
 use Rattle.charset.specs.Bytes.{every, labelByte}
 use Rattle.hmac.specs.Rfc2104.{hmacSha256}
 use Rattle.hmac.proofs.Laws.{hmacSha256-length}
-use Rattle.prf.proofs.Lists.{cancel-back}
-use Rattle.prf.proofs.Laws.{input-apart}
+use Rattle.prf_plus.proofs.Lists.{cancel-back}
+use Rattle.prf_plus.proofs.Laws.{input-apart}
 use Rattle.usage.specs.Rfc5295.{usageText}
 use Rattle.usage.specs.Requests.{labelOf, dataOf, lengthOf, textOf, inputOf}
 use Rattle.usage.specs.Statements.{Separated}

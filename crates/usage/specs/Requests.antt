@@ -7,10 +7,10 @@ use mathlib.Core.List.{List, []}
 use mathlib.Core.Path.{_≡_}
 use Rattle.refusal.specs.Checks.{Check, pass, _andThen_, check1, check6}
 use Rattle.refusal.specs.Answers.{Answer, answerTo, bufferAfter}
-use Rattle.charset.specs.Ascii.{ascii}
+use Rattle.slices.specs.Ascii.{ascii}
 use Rattle.charset.specs.Checks.{labelCheck}
 use Rattle.hmac.specs.Rfc2104.{hmacSha256}
-use Rattle.prf.specs.PrfPlus.{blockCount, blockInput, prfPlus, check5}
+use Rattle.prf_plus.specs.PrfPlus.{blockCount, blockInput, prfPlus, check5}
 use Rattle.usage.specs.Rfc5295.{usageText, check4}
 
 -- the label of a VRK (source document 001, section 4.1)

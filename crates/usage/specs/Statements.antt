@@ -5,7 +5,7 @@ use Prim.Native.Nat.{ℕ}
 use mathlib.Core.Path.{_≡_}
 use mathlib.Core.Logic.{_↔_}
 use mathlib.Core.List.{List, [], _∷_}
-use Rattle.charset.specs.Ascii.{ascii}
+use Rattle.slices.specs.Ascii.{ascii}
 use Rattle.usage.specs.Requests.{Request, forUsage, forVrk, labelOf, dataOf, lengthOf, Accepted, BlockOf, vrkLabel, textOf, inputOf, keyOf}
 
 -- Demand 3: for any EMSK, any two requests accepted under it and any block of each, the bytes handed to HMAC are equal exactly when

@@ -49,5 +49,5 @@ pub fn usage_key<'a>(
 {
     let check = check_inputs(emsk, label, data);
     let size = two_bytes(n);
-    prf::expand(check, emsk, label, &[0], data, &size, n, out)
+    prf_plus::expand(check, emsk, label, &[0], data, &size, n, out)
 }

@@ -7,7 +7,7 @@ use Rattle.refusal.specs.Checks.{Check, unless, _andThen_, within, check1, chec
 use Rattle.refusal.specs.Answers.{Answer, answerTo, bufferAfter}
 use Rattle.charset.specs.Checks.{check7, check8}
 use Rattle.hmac.specs.Rfc2104.{hmacSha256}
-use Rattle.prf.specs.PrfPlus.{prfPlus, expandCheck}
+use Rattle.prf_plus.specs.PrfPlus.{prfPlus, expandCheck}
 use Rattle.usage.specs.Requests.{forVrk, checkOf}
 use Rattle.visited.specs.Visited.{vmskText, vmskCheck, vmskKey, reauthCheck}
 

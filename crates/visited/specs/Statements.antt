@@ -5,7 +5,7 @@ use mathlib.Core.Path.{_≡_}
 use mathlib.Core.Logic.{_↔_}
 use mathlib.Core.List.{List}
 use Rattle.refusal.specs.Checks.{pass}
-use Rattle.charset.specs.Ascii.{ascii}
+use Rattle.slices.specs.Ascii.{ascii}
 use Rattle.visited.specs.Visited.{vmskText, vmskCheck, vmskKey}
 
 -- two accepted VMSK requests under one VRK with equal domains have equal S exactly when their server IDs are equal

@@ -4,10 +4,10 @@
 use Prim.Native.Nat.{ℕ}
 use mathlib.Core.List.{List, _++_}
 use Rattle.refusal.specs.Checks.{Check, _andThen_, check1, check6}
-use Rattle.charset.specs.Ascii.{ascii}
+use Rattle.slices.specs.Ascii.{ascii}
 use Rattle.charset.specs.Checks.{check7, check8}
 use Rattle.hmac.specs.Rfc2104.{hmacSha256}
-use Rattle.prf.specs.PrfPlus.{prfPlus}
+use Rattle.prf_plus.specs.PrfPlus.{prfPlus}
 
 -- the text S of a VMSK: server ID then domain, with no length
 unfoldable pub vmskText : List ℕ → List ℕ → List ℕ

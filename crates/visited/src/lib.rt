@@ -17,7 +17,7 @@ pub fn visited_root_key(emsk: &[u8], out: &mut [u8]) -> Written
 {
     let check = refusal::check_root_key(emsk);
     let label = b"EAP Visited domain Root Key";
-    prf::expand(check, emsk, label, &[0], b"", &[0, 64], 64, out)
+    prf_plus::expand(check, emsk, label, &[0], b"", &[0, 64], 64, out)
 }
 
 // The tests of a VMSK request before the expansion's: 1, 7, 8.
@@ -41,7 +41,7 @@ pub fn visited_master_key<'a>(
     ensures buffer { λ _. ⌜ now (out .exit) ≡ bufferAfter (vmskCheck (now (vrk .entry)) (now (server .entry)) (now (domain .entry)) (length (now (out .entry)))) 64 (vmskKey (now (vrk .entry)) (now (server .entry)) (now (domain .entry))) (now (out .entry)) ⌝ }
 {
     let check = check_visited(vrk, server, domain);
-    prf::expand(check, vrk, server, domain, b"", b"", 64, out)
+    prf_plus::expand(check, vrk, server, domain, b"", b"", 64, out)
 }
 
 // The V-rRK: its S is the label alone.
@@ -51,5 +51,5 @@ pub fn visited_reauth_key(vmsk: &[u8], out: &mut [u8]) -> Written
 {
     let check = refusal::check_root_key(vmsk);
     let label = b"EAP Re-authentication Root Key";
-    prf::expand(check, vmsk, label, b"", b"", b"", 64, out)
+    prf_plus::expand(check, vmsk, label, b"", b"", b"", 64, out)
 }

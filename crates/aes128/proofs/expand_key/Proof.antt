@@ -7,7 +7,7 @@ use native.Mathlib.Omega.{arith}
 use lib.ListN.{length, getD, length-set}
 use Rattle.aes128.specs.State.{State}
 use Rattle.aes128.specs.KeyExpansion.{rcon, roundKey}
-use Rattle.lookup.proofs.Filled.{filled}
+use Rattle.tables.proofs.Filled.{filled}
 use Rattle.aes128.proofs.Rounds.{at-zero, next-step, constant-step, expanded}
 use borrow.Author.Needs.{needs}
 use Rattle.aes128.proofs.expand_key.Statement.{statement}

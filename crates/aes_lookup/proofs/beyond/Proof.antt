@@ -6,7 +6,7 @@ use Prim.Native.Nat.{ℕ, _≤_}
 use native.Mathlib.Omega.{arith}
 use lib.ListN.{length, getD}
 use Rattle.aes_sbox.specs.Tables.{sbox, invSbox}
-use Rattle.lookup.proofs.Table.{beyond-end}
+use Rattle.tables.proofs.Table.{beyond-end}
 use Rattle.aes_lookup.proofs.beyond.Statement.{statement}
 use Rattle.aes_lookup.proofs.beyond.Tie as tie
 

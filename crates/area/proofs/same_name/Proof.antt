@@ -5,8 +5,8 @@ use mathlib.Core.Path.{_≡_, refl}
 use mathlib.Core.Bool.{_&&_}
 use native.Mathlib.Omega.{arith}
 use lib.ListN.{length, drop}
-use Rattle.refusal.specs.Same.{sameList}
-use Rattle.refusal.proofs.Same.{lengths-differ}
+use Rattle.slices.specs.Same.{sameList}
+use Rattle.slices.proofs.Same.{lengths-differ}
 use Rattle.area.proofs.Names.{same-on, same-end}
 use Rattle.area.proofs.same_name.Statement.{statement}
 use Rattle.area.proofs.same_name.Tie as tie

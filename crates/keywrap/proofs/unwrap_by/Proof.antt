@@ -1,6 +1,6 @@
 -- `keywrap::unwrap_by` meets its contract, by the two outcomes of the integrity check: the buffer is written in one of them alone.
 -- Assumes nothing.
-use Rattle.refusal.specs.Same.{sameList}
+use Rattle.slices.specs.Same.{sameList}
 use Rattle.keywrap.specs.Rfc3394.{initialValue, unwrappedKey}
 use Rattle.keywrap.specs.Calls.{keyLength}
 use Rattle.keywrap.proofs.Parts.{released}

@@ -6,8 +6,8 @@ use native.Mathlib.Omega.{arith}
 use borrow.Author.Needs.{needs}
 use denote.Ref.{now}
 use lib.ListN.{length, drop}
-use Rattle.refusal.specs.Same.{sameList}
-use Rattle.refusal.proofs.Same.{lengths-differ}
+use Rattle.slices.specs.Same.{sameList}
+use Rattle.slices.proofs.Same.{lengths-differ}
 use Rattle.offers.proofs.Lists.{same-on, same-differ, same-done}
 use Rattle.offers.proofs.same.Statement.{statement}
 use Rattle.offers.proofs.same.Tie as tie

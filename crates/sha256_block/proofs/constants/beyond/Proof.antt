@@ -1,7 +1,7 @@
 -- `sha256_block::constants::beyond` meets its contract: there are 64 constants, and past the end a look-up gives 0.
 -- Assumes nothing.
 use native.Mathlib.Omega.{arith}
-use Rattle.lookup.proofs.Table.{beyond-end}
+use Rattle.tables.proofs.Table.{beyond-end}
 use Rattle.sha256_block.specs.Fips180.{K}
 use Rattle.sha256_block.proofs.constants.beyond.Statement.{statement}
 use Rattle.sha256_block.proofs.constants.beyond.Tie as tie

@@ -1,0 +1,27 @@
+-- `prf_plus::check_expand` meets its contract.
+-- Assumes nothing.
+use Rattle.prf_plus.specs.PrfPlus.{expandCheck}
+use borrow.Author.Needs.{needs}
+use Rattle.prf_plus.proofs.check_expand.Statement.{statement}
+use Rattle.prf_plus.proofs.check_expand.Tie as tie
+
+in-range-requires : tie.Need-in-range-requires
+in-range-requires c κs = search needs
+
+unless-requires : tie.Need-unless-requires
+unless-requires c κs = search needs
+
+check-room-requires : tie.Need-check-room-requires
+check-room-requires c κs = search needs
+
+then-check-requires : tie.Need-then-check-requires
+then-check-requires c κs = search needs
+
+returns : tie.Need-returns
+unfolding expandCheck
+returns c = rw (c .then-check .ensures, c .before .before .unless .ensures, c .before .check-room .ensures, c .before .before .before .in-range .ensures)
+
+pub check-expand-spec : {M : Type 1} → statement M
+check-expand-spec =
+    tie.close
+    (tie.spec in-range-requires unless-requires check-room-requires then-check-requires returns)

@@ -1,0 +1,62 @@
+-- `prf_plus::expand` meets its contract.
+-- Assumes nothing.
+use Prim.Native.Nat.{ℕ, _≤_}
+use mathlib.Core.Path.{_≡_, refl, ap}
+use denote.Ref.{now}
+use lib.ListN.{length}
+use Rattle.refusal.specs.Checks.{Check, pass, _andThen_}
+use Rattle.refusal.specs.Answers.{checkedAs}
+use Rattle.refusal.proofs.Passing.{last-passed}
+use Rattle.prf_plus.specs.PrfPlus.{expandCheck}
+use Rattle.prf_plus.proofs.Accepted.{expand-passed, all-tests}
+use borrow.Author.Needs.{needs}
+use Rattle.prf_plus.proofs.expand.Statement.{statement}
+use Rattle.prf_plus.proofs.expand.Tie as tie
+
+check-expand-requires : tie.Need-check-expand-requires
+check-expand-requires c κs = search needs
+
+then-check-requires : tie.Need-then-check-requires
+then-check-requires c κs = search needs
+
+enum-known-why : tie.Need-enum-known-why
+enum-known-why c = search needs
+
+enum-told : tie.Need-enum-told
+enum-told c = search needs
+
+-- where the call's tests pass, those of the expansion do
+fits : (first : Check) (n room : ℕ) → (first andThen expandCheck n room) ≡ pass → (n ≤ 8160) × (n ≤ room)
+fits first n room e = let b = expand-passed n room (last-passed first _ e) in (b .most, b .fits)
+
+fill-requires : tie.Need-fill-requires
+fill-requires c κs =
+    let k = c .before .before .before in
+    let s = k .before .before .before .before .before .before .before .before .args in
+    fits (checkedAs (s .check)) (s .n) (length (now (s .out))) (all-tests _ (k .then-check .ensures) (k .before .check-expand .ensures) (ap checkedAs (c .before .enum-told .given .1)))
+
+returns : tie.Need-returns
+returns c =
+    let k = c .before .before .before in
+    rw (all-tests _ (k .then-check .ensures) (k .before .check-expand .ensures) (ap checkedAs (c .before .why .given .1))) (refl, refl)
+
+same-length : tie.Need-same-length
+same-length c = search needs
+
+returns-2 : tie.Need-returns-2
+returns-2 c =
+    let k = c .before .before .before .before .before .before in
+    rw (all-tests _ (k .then-check .ensures) (k .before .check-expand .ensures) (ap checkedAs (c .before .before .before .before .enum-told .given .1))) (refl, c .before .before .fill .ensures)
+
+pub expand-spec : {M : Type 1} → statement M
+expand-spec =
+    tie.close
+    (tie.spec
+    check-expand-requires
+    then-check-requires
+    enum-known-why
+    enum-told
+    fill-requires
+    returns
+    same-length
+    returns-2)

@@ -1,0 +1,58 @@
+-- `slices::same_bytes` meets its contract. The loop's invariant: the lists are equal exactly if the elements compared so far are and the rest is.
+-- Assumes nothing.
+use Prim.Native.Nat.{_≤_, _-_}
+use mathlib.Core.Path.{_≡_, refl}
+use mathlib.Core.Bool.{_&&_}
+use native.Mathlib.Omega.{arith}
+use lib.ListN.{length, drop}
+use Rattle.slices.specs.Same.{sameList}
+use Rattle.slices.proofs.Same.{lengths-differ, same-on, same-end}
+use Rattle.slices.proofs.same_bytes.Statement.{statement}
+use Rattle.slices.proofs.same_bytes.Tie as tie
+
+abbrev Inv-loop : tie.InvT-loop
+Inv-loop a b same₀ i₀ same i = (i ≤ length a) × (sameList a b ≡ (same && sameList (drop i a) (drop i b)))
+
+abbrev μ-loop : tie.MeasureT-loop
+μ-loop a b same₀ i₀ same i = length a - i
+
+returns : tie.Need-returns Inv-loop μ-loop
+returns c = lengths-differ _ _ (c .if1 .taken)
+
+loop-holds : tie.Need-loop-holds Inv-loop μ-loop
+loop-holds c = (omega arith, refl)
+
+shared-slice-read-same : tie.Need-shared-slice-read-same Inv-loop μ-loop
+shared-slice-read-same c = omega arith
+
+shared-slice-read-same-2 : tie.Need-shared-slice-read-same-2 Inv-loop μ-loop
+shared-slice-read-same-2 c = omega arith
+
+add-i : tie.Need-add-i Inv-loop μ-loop
+add-i c = omega arith
+
+loop-less : tie.Need-loop-less Inv-loop μ-loop
+loop-less c = omega arith
+
+loop-again : tie.Need-loop-again Inv-loop μ-loop
+loop-again c =
+    let l = c .before .before .before .loop in
+    (omega arith, same-on _ _ (l .i) (l .same) (l .inv .1) (omega arith) (omega arith))
+
+returns-2 : tie.Need-returns-2 Inv-loop μ-loop
+returns-2 c = let l = c .before .loop in same-end _ _ (l .i) (l .same) (l .inv .1) (omega arith) (omega arith)
+
+pub same-bytes-spec : {M : Type 1} → statement M
+same-bytes-spec =
+    tie.close
+    (tie.spec
+    Inv-loop
+    μ-loop
+    returns
+    loop-holds
+    shared-slice-read-same
+    shared-slice-read-same-2
+    add-i
+    loop-less
+    loop-again
+    returns-2)
