@@ -7,7 +7,7 @@ use native.Mathlib.Omega.{arith}
 use borrow.Author.Needs.{needs}
 use denote.Ref.{now}
 use lib.ListN.{length, take, drop, replicate}
-use Rattle.refusal.proofs.Copying.{copied-more}
+use Rattle.slices.proofs.Lists.{copy-turn}
 use Rattle.key_attribute.proofs.Parts.{all-sixteen}
 use Rattle.key_attribute.proofs.sixteen.Statement.{statement}
 use Rattle.key_attribute.proofs.sixteen.Tie as tie
@@ -38,7 +38,7 @@ loop-again c =
     let s = now (c .before .before .before .args .s) in
     let l = c .before .before .loop in
     let hs : l .j < length s = omega arith in
-    (omega arith, l .inv .1, rw (l .inv .2) (copied-more (replicate 16 0) s (l .j) (omega arith) hs))
+    (omega arith, l .inv .1, copy-turn (replicate 16 0) s (l .j) 0 (l .inv .2) (omega arith) hs)
 
 returns : tie.Need-returns Inv-loop μ-loop
 returns c =

@@ -49,7 +49,7 @@ loop-again c =
     let a = c .before .before .before .before .before .before .args in
     let hd : l .j < length (now (a .out)) = omega arith in
     let hs : l .j < length (now (a .s)) = omega arith in
-    (omega arith, l .jnv .1, l .jnv .2, simp length-set (l .jnv .3), copy-turn (now (a .out)) (now (a .s)) (l .j) 0 (l .jnv .4) hd hs)
+    (omega arith, l .inv .1, l .inv .2, simp length-set (l .inv .3), copy-turn (now (a .out)) (now (a .s)) (l .j) 0 (l .inv .4) hd hs)
 
 same-length : tie.Need-same-length Inv-loop μ-loop
 same-length c = omega arith
@@ -59,7 +59,7 @@ returns c =
     let l = c .before .loop in
     let a = c .before .before .before .before .before .args in
     let n : l .j ≡ c .before .before .least .result = omega arith in
-    l .jnv .4 ∙ copied-all (now (a .out)) (now (a .s)) (l .j) (n ∙ c .before .before .least .ensures)
+    l .inv .4 ∙ copied-all (now (a .out)) (now (a .s)) (l .j) (n ∙ c .before .before .least .ensures)
 
 pub copy-values-spec : {M : Type 1} → statement M
 copy-values-spec =
