@@ -102,7 +102,7 @@ fn check_kek(kek: &[u8]) -> Checked
 fn check_key_length(n: usize) -> Checked
     ensures { λ r. ⌜ checkedAs r ≡ check23 n ⌝ }
 {
-    unless(key_frame::is_wrappable(n), Refusal::KeyToWrapLength)
+    unless(keywrap::is_wrappable(n), Refusal::KeyToWrapLength)
 }
 
 // The tests of the writer, in their order.

@@ -6,11 +6,10 @@ ghost use Rattle.refusal.specs.Checks.{_andThen_};
 ghost use Rattle.refusal.specs.Answers.{checkedAs};
 ghost use Rattle.slices.specs.Same.{sameList};
 ghost use Rattle.keywrap.specs.Rfc3394.{initialValue};
-ghost use Rattle.keywrap.specs.Calls.{wrappable};
 ghost use Rattle.key_frame.specs.KeyFrame.{check20, lengthHolds, check25, check26, check27, frameCheck};
+use keywrap::is_wrappable;
 use refusal::Checked;
 use refusal::Refusal;
-use refusal::in_range;
 use refusal::then_check;
 use refusal::unless;
 
@@ -21,13 +20,6 @@ pub struct KeyFields {
     pub kek_id: [u8; 16],
     pub key_id: [u8; 16],
     pub lifetime: u32,
-}
-
-// Whether a key of n bytes can be wrapped: a multiple of 8 from 16 to 192.
-pub fn is_wrappable(n: usize) -> bool
-    ensures { λ r. ⌜ r ≡ wrappable n ⌝ }
-{
-    in_range(16, 192, n) & (n % 8 == 0)
 }
 
 // A byte as a count.

@@ -244,8 +244,8 @@ fn passes(kek: [u8; 16], back: bool, a: [[u8; 4]; 2], b: &mut [u8]) -> [[u8; 4];
     }
 }
 
-// Whether the key of n bytes can be wrapped.
-fn can_wrap(n: usize) -> bool
+// Whether a key of n bytes can be wrapped: a multiple of 8 from 16 to 192.
+pub fn is_wrappable(n: usize) -> bool
     ensures { λ r. ⌜ r ≡ wrappable n ⌝ }
 {
     in_range(16, 192, n) & (n % 8 == 0)
@@ -255,7 +255,7 @@ fn can_wrap(n: usize) -> bool
 fn check_wrap(n: usize, room: usize) -> Checked
     ensures { λ r. ⌜ checkedAs r ≡ wrapCheck n room ⌝ }
 {
-    let length = unless(can_wrap(n), Refusal::KeyToWrapLength);
+    let length = unless(is_wrappable(n), Refusal::KeyToWrapLength);
     match length {
         Checked::Failed(why) => Checked::Failed(why),
         Checked::Passed => check_room(n + 8, room),
@@ -299,7 +299,7 @@ fn key_length(n: usize) -> usize
 fn check_unwrap(n: usize, room: usize) -> Checked
     ensures { λ r. ⌜ checkedAs r ≡ (check23 n andThen check6 n room) ⌝ }
 {
-    let length = unless(can_wrap(n), Refusal::KeyToWrapLength);
+    let length = unless(is_wrappable(n), Refusal::KeyToWrapLength);
     then_check(length, check_room(n, room))
 }
 

@@ -7,8 +7,8 @@ use borrow.Author.Needs.{needs}
 use Rattle.keywrap.proofs.check_unwrap.Statement.{statement}
 use Rattle.keywrap.proofs.check_unwrap.Tie as tie
 
-can-wrap-requires : tie.Need-can-wrap-requires
-can-wrap-requires c κs = search needs
+is-wrappable-requires : tie.Need-is-wrappable-requires
+is-wrappable-requires c κs = search needs
 
 unless-requires : tie.Need-unless-requires
 unless-requires c κs = search needs
@@ -22,10 +22,10 @@ then-check-requires c κs = search needs
 returns : tie.Need-returns
 returns c =
     c .then-check .ensures
-    ∙ ap₂ _andThen_ (c .before .before .unless .ensures ∙ ap (λ (b : Bool). unless b (bare 23)) (c .before .before .before .can-wrap .ensures))
+    ∙ ap₂ _andThen_ (c .before .before .unless .ensures ∙ ap (λ (b : Bool). unless b (bare 23)) (c .before .before .before .is-wrappable .ensures))
     (c .before .check-room .ensures)
 
 pub check-unwrap-spec : {M : Type 1} → statement M
 check-unwrap-spec =
     tie.close
-    (tie.spec can-wrap-requires unless-requires check-room-requires then-check-requires returns)
+    (tie.spec is-wrappable-requires unless-requires check-room-requires then-check-requires returns)

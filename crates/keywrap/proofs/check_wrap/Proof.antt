@@ -11,8 +11,8 @@ use borrow.Author.Needs.{needs}
 use Rattle.keywrap.proofs.check_wrap.Statement.{statement}
 use Rattle.keywrap.proofs.check_wrap.Tie as tie
 
-can-wrap-requires : tie.Need-can-wrap-requires
-can-wrap-requires c κs = search needs
+is-wrappable-requires : tie.Need-is-wrappable-requires
+is-wrappable-requires c κs = search needs
 
 unless-requires : tie.Need-unless-requires
 unless-requires c κs = search needs
@@ -26,7 +26,7 @@ enum-told c = search needs
 add-check-room : tie.Need-add-check-room
 add-check-room c =
     let k = c .before .before in
-    let e = sym (k .unless .ensures ∙ ap (λ (b : Bool). unless b (bare 23)) (k .before .can-wrap .ensures)) ∙ ap checkedAs (c .enum-told .given .1) in
+    let e = sym (k .unless .ensures ∙ ap (λ (b : Bool). unless b (bare 23)) (k .before .is-wrappable .ensures)) ∙ ap checkedAs (c .enum-told .given .1) in
     let h : k .before .before .args .n ≤ 192 = passed-high _ e in
     omega arith
 
@@ -37,20 +37,20 @@ returns : tie.Need-returns
 returns c =
     let k = c .before .before .before in
     wrap-refused (k .before .before .args .n) (k .before .before .args .room) _
-    (sym (ap checkedAs (c .before .length .given .1)) ∙ k .unless .ensures ∙ ap (λ (b : Bool). unless b (bare 23)) (k .before .can-wrap .ensures))
+    (sym (ap checkedAs (c .before .length .given .1)) ∙ k .unless .ensures ∙ ap (λ (b : Bool). unless b (bare 23)) (k .before .is-wrappable .ensures))
 
 returns-2 : tie.Need-returns-2
 returns-2 c =
     let k = c .before .before .before in
     wrap-passed (k .before .before .args .n) (k .before .before .args .room) _
-    (sym (ap checkedAs (c .before .enum-told .given .1)) ∙ k .unless .ensures ∙ ap (λ (b : Bool). unless b (bare 23)) (k .before .can-wrap .ensures))
+    (sym (ap checkedAs (c .before .enum-told .given .1)) ∙ k .unless .ensures ∙ ap (λ (b : Bool). unless b (bare 23)) (k .before .is-wrappable .ensures))
     (c .check-room .ensures)
 
 pub check-wrap-spec : {M : Type 1} → statement M
 check-wrap-spec =
     tie.close
     (tie.spec
-    can-wrap-requires
+    is-wrappable-requires
     unless-requires
     enum-known-length
     enum-told

@@ -1,4 +1,4 @@
--- `keywrap::can_wrap` meets its contract.
+-- `keywrap::is_wrappable` meets its contract.
 -- Assumes nothing.
 use Prim.Native.Nat.{_%_}
 use mathlib.Core.Path.{ap}
@@ -6,8 +6,8 @@ use mathlib.Core.Bool.{Bool, _&&_}
 use lib.Dec.{eqb}
 use Rattle.keywrap.specs.Calls.{wrappable}
 use borrow.Author.Needs.{needs}
-use Rattle.keywrap.proofs.can_wrap.Statement.{statement}
-use Rattle.keywrap.proofs.can_wrap.Tie as tie
+use Rattle.keywrap.proofs.is_wrappable.Statement.{statement}
+use Rattle.keywrap.proofs.is_wrappable.Tie as tie
 
 in-range-requires : tie.Need-in-range-requires
 in-range-requires c κs = search needs
@@ -16,5 +16,5 @@ returns : tie.Need-returns
 unfolding wrappable
 returns c = ap (λ (b : Bool). b && eqb (c .before .args .n % 8) 0) (c .in-range .ensures)
 
-pub can-wrap-spec : {M : Type 1} → statement M
-can-wrap-spec = tie.close (tie.spec in-range-requires returns)
+pub is-wrappable-spec : {M : Type 1} → statement M
+is-wrappable-spec = tie.close (tie.spec in-range-requires returns)
