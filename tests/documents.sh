@@ -1,7 +1,7 @@
 #!/usr/bin/env bash
 # Checks that what the documents name exists. Of the words in backticks in README.md and docs/*.md these are looked up:
 #   usage/specs/Lib.antt, tests/run    a file or folder, from the root of the checkout, from crates/ or from docs/
-#   Separated                          after an .antt file in the same paragraph: a name in that file
+#   Separated                          right after an .antt file, or after another such name: a name in that file
 #   usage/no_zero_byte                 a crate's must-fail edit
 #   usage::usage_key                   a function of a crate
 #   kv_usage_key                       a call of the header
@@ -10,37 +10,37 @@ set -u
 cd "$(dirname "$0")/.." && . tools/common.sh || exit 1
 shopt -s lastpipe # so that what is counted at the end of a pipe is kept
 
-# words FILE: the number of the line and the word, for each word in backticks outside of a block of code; a line 0 - at each paragraph
+# words FILE: each word in backticks outside of a block of code, and the .antt file that it follows or -
 words() {
-    awk '/^    / { next } /^ *(- |[|#]|$)/ { print 0, "-" }
-        { n = split($0, parts, "`"); for (i = 2; i <= n; i += 2) if (parts[i] !~ /[ "]/) print FNR, parts[i] }' "$1"
+    awk '/^    / { next } { text = text " " $0 }
+        END {
+            n = split(text, parts, "`")
+            for (i = 2; i <= n; i += 2) {
+                file = parts[i - 1] ~ /^,?( and)? *$/ ? last : "-"
+                if (parts[i] !~ /[ "]/) print parts[i], file
+                last = parts[i] ~ /\.antt$/ ? parts[i] : file
+            }
+        }' "$1"
 }
 
-is_path() { [ -e "$1" ] || [ -e "crates/$1" ] || [ -e "docs/$1" ]; }
-is_edit() { [ -e "crates/${1%%/*}/must-fail/${1#*/}.edit" ] && passed=$((passed + 1)); }
+is_there() { [ -e "$1" ] || [ -e "crates/$1" ] || [ -e "docs/$1" ] || [ -e "crates/${1%%/*}/must-fail/${1#*/}.edit" ]; }
 is_function() { grep -qE "fn ${1##*::}[(<]" "crates/${1%%::*}/src/"*.rt 2>/dev/null; }
-is_call() { calls_of_header | grep -qx "$1"; }
-is_name() { grep -qwF -- "$1" "$2"; }
-calls_of_header() { awk -f tools/header.awk include/ketvaulo.h | cut -d ' ' -f 1; }
+is_call() { awk -f tools/header.awk include/ketvaulo.h | cut -d ' ' -f 1 | grep -qx "$1"; }
+is_in() { grep -qwF -- "$1" "$2" 2>/dev/null; }
 
-# look_up WHERE WORD FILE: checks a word that is of one of the kinds above; FILE is the .antt file before it, or empty
+# look_up DOCUMENT WORD FILE: checks a word that is of one of the kinds above
 look_up() {
     case $2 in
-    target/* | */ | kv_ | *'*'* | *..*) ;;
+    target/* | specs/* | */ | kv_ | *'*'* | *..*) ;;
     kv_*) check "$1: call $2" is_call "$2" ;;
-    *::*) [[ $2 =~ ^[A-Z] ]] || check "$1: function $2" is_function "$2" ;; # not that of a type
-    */* | *.antt | *.md | *.sh) is_edit "$2" || check "$1: $2" is_path "$2" ;;
-    [A-Za-z]*) [ ! -f "crates/$3" ] || check "$1: $2 in $3" is_name "$2" "crates/$3" ;;
+    [a-z]*::*) check "$1: function $2" is_function "$2" ;;
+    */*) check "$1: $2" is_there "$2" ;;
+    *) [ "$3" = - ] || check "$1: $2 in $3" is_in "$2" "crates/${3#crates/}" ;;
     esac
 }
 
 for document in README.md docs/*.md; do
     [ "$document" != docs/EXPERIMENTS.md ] || continue
-    file=
-    words "$document" | while read -r line word; do
-        if [ "$line" -eq 0 ]; then file=; continue; fi
-        look_up "$document:$line" "$word" "$file"
-        case $word in *.antt) file=${word#crates/} ;; esac
-    done
+    words "$document" | while read -r word file; do look_up "$document" "$word" "$file"; done
 done
 tell_counts
