@@ -1,37 +1,10 @@
-# Sourced, from the root of the checkout, by the scripts beside it. Everything is built below target/bench.
+# Sourced by the scripts beside it, from the root of the checkout. Everything is built below target/bench.
+. tools/common.sh
 room=target/bench
 mkdir -p "$room"
 
-say() { printf '%s: %s\n' "${0##*/}" "$*" >&2; }
 stop() { say "$*"; exit 1; }
 quiet() { "$@" >"$room/log" 2>&1 || { cat "$room/log" >&2; stop "failed: $*"; }; } # COMMAND: shows its output only where it fails
-
-# install_for FILE PACKAGE ...: installs each package whose file is missing. A file without a slash is a command.
-install_for() {
-    local missing=() as_root=()
-    while [ $# -gt 0 ]; do
-        case $1 in
-        */*) [ -e "$1" ] || missing+=("$2") ;;
-        *) command -v "$1" >/dev/null || missing+=("$2") ;;
-        esac
-        shift 2
-    done
-    [ ${#missing[@]} -gt 0 ] || return 0
-    [ "$(id -u)" -eq 0 ] || as_root=(sudo)
-    say "installing ${missing[*]}"
-    "${as_root[@]}" apt-get -q update >&2 && "${as_root[@]}" apt-get -q install -y "${missing[@]}" >&2 ||
-        stop "cannot install ${missing[*]}"
-}
-
-# The archive is made where it is missing or older than a source, unless KETVAULO_ARCHIVE names one.
-archive=${KETVAULO_ARCHIVE:-target/staticlib/libketvaulo.a}
-make_archive() {
-    [ -z "${KETVAULO_ARCHIVE:-}" ] || return 0
-    if [ ! -e "$archive" ] || [ -n "$(find crates crates.txt -type f -newer "$archive" -print -quit)" ]; then
-        say "making libketvaulo.a"
-        quiet rt staticlib ketvaulo
-    fi
-}
 
 # The libraries: for each what calls of ketvaulo.h are made of, and what else is linked.
 libraries='ketvaulo bearssl bearssl-small mbedtls wolfssl openssl'

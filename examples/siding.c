@@ -1,6 +1,6 @@
-/* A day in the life of a yard controller, call by call: it derives a siding's key, agrees with a handheld on a key derivation
- * function, reads the attribute area that carried the offers, and sends the siding's key to a neighbour as a RADIUS Key attribute, which
- * the neighbour opens. Each step prints what came out; examples/siding.expected has what must come out. */
+/* What a yard controller does, call by call. It derives a siding's key, agrees with a handheld on a key derivation function,
+ * reads the attribute area that carried the offers, and sends the siding's key to a neighbour as a RADIUS Key attribute, which
+ * the neighbour opens. Each step prints its result; examples/siding.expected has what must be printed. */
 #include "ketvaulo.h"
 
 #include <stdio.h>
@@ -15,16 +15,16 @@ static void print_bytes(const char *name, const uint8_t *bytes, size_t count)
     printf("\n");
 }
 
-/* Every call answers with a number: 0 is acceptance, and anything else names what was wrong with the input. */
+/* Every call returns a number: 0 is acceptance, and any other says what was wrong with the input. */
 static void expect_accepted(const char *call, uint32_t refusal)
 {
-    if (refusal != 0) {
+    if (refusal != KV_ACCEPTED) {
         printf("%s refused %u\n", call, (unsigned)refusal);
         exit(1);
     }
 }
 
-/* The siding's key under the EMSK of a login: label and data keep the sidings apart. */
+/* Derives the siding's key under the EMSK of a login. Label and data keep the sidings apart. */
 static void derive_key(const uint8_t emsk[64], uint8_t key[32])
 {
     static const uint8_t label[] = "gate", data[] = "12";
@@ -34,7 +34,7 @@ static void derive_key(const uint8_t emsk[64], uint8_t key[32])
     print_bytes("key", key, 32);
 }
 
-/* A label with a zero byte is refused, and the buffer keeps every byte. */
+/* A label with a zero byte is refused, and `out` keeps every byte. */
 static void refused_label(const uint8_t emsk[64])
 {
     static const uint8_t label[] = { 'g', 'a', 't', 'e', 0 };
@@ -44,13 +44,17 @@ static void refused_label(const uint8_t emsk[64])
     print_bytes("out", out, 4);
 }
 
-/* The server offers 2 and 1; the handheld supports 1 alone, asks for it, and checks what the server answers. */
+/* The server offers 2 and 1. The handheld supports 1 alone, so it asks for that and checks what the server answers. */
 static void negotiate(void)
 {
     static const uint16_t offers[] = { 2, 1 }, supported[] = { 1 };
     kv_first_round first = kv_choose_offer(offers, 2, supported, 1);
     expect_accepted("kv_choose_offer", first.refusal);
-    printf("%s %u at %u\n", first.ask ? "ask" : "carry on", (unsigned)first.value, (unsigned)first.position);
+    if (!first.ask) { /* Carry On: the first offer is used, and nothing is sent */
+        printf("carry on with %u\n", (unsigned)first.value);
+        return;
+    }
+    printf("ask %u at %u\n", (unsigned)first.value, (unsigned)first.position);
 
     uint16_t renewed[17];
     kv_outcome server = kv_answer_offer(offers, 2, (uint16_t)first.value, renewed, 17);
@@ -65,7 +69,7 @@ static void negotiate(void)
     printf("agreed on %u\n", (unsigned)peer.value);
 }
 
-/* Two AT_KDF and the network's name, as they stand in an EAP-AKA' message. */
+/* Reads two AT_KDF and the network's name, as they stand in an EAP-AKA' message. */
 static void read_area(void)
 {
     static const uint8_t area[] = { 0x18, 1, 0, 2, 0x18, 1, 0, 1, 0x17, 2, 0, 3, 'W', 'L', 'N', 0 };
@@ -78,7 +82,8 @@ static void read_area(void)
     printf("\nname %.*s, %s\n", (int)r.name_len, (const char *)area + r.name_at, r.same_name ? "our own" : "another");
 }
 
-/* The key travels wrapped under a KEK that both ends hold, and is opened there. */
+/* Sends the key wrapped under a KEK that both ends hold, and opens it there. Only the key is authenticated by the unwrapping:
+ * the receiver may rely on the other fields where the whole packet is authenticated. */
 static void send_key(const uint8_t key[32])
 {
     static const uint8_t kek[16] = { 0, 1, 2, 3, 4, 5, 6, 7, 8, 9, 10, 11, 12, 13, 14, 15 };

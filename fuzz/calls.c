@@ -4,10 +4,10 @@
 #include <stdlib.h>
 #include <string.h>
 
-/* `out` is lent after the inputs. */
-#define OUT INPUTS
+/* `out` is lent after the other slices. */
+#define OUT SLICES
 
-#define BIT(refusal) (UINT32_C(1) << (refusal))
+#define BIT(refusal) ((refusal_set)1 << (refusal))
 #define LABEL_REFUSALS (BIT(KV_LABEL_LENGTH) | BIT(KV_LABEL_BYTE))
 #define LIST_REFUSALS (BIT(KV_OFFER_COUNT) | BIT(KV_REPEATED_OFFER))
 #define REPLY_REFUSALS (LIST_REFUSALS | BIT(KV_REPLY_IS_FIRST) | BIT(KV_REPLY_NOT_OFFERED))
@@ -22,26 +22,40 @@
 #define OFFERS { 1, 16 }
 #define SIXTEEN { 16, 16 }
 
+#define BYTES .width = 1
+#define VALUES .width = 2
+#define OUT_BYTES(most) .out_width = 1, .room = most
+#define OUT_VALUES(most) .out_width = 2, .room = most
+
 const shape shapes[CALLS] = {
-    [SHA256] = { "kv_sha256", 1, 1, { ANY }, { 0 }, 1, 32, BIT(KV_ROOM) },
-    [HMAC_SHA256] = { "kv_hmac_sha256", 2, 1, { ANY, ANY }, { 0 }, 1, 32, BIT(KV_ROOM) },
-    [USAGE_KEY] = { "kv_usage_key", 3, 1, { ROOT_KEY, LABEL, { 0, 2048 } }, { 8 }, 1, 8160,
-                    BIT(KV_ROOT_KEY_LENGTH) | LABEL_REFUSALS | BIT(KV_DATA_LENGTH) | BIT(KV_KEY_LENGTH) | BIT(KV_ROOM) },
-    [VISITED_ROOT_KEY] = { "kv_visited_root_key", 1, 1, { ROOT_KEY }, { 0 }, 1, 64, BIT(KV_ROOT_KEY_LENGTH) | BIT(KV_ROOM) },
-    [VISITED_MASTER_KEY] = { "kv_visited_master_key", 3, 1, { ROOT_KEY, { 1, 255 }, { 1, 253 } }, { 0 }, 1, 64,
-                             BIT(KV_ROOT_KEY_LENGTH) | BIT(KV_SERVER_ID) | BIT(KV_DOMAIN) | BIT(KV_ROOM) },
-    [VISITED_REAUTH_KEY] = { "kv_visited_reauth_key", 1, 1, { ROOT_KEY }, { 0 }, 1, 64, BIT(KV_ROOT_KEY_LENGTH) | BIT(KV_ROOM) },
-    [KEY_NAME] = { "kv_key_name", 2, 1, { { 1, 255 }, LABEL }, { 0 }, 1, 8, BIT(KV_SESSION_ID) | LABEL_REFUSALS | BIT(KV_ROOM) },
-    [CHOOSE_OFFER] = { "kv_choose_offer", 2, 2, { OFFERS, { 1, MOST_BYTES } }, { 0 }, 0, 0,
-                       LIST_REFUSALS | BIT(KV_NO_OFFER_SUPPORTED) },
-    [ANSWER_OFFER] = { "kv_answer_offer", 1, 2, { OFFERS }, { 2 }, 2, 17, REPLY_REFUSALS | BIT(KV_ROOM) },
-    [CHECK_RENEWED] = { "kv_check_renewed", 2, 2, { OFFERS, { 2, 17 } }, { 2 }, 0, 0, REPLY_REFUSALS | BIT(KV_RENEWED_LIST) },
-    [READ_AREA] = { "kv_read_area", 2, 1, { { 8, MOST_BYTES }, ANY }, { 0 }, 2, 17, AREA_REFUSALS | BIT(KV_ROOM) },
-    [WRITE_KEY_ATTRIBUTE] = { "kv_write_key_attribute", 4, 1, { SIXTEEN, SIXTEEN, SIXTEEN, { 16, 192 } }, { 1, 4, 4 }, 1, 252,
-                              BIT(KV_ATTRIBUTE_TYPE) | BIT(KV_ID_LENGTH) | BIT(KV_KEK_LENGTH) | BIT(KV_KEY_TO_WRAP_LENGTH) |
-                                  BIT(KV_ROOM) },
-    [READ_KEY_ATTRIBUTE] = { "kv_read_key_attribute", 2, 1, { SIXTEEN, { 76, 252 } }, { 0 }, 1, 192,
-                             BIT(KV_KEK_LENGTH) | FRAME_REFUSALS | BIT(KV_ROOM) | BIT(KV_INTEGRITY) },
+    [SHA256] = { .name = "kv_sha256", .slices = 1, BYTES, .counts = { ANY }, OUT_BYTES(32), .refusals = BIT(KV_ROOM) },
+    [HMAC_SHA256] = { .name = "kv_hmac_sha256", .slices = 2, BYTES, .counts = { ANY, ANY }, OUT_BYTES(32), .refusals = BIT(KV_ROOM) },
+    [USAGE_KEY] = { .name = "kv_usage_key", .slices = 3, BYTES, .counts = { ROOT_KEY, LABEL, { 0, 2048 } }, .numbers = { 8 },
+                    OUT_BYTES(8160), .refusals = BIT(KV_ROOT_KEY_LENGTH) | LABEL_REFUSALS | BIT(KV_DATA_LENGTH) | BIT(KV_KEY_LENGTH) |
+                                                 BIT(KV_ROOM) },
+    [VISITED_ROOT_KEY] = { .name = "kv_visited_root_key", .slices = 1, BYTES, .counts = { ROOT_KEY }, OUT_BYTES(64),
+                           .refusals = BIT(KV_ROOT_KEY_LENGTH) | BIT(KV_ROOM) },
+    [VISITED_MASTER_KEY] = { .name = "kv_visited_master_key", .slices = 3, BYTES, .counts = { ROOT_KEY, { 1, 255 }, { 1, 253 } },
+                             OUT_BYTES(64),
+                             .refusals = BIT(KV_ROOT_KEY_LENGTH) | BIT(KV_SERVER_ID) | BIT(KV_DOMAIN) | BIT(KV_ROOM) },
+    [VISITED_REAUTH_KEY] = { .name = "kv_visited_reauth_key", .slices = 1, BYTES, .counts = { ROOT_KEY }, OUT_BYTES(64),
+                             .refusals = BIT(KV_ROOT_KEY_LENGTH) | BIT(KV_ROOM) },
+    [KEY_NAME] = { .name = "kv_key_name", .slices = 2, BYTES, .counts = { { 1, 255 }, LABEL }, OUT_BYTES(8),
+                   .refusals = BIT(KV_SESSION_ID) | LABEL_REFUSALS | BIT(KV_ROOM) },
+    [CHOOSE_OFFER] = { .name = "kv_choose_offer", .slices = 2, VALUES, .counts = { OFFERS, { 1, MOST_BYTES } },
+                       .refusals = LIST_REFUSALS | BIT(KV_NO_OFFER_SUPPORTED) },
+    [ANSWER_OFFER] = { .name = "kv_answer_offer", .slices = 1, VALUES, .counts = { OFFERS }, .numbers = { 2 }, OUT_VALUES(17),
+                       .refusals = REPLY_REFUSALS | BIT(KV_ROOM) },
+    [CHECK_RENEWED] = { .name = "kv_check_renewed", .slices = 2, VALUES, .counts = { OFFERS, { 2, 17 } }, .numbers = { 2 },
+                        .refusals = REPLY_REFUSALS | BIT(KV_RENEWED_LIST) },
+    [READ_AREA] = { .name = "kv_read_area", .slices = 2, BYTES, .counts = { { 8, MOST_BYTES }, ANY }, OUT_VALUES(17),
+                    .refusals = AREA_REFUSALS | BIT(KV_ROOM) },
+    [WRITE_KEY_ATTRIBUTE] = { .name = "kv_write_key_attribute", .slices = 4, BYTES,
+                              .counts = { SIXTEEN, SIXTEEN, SIXTEEN, { 16, 192 } }, .numbers = { 1, 4, 4 }, OUT_BYTES(252),
+                              .refusals = BIT(KV_ATTRIBUTE_TYPE) | BIT(KV_ID_LENGTH) | BIT(KV_KEK_LENGTH) |
+                                          BIT(KV_KEY_TO_WRAP_LENGTH) | BIT(KV_ROOM) },
+    [READ_KEY_ATTRIBUTE] = { .name = "kv_read_key_attribute", .slices = 2, BYTES, .counts = { SIXTEEN, { 76, 252 } }, OUT_BYTES(192),
+                             .refusals = BIT(KV_KEK_LENGTH) | FRAME_REFUSALS | BIT(KV_ROOM) | BIT(KV_INTEGRITY) },
 };
 
 _Noreturn void fail(const request *asked, const char *what)
@@ -87,8 +101,9 @@ static void take_key_attribute(answer *given, kv_key_attribute r)
     memcpy(given->key_id, r.key_id, 16);
 }
 
-/* Calls the library on the lent buffers. */
-static void call(const request *asked, const void *const in[INPUTS], void *out, answer *given)
+/* Calls the library on the lent buffers. A call that changes a slice is handed the last of `in`, which is lent to be written too, and
+ * says in `given` which part of it may have changed. */
+static void call(const request *asked, void *const in[SLICES], void *out, answer *given)
 {
     const uint8_t *a = in[0], *b = in[1], *c = in[2], *d = in[3];
     const uint16_t *list = in[0], *other = in[1];
@@ -125,39 +140,68 @@ static void expect_bare_refusal(const request *asked, const answer *given)
     expect(memcmp(given->fields, nothing.fields, sizeof given->fields) == 0, asked, "a refusal with a field that is not 0");
     expect(memcmp(given->kek_id, nothing.kek_id, 16) == 0 && memcmp(given->key_id, nothing.key_id, 16) == 0, asked,
            "a refusal with an ID that is not 0");
+    expect(given->written == 0 && given->changed == 0, asked, "a refusal that writes");
 }
 
 /* Checks that every slice of an accepted request is within the call's limits. */
 static void expect_within_limits(const request *asked)
 {
     const shape *form = &shapes[asked->call];
-    for (int i = 0; i < form->inputs; i++)
+    for (int i = 0; i < form->slices; i++)
         expect(form->counts[i].least <= asked->in[i].count && asked->in[i].count <= form->counts[i].most, asked,
                "accepted a slice outside its limits");
+}
+
+/* Whether bytes `from` to `to` of a slice are those that were lent. */
+static int kept(slice lent, const uint8_t *now, size_t from, size_t to)
+{
+    return from == to || memcmp((const uint8_t *)lent.values + from, now + from, to - from) == 0;
+}
+
+/* Checks that a slice that the call only reads is as it was. */
+static void expect_unaltered(const request *asked, int which, const void *now)
+{
+    expect(kept(asked->in[which], now, 0, asked->in[which].count * shapes[asked->call].width), asked, "an input was altered");
+}
+
+/* Checks that the slice that the call changes is as it was but for the part that the answer names, and keeps it in the answer. */
+static void expect_changed(const request *asked, int which, const void *now, answer *given)
+{
+    const slice lent = asked->in[which];
+    const size_t width = shapes[asked->call].width;
+    expect(given->changed_at <= lent.count && given->changed <= lent.count - given->changed_at, asked, "changed more than it was lent");
+    expect(kept(lent, now, 0, given->changed_at * width), asked, "a byte before the changed part was altered");
+    expect(kept(lent, now, (given->changed_at + given->changed) * width, lent.count * width), asked,
+           "a byte after the changed part was altered");
+    if (lent.count > 0)
+        memcpy(given->after, now, lent.count * width);
 }
 
 /* The answer with all buffers at one place of their pages. */
 static void perform_at(place where, const request *asked, answer *given)
 {
     const shape *form = &shapes[asked->call];
-    const void *in[INPUTS] = { 0 };
-    for (int i = 0; i < form->inputs; i++)
+    const int changing = form->slices - form->changes; /* slices from here on are changed */
+    void *in[SLICES] = { 0 };
+    for (int i = 0; i < form->slices; i++)
         in[i] = lend(i, where, asked->in[i].values, asked->in[i].count * form->width);
     uint8_t *out = lend(OUT, where, NULL, asked->room * form->out_width);
 
     memset(given, 0, offsetof(answer, out));
     call(asked, in, out, given);
 
-    for (int i = 0; i < form->inputs; i++) {
-        size_t length = asked->in[i].count * form->width;
-        expect(length == 0 || memcmp(in[i], asked->in[i].values, length) == 0, asked, "an input was altered");
-        expect(surroundings_kept(i), asked, "a byte outside an input was altered");
-    }
-    expect(surroundings_kept(OUT), asked, "a byte outside `out` was altered");
     if (given->refusal == KV_ACCEPTED)
         expect_within_limits(asked);
     else
         expect_bare_refusal(asked, given);
+    for (int i = 0; i < form->slices; i++) {
+        expect(surroundings_kept(i), asked, "a byte around a slice was altered");
+        if (i < changing)
+            expect_unaltered(asked, i, in[i]);
+        else
+            expect_changed(asked, i, in[i], given);
+    }
+    expect(surroundings_kept(OUT), asked, "a byte around `out` was altered");
     expect(given->written <= asked->room, asked, "more was written than there is room for");
     expect(fill_kept(OUT, given->written * form->out_width), asked, "a byte after those written was altered");
     if (given->written > 0)
@@ -167,9 +211,11 @@ static void perform_at(place where, const request *asked, answer *given)
 void perform(const request *asked, answer *given)
 {
     static answer again;
+    const shape *form = &shapes[asked->call];
     perform_at(FIRST, asked, given);
     perform_at(LAST, asked, &again);
     expect(memcmp(given, &again, offsetof(answer, out)) == 0, asked, "the same call twice gave two answers");
-    expect(memcmp(given->out, again.out, given->written * shapes[asked->call].out_width) == 0, asked,
-           "the same call twice wrote different bytes");
+    expect(memcmp(given->out, again.out, given->written * form->out_width) == 0, asked, "the same call twice wrote different bytes");
+    expect(!form->changes || memcmp(given->after, again.after, asked->in[form->slices - 1].count * form->width) == 0, asked,
+           "the same call twice changed a slice to different bytes");
 }

@@ -1,4 +1,4 @@
-/* The thirteen calls of ketvaulo.h in one form: a request, which is made of lent buffers, and the answer to it. */
+/* Every call of ketvaulo.h in one form: a request, which is made of lent buffers, and the answer to it. */
 #ifndef CALLS_H
 #define CALLS_H
 
@@ -24,11 +24,14 @@ enum call {
     CALLS
 };
 
-#define INPUTS 4
+/* The most slices that a call is lent besides `out`: six inputs and one that it reads and writes. */
+#define SLICES 7
 #define NUMBERS 3
 
-/* The last number that a refusal has. */
-#define LAST_REFUSAL KV_INTEGRITY
+/* The last number that a refusal has. The refusals of a call are a set of bits. */
+#define LAST_REFUSAL KV_KEY_ID_UNLIKE_CONTENTS
+typedef uint64_t refusal_set;
+_Static_assert(LAST_REFUSAL < 64, "a set of refusals has 64 bits");
 
 /* The counts that a call accepts of a slice. */
 typedef struct {
@@ -38,18 +41,19 @@ typedef struct {
 /* What a call takes and may answer, as the header says it. */
 typedef struct {
     const char *name;
-    int inputs;             /* how many slices it reads */
+    int slices;             /* how many it is lent besides `out` */
     size_t width;           /* bytes of a value in them */
-    range counts[INPUTS];   /* how many values each may have */
+    range counts[SLICES];   /* how many values each may have */
     int numbers[NUMBERS];   /* bytes of each number that it takes, 0 for none */
     size_t out_width;       /* bytes of a value in `out`, 0 where it has no `out` */
     size_t room;            /* values in `out` that are always enough */
-    uint32_t refusals;      /* its numbers, as bits */
+    refusal_set refusals;   /* those that it may give */
+    int changes;            /* 1 where it also writes the last of its slices, 0 where it only reads them */
 } shape;
 
 extern const shape shapes[CALLS];
 
-/* Values that a call reads: bytes, or numbers of two bytes. */
+/* Values that a call is lent: bytes, or numbers of two bytes. */
 typedef struct {
     const void *values;
     size_t count;
@@ -58,7 +62,7 @@ typedef struct {
 typedef struct {
     enum call call;
     uint64_t numbers[NUMBERS];  /* in the order of the call's parameters */
-    slice in[INPUTS];
+    slice in[SLICES];
     size_t room;                /* values that `out` has room for */
 } request;
 
@@ -67,7 +71,9 @@ typedef struct {
     uint64_t fields[5];             /* what else the call returned, in the order of its struct */
     uint8_t kek_id[16], key_id[16]; /* of kv_read_key_attribute */
     size_t written;                 /* values written to `out` */
-    uint16_t out[MOST_BYTES / 2];   /* their bytes */
+    size_t changed_at, changed;     /* the values that it may have altered in the slice that it changes: from where, how many */
+    uint16_t out[MOST_BYTES / 2];   /* what was written to `out` */
+    uint16_t after[MOST_BYTES / 2]; /* the slice that the call changes, after the call */
 } answer;
 
 /* Tells what went wrong and stops the program, so that libFuzzer keeps the input. */
@@ -80,9 +86,12 @@ static inline void expect(int holds, const request *asked, const char *what)
         fail(asked, what);
 }
 
-/* The answer to a request, with everything checked that holds of every call: it is the same at both places of the buffers; no input and
- * no byte around a buffer is altered; a refusal is one of the call's own, has zeros in every other field and leaves `out` as it was; an
- * accepted call was lent slices within its limits, and leaves every byte after those that it says it wrote. */
+/* The answer to a request. Checks everything that holds of every call:
+ * - The answer is the same at both places of the buffers.
+ * - No input is altered, and no byte around a buffer.
+ * - A refusal is one of the call's own, has zeros in every other field, and leaves every buffer as it was.
+ * - An accepted call was lent slices within its limits. It leaves every byte of `out` after those that it says it wrote, and every byte
+ *   of the slice that it changes outside the part that it says it changed. */
 void perform(const request *asked, answer *given);
 
 #endif

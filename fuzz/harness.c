@@ -19,19 +19,31 @@ size_t LLVMFuzzerMutate(uint8_t *data, size_t size, size_t max_size);
 /* What libFuzzer reads beside the compiler's counters. */
 #define MARKS __attribute__((section("__libfuzzer_extra_counters"))) static uint8_t
 
-/* How many bits each slice's count, the room and each number had, by call and refusal. */
+/* The most refusals of one call. Acceptance and they have a place each in the marks, so that these stay few: libFuzzer reads all of them
+ * after each execution. */
+#define MOST_REFUSALS 15
+#define PLACES (MOST_REFUSALS + 1)
+
+/* How many bits each slice's count, the room and each number had, by call and answer. */
 #define CLASSES 16
-#define ROOM INPUTS
+#define ROOM SLICES
 #define NUMBER (ROOM + 1)
-MARKS sizes[CALLS][LAST_REFUSAL + 1][NUMBER + NUMBERS][CLASSES];
+MARKS sizes[CALLS][PLACES][NUMBER + NUMBERS][CLASSES];
 
 /* Which counts and numbers, by their low byte, an accepted request had. */
 MARKS accepted[CALLS][NUMBER + NUMBERS][256];
 
-/* How many attributes an area had, and how many of them were AT_KDF, by refusal; the last stands for more. */
+/* How many attributes an area had, and how many of them were AT_KDF, by answer; the last stands for more. */
 #define ATTRIBUTES 32
 #define OFFERS 20
-MARKS areas[LAST_REFUSAL + 1][ATTRIBUTES][OFFERS];
+MARKS areas[PLACES][ATTRIBUTES][OFFERS];
+
+/* The place of an answer among those of its call: 0 for acceptance, then its refusals by their numbers. */
+static int place_of(enum call call, uint32_t refusal)
+{
+    const refusal_set below = ((refusal_set)1 << refusal) - 1;
+    return refusal == KV_ACCEPTED ? 0 : 1 + __builtin_popcountll(shapes[call].refusals & below);
+}
 
 static int bits_of(uint64_t number)
 {
@@ -42,7 +54,7 @@ static int bits_of(uint64_t number)
 }
 
 /* Marks the attributes of an area up to the first that is not whole. */
-static void mark_area(slice area, uint32_t refusal)
+static void mark_area(slice area, int answered)
 {
     const uint8_t *bytes = area.values;
     int attributes = 0, offers = 0;
@@ -55,26 +67,27 @@ static void mark_area(slice area, uint32_t refusal)
         if (bytes[at] == 24 && offers < OFFERS - 1)
             offers++;
     }
-    areas[refusal][attributes][offers] = 1;
+    areas[answered][attributes][offers] = 1;
 }
 
 /* Marks a count or number of the request. */
-static void mark_size(const request *asked, uint32_t refusal, int which, uint64_t size)
+static void mark_size(const request *asked, int answered, int which, uint64_t size)
 {
-    sizes[asked->call][refusal][which][bits_of(size)] = 1;
-    if (refusal == KV_ACCEPTED)
+    sizes[asked->call][answered][which][bits_of(size)] = 1;
+    if (answered == KV_ACCEPTED)
         accepted[asked->call][which][size & 0xff] = 1;
 }
 
 static void mark(const request *asked, uint32_t refusal)
 {
-    for (int i = 0; i < shapes[asked->call].inputs; i++)
-        mark_size(asked, refusal, i, asked->in[i].count);
-    mark_size(asked, refusal, ROOM, asked->room);
+    const int answered = place_of(asked->call, refusal);
+    for (int i = 0; i < shapes[asked->call].slices; i++)
+        mark_size(asked, answered, i, asked->in[i].count);
+    mark_size(asked, answered, ROOM, asked->room);
     for (int i = 0; i < NUMBERS; i++)
-        mark_size(asked, refusal, NUMBER + i, asked->numbers[i]);
+        mark_size(asked, answered, NUMBER + i, asked->numbers[i]);
     if (asked->call == READ_AREA)
-        mark_area(asked->in[0], refusal);
+        mark_area(asked->in[0], answered);
 }
 
 /* How often each call gave each answer, told at the end: what the run has tried. */
@@ -95,6 +108,11 @@ int LLVMFuzzerInitialize(int *argc, char ***argv)
 {
     (void)argc;
     (void)argv;
+    for (int call = 0; call < CALLS; call++)
+        if (place_of(call, LAST_REFUSAL + 1) > PLACES) {
+            fprintf(stderr, "%s: more than %d refusals\n", shapes[call].name, MOST_REFUSALS);
+            exit(2);
+        }
     get_pages();
     atexit(tell_answers);
     return 0;

@@ -9,11 +9,11 @@
 #include <stddef.h>
 #include <stdint.h>
 
-/* The most bytes that one buffer has: more than the 8,160 of the longest key, and whole as values of two bytes. */
-#define MOST_BYTES 10240
+/* The most bytes of one buffer: more than the 17,410 of document 02's largest bundle, and a whole number of values of two bytes. */
+#define MOST_BYTES 20480
 
-/* The most buffers of one call. */
-#define BUFFERS 5
+/* The most buffers of one call: six inputs, one that is read and written, and `out`. */
+#define BUFFERS 8
 
 /* Where in its pages a buffer lies. */
 typedef enum { FIRST, LAST } place;
@@ -25,10 +25,10 @@ void get_pages(void);
  * at FIRST; at LAST it is a pointer to a byte that may not be touched. */
 void *lend(int which, place where, const void *content, size_t length);
 
-/* Whether every byte around the buffer that was lent last as `which` still is the fill. */
+/* Whether every byte around the buffer that was lent last as `which` is still the fill. */
 int surroundings_kept(int which);
 
-/* Whether bytes `from` to the end of a buffer that was lent without content still are the fill. */
+/* Whether bytes `from` to the end of a buffer that was lent without content are still the fill. */
 int fill_kept(int which, size_t from);
 
 #endif

@@ -58,14 +58,14 @@ request read_request(const uint8_t *bytes, size_t size)
     source from = { bytes, size };
     request asked = { .call = next(&from, 0) % CALLS };
     const shape *form = &shapes[asked.call];
-    size_t counts[INPUTS];
+    size_t counts[SLICES];
     for (int i = 0; i < NUMBERS; i++)
         asked.numbers[i] = next_number(&from, form->numbers[i]);
     if (form->out_width > 0)
         asked.room = next_count(&from, form->out_width);
-    for (int i = 0; i < form->inputs; i++)
+    for (int i = 0; i < form->slices; i++)
         counts[i] = next_count(&from, form->width);
-    for (int i = 0; i < form->inputs; i++)
+    for (int i = 0; i < form->slices; i++)
         asked.in[i] = next_slice(&from, counts[i], form->width);
     return asked;
 }
@@ -91,9 +91,9 @@ size_t write_request(const request *asked, uint8_t *bytes, size_t most)
         put_number(&to, asked->numbers[i], form->numbers[i]);
     if (form->out_width > 0)
         put_number(&to, asked->room, 2);
-    for (int i = 0; i < form->inputs; i++)
+    for (int i = 0; i < form->slices; i++)
         put_number(&to, asked->in[i].count, 2);
-    for (int i = 0; i < form->inputs; i++)
+    for (int i = 0; i < form->slices; i++)
         for (size_t j = 0; j < asked->in[i].count; j++)
             if (form->width == 2)
                 put_number(&to, ((const uint16_t *)asked->in[i].values)[j], 2);
@@ -154,7 +154,7 @@ static void change_count(slice *changed, range accepted, size_t width, unsigned 
 static void accept_counts(request *asked)
 {
     const shape *form = &shapes[asked->call];
-    for (int i = 0; i < form->inputs; i++) {
+    for (int i = 0; i < form->slices; i++) {
         if (asked->in[i].count < form->counts[i].least)
             resize(&asked->in[i], form->counts[i].least, form->width);
         if (asked->in[i].count > form->counts[i].most)
@@ -166,7 +166,7 @@ static void accept_counts(request *asked)
 void change_request(request *asked, unsigned seed)
 {
     const shape *form = &shapes[asked->call];
-    size_t which = pick(&seed, (size_t)form->inputs);
+    size_t which = pick(&seed, (size_t)form->slices);
     switch (pick(&seed, 4)) {
     case 0: change_count(&asked->in[which], form->counts[which], form->width, seed); break;
     case 1: accept_counts(asked); break;
@@ -178,6 +178,6 @@ void change_request(request *asked, unsigned seed)
 
 void free_request(request *asked)
 {
-    for (int i = 0; i < INPUTS; i++)
+    for (int i = 0; i < SLICES; i++)
         free((void *)asked->in[i].values);
 }

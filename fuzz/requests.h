@@ -1,8 +1,8 @@
 /* Requests as bytes, which is what libFuzzer makes.
  *
  * A request is a byte that picks the call, the call's numbers, the room of `out`, the count of values of each slice, and then the values,
- * slice after slice. Room and counts have two bytes; all numbers are high byte first. A number that the bytes do not have is 0, and a byte
- * of a slice that they do not have is 'a', which labels, server IDs and domains admit. */
+ * slice after slice. A slice that the call changes is the last. Room and counts have two bytes; all numbers are high byte first. A number
+ * that the bytes do not have is 0, and a byte of a slice that they do not have is 'a', which labels, server IDs and domains admit. */
 #ifndef REQUESTS_H
 #define REQUESTS_H
 

@@ -1,13 +1,7 @@
-# awk -f seeds.awk ketvaulo.h seeds: one line for each seed, a name for its file and its bytes in hexadecimal.
+# awk -f seeds.awk CALLS SEEDS: one line for each seed, a name for its file and its bytes in hexadecimal. CALLS has the name of each call in a
+# line, in the order in which the harness counts them.
 
-# the calls in the header's order, which the harness counts by
-FNR == NR {
-    if (match($0, /^kv_[a-z_]+ kv_[a-z0-9_]+\(/)) {
-        split(substr($0, 1, RLENGTH - 1), words, " ")
-        place[words[2]] = calls++
-    }
-    next
-}
+FNR == NR { place[$1] = calls++; next }
 
 /^#/ || NF == 0 { next }
 

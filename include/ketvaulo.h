@@ -1,34 +1,70 @@
-/* Ketvaulo: the key library of a yard radio controller. Link with libketvaulo.a, which needs nothing but memcpy and memset.
+/* Ketvaulo: the key library of a yard radio controller.
  *
- * What it is for, and how the calls follow each other
+ * Link with libketvaulo.a, which is compiled for x86-64 Linux and needs nothing but memcpy and memset.
  *
- * Keys. After a login, controller and server share one secret, the EMSK. From it the controller derives the key under which each siding
- * reports (kv_usage_key). For a handheld that visits another domain it derives the keys of that domain, each under the one before:
- * kv_visited_root_key under the EMSK, kv_visited_master_key under that, kv_visited_reauth_key under that. kv_key_name names a key in the
- * open. kv_sha256 and kv_hmac_sha256 are the primitives below all of these.
+ * What it is for, and in which order the calls are made
  *
- * Offers. Which key derivation function a login uses is negotiated. The server sends its offers; the peer reads them off the message with
- * kv_read_area and picks one with kv_choose_offer. If the pick is the first offer, that is all. If it is a later one, the peer sends it as
- * its reply; the server makes the renewed list with kv_answer_offer and sends that; the peer reads it with kv_read_area again, and
- * kv_check_renewed tells whether it is the list that its own choice asks for, which is RFC 5448's guard against bidding down.
+ * Keys. After a login, the controller and the server share one secret, the EMSK. From it the controller derives the key
+ * under which each siding reports (kv_usage_key). For a handheld that visits another domain it derives three keys, each
+ * under the one before: kv_visited_root_key under the EMSK, kv_visited_master_key under that key, and
+ * kv_visited_reauth_key under that one. kv_key_name makes a public name for a key. All of these are made of kv_sha256 and
+ * kv_hmac_sha256.
  *
- * Key attributes. A key goes to a neighbour wrapped in a RADIUS Key attribute: kv_write_key_attribute here, kv_read_key_attribute there,
- * under a KEK that both hold.
+ * Offers. A login negotiates which key derivation function it uses.
+ *   1. The server sends its offers.
+ *   2. The peer reads them off the message (kv_read_area) and picks one (kv_choose_offer). If it picks the first offer,
+ *      the negotiation is over. Otherwise it sends its pick as a reply.
+ *   3. The server makes the renewed list (kv_answer_offer) and sends it.
+ *   4. The peer reads that list (kv_read_area) and checks that it is the one that its own choice asks for
+ *      (kv_check_renewed). This is RFC 5448's protection against bidding down.
+ *
+ * Key attributes. A key travels to a neighbour wrapped in a RADIUS Key attribute: the sender calls kv_write_key_attribute,
+ * the receiver calls kv_read_key_attribute, and both hold the same KEK.
  *
  * Conventions
  *
- * - A slice is a pointer, aligned as its type asks, and then its length in values of that type. A slice of length 0 may have a null
- *   pointer.
- * - `out` is the slice that a call writes, always from its start; it must not overlap an input of the same call. Inputs may overlap each
- *   other, and no call alters one.
- * - Every input has an answer. A call gives only the refusals that its order lists, and of these the first that holds; then it alters no
- *   byte of `out`. An accepted call returns 0 as its refusal, and alters only what it says it writes; the rest of `out` stays.
- * - No call keeps a pointer, allocates or blocks, and none has a state, so calls may come from anywhere, and the same call twice gives the
- *   same answer.
- * - No call takes more than some 1.2 KiB of stack. That is measured and not proved; docs/PERFORMANCE.md has the figures.
+ * - A slice is a pointer and then its length. The pointer is aligned for its type, and the length counts values of that
+ *   type. A slice of length 0 may have a null pointer.
+ * - `out` is the slice that a call writes, always from its start. It must not overlap an input of the same call. Inputs
+ *   may overlap each other, and no call alters one.
+ * - Every input has an answer. A call gives only the refusals that its comment lists. If several hold, it gives the
+ *   first of them.
+ * - A refused call alters no byte of `out`. An accepted call returns 0 as its refusal and alters only the bytes that it
+ *   says it writes.
+ * - No call keeps a pointer, allocates memory, blocks, or has a state. Calls may run at the same time where none writes a
+ *   buffer that another uses. The same call with the same input gives the same answer.
+ * - No call takes more than about 1.2 KiB of stack. This is measured and not proved; docs/PERFORMANCE.md has the figures.
  *
- * Every call is proved to do what is said here, for every input. The proofs cover the library, not the C code that calls it. They speak of
- * answers and buffers, not of time or of what is left on the stack: AES looks up tables by secret bytes, and no call wipes its stack.
+ * What is proved
+ *
+ * Every call is proved to do what is said here, for every input, to end, and to do nothing undefined. These are not
+ * proved:
+ *
+ * - The compiler's back end, which makes machine code of the proved program through LLVM, and the linker.
+ * - The C code that calls the library, and the C library's memcpy and memset.
+ * - How long a call takes, and what it leaves on the stack. AES looks up tables by secret bytes, which can show in the
+ *   cache of a processor that has one. No call wipes its stack.
+ * - That SHA-256, HMAC and AES are secure. The proofs say that the library computes them as the standards define them.
+ *
+ * The proofs were checked with the Rattle kit whose KIT-ID is "rattle-kit-5b-plain logic 097e4c862dff5811".
+ *
+ * Sources
+ *
+ * Document 01 is the customer's paper "Keys, offers and key attributes on the yard controller"; the refusal numbers 1 to
+ * 28 are its own. Document 02 is "The next customer requests". Where a draft and a published standard differ, document 01
+ * says which of them decides. It builds on these drafts, which it calls source documents:
+ *
+ *   000  draft-salowey-eap-emsk-deriv-00, "Specification for the Derivation of Usage Specific Root Keys (USRK) from an
+ *        Extended Master Session Key (EMSK)"; it became RFC 5295
+ *   001  draft-dondeti-eap-vkh-00, "EAP Keying and Re-authentication in Visited Domains"
+ *   002  draft-arkko-eap-aka-kdf-00, "Improved Extensible Authentication Protocol Method for 3rd Generation
+ *        Authentication and Key Agreement (EAP-AKA')"; it became RFC 5448
+ *   003  draft-cao-hoakey-hierarchical-hokey-00, "Handover Key Hierarchy based on Extended Master Session Key (EMSK)
+ *        Derivation"; only document 02 uses it
+ *   004  draft-zorn-radius-keywrap-03, "RADIUS Attributes for Key Delivery"
+ *
+ * The standards are FIPS 180-4 (SHA-256), FIPS 197 (AES), RFC 2104 (HMAC), RFC 3394 (AES key wrap), RFC 4306 (prf+),
+ * RFC 5295 and RFC 5448.
  */
 #ifndef KETVAULO_H
 #define KETVAULO_H
@@ -40,164 +76,207 @@
 extern "C" {
 #endif
 
-/* The refusals by name. The text at each call has their order there. */
+/* The refusals by name. The comment at each call says in which order they are tested there. */
 enum {
     KV_ACCEPTED = 0,
-    KV_ROOT_KEY_LENGTH = 1,      /* root key (EMSK, VRK, VMSK) not 64 to 128 bytes */
-    KV_LABEL_LENGTH = 2,         /* label not 1 to 255 bytes */
-    KV_LABEL_BYTE = 3,           /* a label byte outside 32 to 126 */
-    KV_DATA_LENGTH = 4,          /* optional data over 2,048 bytes */
-    KV_KEY_LENGTH = 5,           /* key length not 1 to 8,160 */
-    KV_ROOM = 6,                 /* output buffer too short */
-    KV_SERVER_ID = 7,            /* server ID not 1 to 255 bytes, or a byte of it outside 33 to 126 */
-    KV_DOMAIN = 8,               /* domain not 1 to 253 bytes, or a byte not a letter, digit, hyphen or dot */
-    KV_SESSION_ID = 9,           /* Session-ID not 1 to 255 bytes */
-    KV_OFFER_COUNT = 10,         /* offers not 1 to 16 (1 to 17 when reading an area) */
-    KV_REPEATED_OFFER = 11,      /* an offer value occurs twice */
-    KV_NO_OFFER_SUPPORTED = 12,  /* no offer is supported */
-    KV_REPLY_IS_FIRST = 13,      /* reply (on renewal, the choice) equals the first offer */
-    KV_REPLY_NOT_OFFERED = 14,   /* reply (on renewal, the choice) is not among the offers */
-    KV_RENEWED_LIST = 15,        /* renewed list is not the choice followed by the original */
-    KV_ATTRIBUTE_BOUNDS = 16,    /* attribute without a length byte, of length 0, or past the area's end */
-    KV_KDF_LENGTH = 17,          /* AT_KDF whose length is not 1 */
-    KV_KDF_INPUT = 18,           /* AT_KDF_INPUT whose length disagrees with its name length, or whose padding is not zero */
-    KV_NETWORK_NAME = 19,        /* AT_KDF_INPUT missing or repeated */
-    KV_ATTRIBUTE_TYPE = 20,      /* attribute type 0 */
-    KV_ID_LENGTH = 21,           /* KEK ID or Key ID not 16 bytes */
-    KV_KEK_LENGTH = 22,          /* KEK not 16 bytes */
-    KV_KEY_TO_WRAP_LENGTH = 23,  /* key to wrap not a multiple of 8 from 16 to 192 bytes */
-    KV_KEY_ATTRIBUTE_LENGTH = 24, /* Key attribute of wrong length */
-    KV_RESERVED_BYTE = 25,       /* reserved byte not zero */
-    KV_ENC_TYPE = 26,            /* Enc Type not 0 */
-    KV_IV_FIELD = 27,            /* IV field not eight bytes A6 */
-    KV_INTEGRITY = 28            /* unwrapping does not yield the initial value A6 (eight times) */
+
+    /* document 01 */
+    KV_ROOT_KEY_LENGTH = 1,         /* root key (EMSK, VRK, VMSK) not 64 to 128 bytes */
+    KV_LABEL_LENGTH = 2,            /* label not 1 to 255 bytes */
+    KV_LABEL_BYTE = 3,              /* a label byte outside 32 to 126 */
+    KV_DATA_LENGTH = 4,             /* optional data over 2,048 bytes */
+    KV_KEY_LENGTH = 5,              /* key length not 1 to 8,160 */
+    KV_ROOM = 6,                    /* output buffer too short */
+    KV_SERVER_ID = 7,               /* server ID not 1 to 255 bytes, or a byte of it outside 33 to 126 */
+    KV_DOMAIN = 8,                  /* domain not 1 to 253 bytes, or a byte not a letter, digit, hyphen or dot */
+    KV_SESSION_ID = 9,              /* Session-ID not 1 to 255 bytes */
+    KV_OFFER_COUNT = 10,            /* offers not 1 to 16 (1 to 17 when reading an area) */
+    KV_REPEATED_OFFER = 11,         /* an offer value occurs twice */
+    KV_NO_OFFER_SUPPORTED = 12,     /* no offer is supported */
+    KV_REPLY_IS_FIRST = 13,         /* reply (on renewal, the choice) equals the first offer */
+    KV_REPLY_NOT_OFFERED = 14,      /* reply (on renewal, the choice) is not among the offers */
+    KV_RENEWED_LIST = 15,           /* renewed list is not the choice followed by the original */
+    KV_ATTRIBUTE_BOUNDS = 16,       /* attribute without a length byte, of length 0, or past the area's end */
+    KV_KDF_LENGTH = 17,             /* AT_KDF whose length is not 1 */
+    KV_KDF_INPUT = 18,              /* AT_KDF_INPUT whose length disagrees with its name length, or whose padding is not zero */
+    KV_NETWORK_NAME = 19,           /* AT_KDF_INPUT missing or repeated */
+    KV_ATTRIBUTE_TYPE = 20,         /* attribute type 0 */
+    KV_ID_LENGTH = 21,              /* KEK ID or Key ID not 16 bytes */
+    KV_KEK_LENGTH = 22,             /* KEK not 16 bytes */
+    KV_KEY_TO_WRAP_LENGTH = 23,     /* key to wrap not a multiple of 8 from 16 to 192 bytes */
+    KV_KEY_ATTRIBUTE_LENGTH = 24,   /* Key attribute of wrong length */
+    KV_RESERVED_BYTE = 25,          /* reserved byte not zero */
+    KV_ENC_TYPE = 26,               /* Enc Type not 0 */
+    KV_IV_FIELD = 27,               /* IV field not eight bytes A6 */
+    KV_INTEGRITY = 28,              /* unwrapping does not yield the initial value A6 (eight times) */
+
+    /* Document 02. The requests that these belong to have not landed yet, so no call gives them. */
+    KV_KDF_INPUT_PADDING = 29,      /* AT_KDF_INPUT whose padding is not zero; 18 stays for a length that disagrees */
+    KV_NETWORK_NAME_DIFFERS = 30,   /* a differing network name, where the caller does not ask for lenient reading */
+    KV_DOMAIN_LABEL = 31,           /* a usage request under the EMSK with the label of the domain root key */
+    KV_LABEL_SYNTAX = 32,           /* a label with a space, a comma, a second at-sign or one first or last; or over 64 bytes
+                                       without an at-sign */
+    KV_HANDOVER_KEY_LENGTH = 33,    /* rRK not 64 or R0-Key not 32 bytes */
+    KV_IDENTIFIER_LENGTH = 34,      /* an identifier of wrong length */
+    KV_PACKET_LENGTH = 35,          /* packet not 20 to 4,096 bytes, or of a length unlike its header */
+    KV_PACKET_ATTRIBUTE_BOUNDS = 36, /* any attribute of the packet shorter than 2 or past the end */
+    KV_MAC_ATTRIBUTE = 37,          /* MAC attribute absent, repeated, not 52 long, reserved not zero, or another MAC Type */
+    KV_MAC_DIFFERS = 38,            /* MAC differs */
+    KV_BUNDLE_COUNT = 39,           /* bundle under two bytes, or of a count not 1 to 64 */
+    KV_BUNDLE_CONTENTS = 40,        /* contents cut short, or an offset that is not the previous end */
+    KV_BUNDLE_END = 41,             /* a file not ending with the last body */
+    KV_REPEATED_KEY_ID = 42,        /* repeated Key ID */
+    KV_AKA_INPUT_LENGTH = 43,       /* CK, IK or SQN of wrong length */
+    KV_NETWORK_NAME_LENGTH = 44,    /* network name over 1,016 bytes */
+    KV_IDENTITY_LENGTH = 45,        /* identity not 1 to 255 bytes */
+    KV_SLOTS_FULL = 46,             /* all 64 slots are taken */
+    KV_NO_SUCH_SLOT = 47,           /* no such live slot */
+    KV_PARENT_NOT_LIVE = 48,        /* parent not live */
+    KV_TOO_DEEP = 49,               /* too deep: from the parent, no root within two steps through live slots */
+    KV_KEY_ID_UNLIKE_CONTENTS = 50  /* a Key ID unlike its line of the contents */
 };
 
-/* What most calls return. `refusal` is 0 where the call is accepted; `value` is then the count of what it wrote (of kv_check_renewed,
- * which writes nothing, the choice). Else `refusal` is the number of the refusal, and `value` is 0. */
+/* What most calls return. An accepted call has `refusal` 0 and, as `value`, the count of what it wrote. (kv_check_renewed
+ * writes nothing; its `value` is the choice.) A refused call has its number as `refusal`, and `value` 0. */
 typedef struct {
     uint32_t refusal;
     uint64_t value;
 } kv_outcome;
 
-/* The SHA-256 digest of a message (FIPS 180-4). The message has any length. Writes 32 bytes and returns 32.
+/* The SHA-256 digest of a message (FIPS 180-4). The message may have any length. Writes 32 bytes and returns 32.
  * Refusals: 6 `out` has fewer than 32 bytes. */
 kv_outcome kv_sha256(const uint8_t *message, size_t message_len, uint8_t *out, size_t out_len);
 
-/* The HMAC-SHA-256 of a message under a key (RFC 2104). Key and message have any length. Writes 32 bytes and returns 32.
+/* The HMAC-SHA-256 of a message under a key (RFC 2104). Key and message may have any length. Writes 32 bytes and returns
+ * 32.
  * Refusals: 6 `out` has fewer than 32 bytes. */
 kv_outcome kv_hmac_sha256(const uint8_t *key, size_t key_len, const uint8_t *message, size_t message_len, uint8_t *out,
                           size_t out_len);
 
-/* The keys below are made by prf+ (RFC 4306, section 2.13) with HMAC-SHA-256, from a key K and a text S: T1 is the MAC under K of S and
- * the byte 1, each later Ti the MAC of T(i-1), S and the byte i, and the key is the first bytes of T1, T2 and so on. */
+/* The keys below are made by prf+ (RFC 4306, section 2.13) with HMAC-SHA-256, from a key K and a text S. T1 is the MAC
+ * under K of S and the byte 1. Each later Ti is the MAC under K of T(i-1), S and the byte i. The derived key is as many
+ * bytes as are asked for, from the start of T1, T2 and so on. */
 
-/* The usage key of a label and optional data under an EMSK (RFC 5295): n bytes of prf+ with K the EMSK and S the label, one zero
- * byte, the data, and n as two bytes, high byte first. n counts bytes; no data is data of length 0. Requests under one EMSK that differ in
- * label, data or n never hand the same bytes to HMAC. Writes n bytes and returns n.
- * Refusals, in this order: 1 EMSK not 64 to 128 bytes; 2 label not 1 to 255 bytes; 3 a label byte outside 32 to 126; 4 data over
- * 2,048 bytes; 5 n not 1 to 8,160; 6 `out` has fewer than n bytes. */
+/* The usage key of a label and optional data under an EMSK (RFC 5295): n bytes of prf+. K is the EMSK. S is the label,
+ * one zero byte, the data, and n as two bytes, high byte first. n counts bytes. No data is data of length 0. Requests
+ * under one EMSK that differ in label, data or n never give the same bytes to HMAC. Writes n bytes and returns n.
+ * Refusals, in this order: 1 EMSK not 64 to 128 bytes; 2 label not 1 to 255 bytes; 3 a label byte outside 32 to 126;
+ * 4 data over 2,048 bytes; 5 n not 1 to 8,160; 6 `out` has fewer than n bytes. */
 kv_outcome kv_usage_key(const uint8_t *emsk, size_t emsk_len, const uint8_t *label, size_t label_len,
                         const uint8_t *data, size_t data_len, uint64_t n, uint8_t *out, size_t out_len);
 
-/* The visited-domain keys of a handheld (draft-dondeti-eap-vkh-00): the VRK under the EMSK, a VMSK for a server and its domain under the
- * VRK, and the V-rRK under a VMSK. Each call writes 64 bytes and returns 64. */
+/* The visited-domain keys of a handheld (draft-dondeti-eap-vkh-00): the VRK under the EMSK, a VMSK for a server and its
+ * domain under the VRK, and the V-rRK under a VMSK. Each call writes 64 bytes and returns 64. */
 
-/* The VRK: the usage key of the label "EAP Visited domain Root Key", no data, n = 64.
+/* The VRK: the usage key of the label "EAP Visited domain Root Key" with no data and n = 64.
  * Refusals, in this order: 1 EMSK not 64 to 128 bytes; 6 `out` has fewer than 64 bytes. */
 kv_outcome kv_visited_root_key(const uint8_t *emsk, size_t emsk_len, uint8_t *out, size_t out_len);
 
-/* The VMSK: prf+ with K the VRK and S the server ID and then the domain, no length. Within one domain every server ID has an S of its
- * own; two pairs of server ID and domain that join to the same bytes have one VMSK, so give out no server ID that can run into a domain.
- * Refusals, in this order: 1 VRK not 64 to 128 bytes; 7 server ID not 1 to 255 bytes, or a byte of it outside 33 to 126; 8 domain not 1 to
- * 253 bytes, or a byte not an ASCII letter, digit, hyphen or dot; 6 `out` has fewer than 64 bytes. */
+/* The VMSK: prf+ where K is the VRK and S is the server ID and then the domain, with no length. Within one domain, each
+ * server ID has an S of its own. Across domains, two pairs of server ID and domain that join to the same bytes have the
+ * same VMSK. So give out no server ID that can run into a domain.
+ * Refusals, in this order: 1 VRK not 64 to 128 bytes; 7 server ID not 1 to 255 bytes, or a byte of it outside 33 to 126;
+ * 8 domain not 1 to 253 bytes, or a byte not an ASCII letter, digit, hyphen or dot; 6 `out` has fewer than 64 bytes. */
 kv_outcome kv_visited_master_key(const uint8_t *vrk, size_t vrk_len, const uint8_t *server_id, size_t server_id_len,
                                  const uint8_t *domain, size_t domain_len, uint8_t *out, size_t out_len);
 
-/* The V-rRK: prf+ with K the VMSK and S "EAP Re-authentication Root Key", no length.
+/* The V-rRK: prf+ where K is the VMSK and S is "EAP Re-authentication Root Key", with no length.
  * Refusals, in this order: 1 VMSK not 64 to 128 bytes; 6 `out` has fewer than 64 bytes. */
 kv_outcome kv_visited_reauth_key(const uint8_t *vmsk, size_t vmsk_len, uint8_t *out, size_t out_len);
 
-/* A name of a key, which is no secret (draft-dondeti-eap-vkh-00): the first 8 bytes of SHA-256 over the Session-ID and then the label.
- * Writes 8 bytes and returns 8.
- * Refusals, in this order: 9 Session-ID not 1 to 255 bytes; 2 label not 1 to 255 bytes; 3 a label byte outside 32 to 126; 6 `out` has
- * fewer than 8 bytes. */
+/* A name of a key, which is no secret (draft-dondeti-eap-vkh-00): the first 8 bytes of SHA-256 over the Session-ID and
+ * then the label. Writes 8 bytes and returns 8.
+ * Refusals, in this order: 9 Session-ID not 1 to 255 bytes; 2 label not 1 to 255 bytes; 3 a label byte outside 32 to 126;
+ * 6 `out` has fewer than 8 bytes. */
 kv_outcome kv_key_name(const uint8_t *session_id, size_t session_id_len, const uint8_t *label, size_t label_len,
                        uint8_t *out, size_t out_len);
 
-/* What the peer's first round returns. `value` is the offer that is picked; `ask` is 0 for Carry On (it is the first offer and is taken
- * into use) and 1 for Ask (it stands at `position`, counted from 0, and is asked of the server). `position` is 0 on Carry On. On a refusal
- * every field but `refusal` is 0. */
+/* What the peer's first round returns. `value` is the offer that is picked. `ask` is 0 for Carry On: this is the first
+ * offer, and it is used. `ask` is 1 for Ask: the offer stands at `position`, counted from 0, and the peer has to ask the
+ * server for it. `position` is 0 on Carry On. On a refusal every field but `refusal` is 0. */
 typedef struct {
     uint32_t refusal, ask, value, position;
 } kv_first_round;
 
-/* The offers below are AT_KDF values (RFC 5448, section 3.2) as numbers of the machine, in the server's order of preference. Value 0 is one
- * like any other. A server has 1 to 16 offers, so that a renewed list has at most 17. */
+/* The offers below are AT_KDF values (RFC 5448, section 3.2) as numbers of the machine, in the server's order of
+ * preference. Value 0 is a value like any other. A server has 1 to 16 offers, so a renewed list has at most 17. */
 
-/* The peer's first round: the first offer, in the server's order, that stands in `supported`, which has any length and order; repeats in
- * it change nothing. Writes nothing.
+/* The peer's first round: picks the first offer, in the server's order, that is in `supported`. That list may have any
+ * length and order, and values may repeat in it. Writes nothing.
  * Refusals, in this order: 10 not 1 to 16 offers; 11 an offer value occurs twice; 12 no offer is supported. */
 kv_first_round kv_choose_offer(const uint16_t *offers, size_t offers_len, const uint16_t *supported,
                                size_t supported_len);
 
-/* The server, on the peer's reply: accepted exactly if the reply is an offer after the first. Writes the reply and then the entire
- * list, and returns the new count of values, which is one more than the offers; room for 17 is always enough.
- * Refusals, in this order: 10 not 1 to 16 offers; 11 an offer value occurs twice; 13 the reply is the first offer; 14 the reply is not
- * among the offers; 6 `out` has no room for one value more than the offers. */
+/* The server, on the peer's reply: accepts exactly a reply that is an offer after the first. Writes the reply and then
+ * the entire list. Returns the new count of values, which is one more than the offers. Room for 17 is always enough.
+ * Refusals, in this order: 10 not 1 to 16 offers; 11 an offer value occurs twice; 13 the reply is the first offer; 14 the
+ * reply is not among the offers; 6 `out` has no room for one value more than the offers. */
 kv_outcome kv_answer_offer(const uint16_t *offers, size_t offers_len, uint16_t reply, uint16_t *out, size_t out_len);
 
-/* The peer, on the renewed list, which has any length: accepted exactly if that is the choice followed by the original list. Writes
- * nothing; returns the choice as `value`. Refusals, in this order: 10 the original has not 1 to 16 offers; 11 an offer value occurs twice
- * in it; 13 the choice is its first offer; 14 the choice is not among its offers; 15 the renewed list is not the choice followed by the
- * original. */
+/* The peer, on the renewed list, which may have any length: accepts exactly the choice followed by the original list.
+ * Writes nothing, and returns the choice as `value`.
+ * Refusals, in this order: 10 the original has not 1 to 16 offers; 11 an offer value occurs twice in it; 13 the choice is
+ * its first offer; 14 the choice is not among its offers; 15 the renewed list is not the choice followed by the original. */
 kv_outcome kv_check_renewed(const uint16_t *original, size_t original_len, uint16_t choice, const uint16_t *renewed,
                             size_t renewed_len);
 
-/* What reading an attribute area returns: the count of the offers written, the name's offset from the area's first byte and its
- * length in bytes, and whether it is byte for byte the peer's own name (1) or not (0). On a refusal every field but `refusal` is 0;
- * `at` is the place that a refusal carries, and no refusal carries one yet. */
+/* What reading an attribute area returns: the count of the offers written, the name's offset from the area's first byte,
+ * its length in bytes, and whether it is byte for byte the peer's own name (1) or not (0). `at` is for the place that a
+ * refusal carries; no refusal carries one yet, so it is always 0. On a refusal every field but `refusal` is 0. */
 typedef struct {
     uint32_t refusal, offers;
     uint64_t at, name_at, name_len;
     uint32_t same_name;
 } kv_area;
 
-/* The offers and the network name of an attribute area (RFC 5448, sections 3.1 and 3.2), which has any length: AT_KDF is type 24,
- * AT_KDF_INPUT type 23, others are stepped over. An attribute's length counts words of four bytes. Writes the offers in order, 1 to 17 of
- * them. A value may occur twice here: kv_choose_offer refuses that. An empty name is read like any other: failing the login for it is the
- * caller's act, and so is what to do about a different name. Refusals: 6 `out` has no room for 17 values, first. Then attribute by
- * attribute: 16 no length byte, length 0, or past the area's end; 17 an AT_KDF whose length is not 1; 18 an AT_KDF_INPUT whose length
- * disagrees with its name length, or whose padding is not zero; 19 a second AT_KDF_INPUT; 10 an eighteenth AT_KDF. At the end: 19 no
- * AT_KDF_INPUT; 10 no AT_KDF. */
+/* Reads the offers and the network name of an attribute area (RFC 5448, sections 3.1 and 3.2), which may have any length.
+ * AT_KDF is type 24, AT_KDF_INPUT is type 23, and an attribute's length counts words of four bytes. Writes the offers in
+ * order, 1 to 17 of them.
+ *
+ * What is left to the caller:
+ * - Attributes of every other type are stepped over, also of a type below 128. RFC 4187 has a peer refuse a message with
+ *   an attribute below 128 that it does not know. That is the caller's act.
+ * - A value may occur twice here; kv_choose_offer refuses that.
+ * - An empty name is read like any other. Failing the login for it is the caller's act.
+ * - A name that differs from the peer's own is only reported. What to do about it is the caller's decision.
+ *
+ * Refusals: first 6 `out` has no room for 17 values. Then attribute by attribute: 16 no length byte, length 0, or past the
+ * area's end; 17 an AT_KDF whose length is not 1; 18 an AT_KDF_INPUT whose length disagrees with its name length, or whose
+ * padding is not zero; 19 a second AT_KDF_INPUT; 10 an eighteenth AT_KDF. At the end: 19 no AT_KDF_INPUT; 10 no AT_KDF. */
 kv_area kv_read_area(const uint8_t *area, size_t area_len, const uint8_t *own_name, size_t own_name_len, uint16_t *out,
                      size_t out_len);
 
-/* The RADIUS Key attribute (draft-zorn-radius-keywrap-03, section 3.1), whose key is wrapped under a KEK by RFC 3394 with AES-128 (FIPS
- * 197). By byte: 0 type, 1 length, 2 reserved (0), 3 Enc Type (0), 4 App ID, 8 KEK ID, 24 Key ID, 40 lifetime in seconds, 44 IV (eight
- * bytes A6), 52 the wrapped key, which is 8 bytes longer than the key. So the attribute is 60 bytes longer than its key: 252 bytes hold
- * every attribute, 192 every key. Numbers are high byte first in it. What is written reads back to the same fields and key under the same
- * KEK, and what is accepted, written again, is the same bytes. */
+/* The RADIUS Key attribute (draft-zorn-radius-keywrap-03, section 3.1). Its key is wrapped under a KEK by RFC 3394 with
+ * AES-128 (FIPS 197). By byte: 0 type, 1 length, 2 reserved (0), 3 Enc Type (0), 4 App ID, 8 KEK ID, 24 Key ID,
+ * 40 lifetime in seconds, 44 IV (eight bytes A6), 52 the wrapped key, which is 8 bytes longer than the key. Numbers are
+ * high byte first. The attribute is 60 bytes longer than its key: 252 bytes hold every attribute, and 192 every key.
+ *
+ * What is written reads back to the same fields and key under the same KEK. What is accepted, written again, is the same
+ * bytes.
+ *
+ * The unwrapping authenticates the key alone. Type, App ID, both IDs and lifetime are not covered by it: whoever can alter
+ * the packet can alter them, and the attribute is still accepted. Rely on them only where the whole packet is
+ * authenticated. */
 
-/* Writes the attribute that carries a key, and returns its length, which is 60 plus `key_len`. Both IDs have 16 bytes.
- * Refusals, in this order: 20 type 0; 21 KEK ID or Key ID not 16 bytes; 22 KEK not 16 bytes; 23 key not a multiple of 8 from 16 to 192
- * bytes; 6 `out` has no room for the attribute. */
+/* Writes the attribute that carries a key. Returns its length, which is 60 plus `key_len`.
+ * Refusals, in this order: 20 type 0; 21 KEK ID or Key ID not 16 bytes; 22 KEK not 16 bytes; 23 key not a multiple of 8
+ * from 16 to 192 bytes; 6 `out` has no room for the attribute. */
 kv_outcome kv_write_key_attribute(uint8_t type, uint32_t app_id, const uint8_t *kek_id, size_t kek_id_len,
                                   const uint8_t *key_id, size_t key_id_len, uint32_t lifetime, const uint8_t *kek,
                                   size_t kek_len, const uint8_t *key, size_t key_len, uint8_t *out, size_t out_len);
 
-/* What reading a Key attribute returns: its fields and the length of the key written to `out`. On a refusal every field but
- * `refusal` is 0. */
+/* What reading a Key attribute returns: its fields, and the length of the key written to `out`. On a refusal every field
+ * but `refusal` is 0. */
 typedef struct {
     uint32_t refusal, app_id, lifetime, key_len;
     uint8_t type, kek_id[16], key_id[16];
 } kv_key_attribute;
 
-/* Reads an attribute of `attribute_len` bytes and writes its key, which is 60 bytes shorter. No byte of the key is written before the
- * unwrapping is known to be right.
- * Refusals, in this order: 22 KEK not 16 bytes; 24 fewer than 2 bytes, a length byte unequal to `attribute_len`, or a length that is not 60
- * plus a multiple of 8 from 16 to 192; 20 type 0; 25 reserved byte not zero; 26 Enc Type not 0; 27 IV field not eight bytes A6; 6 `out` has
- * no room for the key; 28 the unwrapping does not yield the initial value. */
+/* Reads an attribute of `attribute_len` bytes and writes its key, which is 60 bytes shorter. Writes no byte of the key
+ * before the unwrapping has been found right.
+ * Refusals, in this order: 22 KEK not 16 bytes; 24 fewer than 2 bytes, a length byte unequal to `attribute_len`, or a
+ * length that is not 60 plus a multiple of 8 from 16 to 192; 20 type 0; 25 reserved byte not zero; 26 Enc Type not 0;
+ * 27 IV field not eight bytes A6; 6 `out` has no room for the key; 28 the unwrapping does not yield the initial value. */
 kv_key_attribute kv_read_key_attribute(const uint8_t *kek, size_t kek_len, const uint8_t *attribute,
                                        size_t attribute_len, uint8_t *out, size_t out_len);
 

@@ -23,7 +23,7 @@ fn main() {
     println!("cargo:rerun-if-changed=build.rs");
 
     let exported = exported_by(&archive);
-    let declared = calls_in(&fs::read_to_string(&header).unwrap_or_default());
+    let declared = declared_by(&header, &root.join("tools/header.awk"));
     let known = calls_in(&fs::read_to_string(&foreign).unwrap());
 
     let folder = PathBuf::from(env::var("OUT_DIR").unwrap());
@@ -52,7 +52,20 @@ fn exported_by(archive: &Path) -> Names {
         .collect()
 }
 
-/// The `kv_` names before an opening parenthesis, comments left out: the functions that a header or `ffi.rs` declares.
+/// The functions that the header declares, by the reader of headers: its lines with a parenthesis start with a call's name.
+fn declared_by(header: &Path, reader: &Path) -> Names {
+    println!("cargo:rerun-if-changed={}", reader.display());
+    let listing = Command::new("awk").arg("-f").arg(reader).arg(header).output().expect("awk runs");
+    assert!(listing.status.success(), "{} cannot read {}", reader.display(), header.display());
+    String::from_utf8_lossy(&listing.stdout)
+        .lines()
+        .filter(|line| line.contains('('))
+        .filter_map(|line| line.split(' ').next())
+        .map(str::to_owned)
+        .collect()
+}
+
+/// The `kv_` names before an opening parenthesis, comments left out: the functions that `ffi.rs` declares.
 fn calls_in(source: &str) -> Names {
     let code = without_comments(source);
     let mut names = Names::new();
@@ -66,7 +79,7 @@ fn calls_in(source: &str) -> Names {
     names
 }
 
-/// The source with comments of both C kinds cut out.
+/// The source without its comments.
 fn without_comments(source: &str) -> String {
     let mut code = String::new();
     let mut rest = source;

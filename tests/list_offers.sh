@@ -1,12 +1,11 @@
 #!/usr/bin/env bash
-# Runs the listing program on inputs whose answers document 01 gives, and compares what it writes, to the byte. Takes the program's
-# path (default: target/bin/list_offers). The last line is 'N passed, M failed'; the exit status is 0 only if all passed.
+# Runs the listing program on inputs whose answers document 01 gives, and compares what it writes, to the byte. Takes the program's path
+# (default: target/bin/list_offers). Last line: 'N passed, M failed'. The status is 0 only if nothing failed.
 set -u
 shopt -s lastpipe # so that `is`, at the end of a pipe, counts
-cd "$(dirname "$0")/.." || exit 2
+cd "$(dirname "$0")/.." && . tools/common.sh || exit 2
 program=${1:-target/bin/list_offers}
-[ -x "$program" ] || { echo "no program $program: run rt check list_offers first"; exit 2; }
-passed=0 failed=0
+[ -x "$program" ] || { say "no program $program: run rt check list_offers first"; exit 2; }
 scratch=$(mktemp -d) || exit 2
 trap 'rm -rf "$scratch"' EXIT
 
@@ -14,20 +13,22 @@ trap 'rm -rf "$scratch"' EXIT
 bytes() { printf "$(printf '%s' "$@" | tr -d ' \n' | sed 's/../\\x&/g')"; }
 
 # times N HEX: the bytes N times
-times() { local i; for ((i = 0; i < $1; i++)); do bytes "$2"; done; }
+times() { bytes "$(printf "$2%.0s" $(seq "$1"))"; }
 
-# is NAME EXPECTED: standard input is the area, EXPECTED what the program must write, a final newline added
+# is NAME EXPECTED: standard input is the area; EXPECTED and a newline is what the program must write
 is() {
     cat >"$scratch/area"
     printf '%s\n' "$2" >"$scratch/expected"
+    check "$1" lists
+}
+
+lists() {
+    local status
     "$program" <"$scratch/area" >"$scratch/written" 2>&1
-    local status=$?
-    if [ "$status" -eq 0 ] && cmp -s "$scratch/expected" "$scratch/written"; then
-        passed=$((passed + 1))
-    else
-        failed=$((failed + 1))
-        echo "$1: status $status, wrote '$(head -c 200 "$scratch/written" | tr '\n\0' '|.')', not '$(tr '\n' '|' <"$scratch/expected")'"
-    fi
+    status=$?
+    [ "$status" -eq 0 ] && cmp -s "$scratch/expected" "$scratch/written" && return
+    echo "status $status, wrote '$(head -c 200 "$scratch/written" | tr '\n\0' '|.')', not '$(tr '\n' '|' <"$scratch/expected")'"
+    return 1
 }
 
 kdf=18010002
@@ -88,5 +89,4 @@ bytes $name | is "no offer" 'refused 10'
 head -c 4095 /dev/zero | is "4,095 zero bytes" 'refused 16'
 head -c 100000 /dev/zero | is "100,000 bytes" 'too long'
 
-echo "$passed passed, $failed failed"
-[ "$failed" -eq 0 ]
+tell_counts

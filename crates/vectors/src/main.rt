@@ -1,11 +1,12 @@
-// Runs the published vectors of the primitives, one line for each: its source, its input in words, what came out. The file stdout beside
-// src/ has what the publications say; docs/VECTORS.md names them.
+// Computes test vectors of the primitives and prints a line for each result: the source, the input in words, the bytes. Most inputs are
+// published. Seven are not: three SHA-256 messages at the edges of the padding, and four keys that are wrapped. The file stdout has the
+// expected lines; docs/VECTORS.md says where each comes from.
 ghost use Prim.Native.Nat.{_≤_};
 use libc::STDOUT_FILENO;
 use refusal::Written;
 use sha256::Sha256;
 
-// Writes a name, the bytes in hexadecimal, and a line end.
+// Prints a name, the bytes in hexadecimal, and a line end.
 fn line(name: &[u8], bytes: &[u8]) {
     io::write_all(STDOUT_FILENO, name);
     io::write_all(STDOUT_FILENO, b" ");
@@ -21,25 +22,25 @@ fn wide(x: u8) -> u64 {
     x as u64
 }
 
-// The digest of a message.
+// Prints the digest of a message.
 fn hash(name: &[u8], message: &[u8]) {
     let d = sha256::digest(message);
     line(name, &d);
 }
 
-// The MAC of a message under a key.
+// Prints the MAC of a message under a key.
 fn mac(name: &[u8], key: &[u8], message: &[u8]) {
     let m = hmac::mac(key, message);
     line(name, &m);
 }
 
-// The first half of the MAC of a message under a key.
+// Prints the first half of the MAC of a message under a key.
 fn truncated(name: &[u8], key: &[u8], message: &[u8]) {
     let m = hmac::mac(key, message);
     line(name, &m[..16]);
 }
 
-// One million times 'a', a thousand at a time.
+// The digest of one million times 'a', absorbed a thousand at a time.
 fn million() {
     let part = [97u8; 1000];
     let mut state = Sha256::new();
@@ -67,7 +68,7 @@ fn nist() {
     hash(b"SHA-256 c98c8e55", &[0xc9, 0x8c, 0x8e, 0x55]);
 }
 
-// Zeros up to and past the edges of the padding.
+// Messages of zeros at the edges of the padding. NIST publishes all of these but 63, 119 and 120 zeros.
 fn edges() {
     let zeros = [0u8; 1000];
     hash(b"SHA-256 empty", b"");
@@ -160,7 +161,7 @@ fn bytes(s: [[u8; 4]; 4]) -> [u8; 16] {
     ]
 }
 
-// A block encrypted, and what comes of it decrypted again.
+// Encrypts a block, and decrypts the result.
 fn cipher(name: &[u8], key: [u8; 16], block: [u8; 16]) {
     let mut schedule = [[[0u8; 4]; 4]; 11];
     aes128::expand_key(columns(key), &mut schedule);
@@ -236,7 +237,7 @@ fn fips_197() {
     );
 }
 
-// A key wrapped under the KEK of RFC 3394, section 4.1, and what comes of it unwrapped again.
+// Wraps a key under the KEK of RFC 3394, section 4.1, and unwraps the result.
 fn wrap(name: &[u8], key: &[u8]) {
     let kek = [0, 1, 2, 3, 4, 5, 6, 7, 8, 9, 10, 11, 12, 13, 14, 15];
     let mut wrapped = [0u8; 200];
@@ -269,7 +270,7 @@ fn counted() -> [u8; 192] {
     r
 }
 
-// RFC 3394, section 4.1, and longer keys under its KEK.
+// RFC 3394, section 4.1; and four longer keys under its KEK, which are not published.
 fn rfc_3394() {
     wrap(
         b"RFC 3394 section 4.1",
