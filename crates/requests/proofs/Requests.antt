@@ -1,4 +1,4 @@
--- The statements of requests besides separation.
+-- The key of a request is made of its blocks, a VRK is the usage request with its label, and some requests are accepted.
 -- Assumes nothing.
 use Prim.Native.Nat.{ℕ, zero, suc}
 use mathlib.Core.Path.{_≡_, refl}
@@ -12,9 +12,8 @@ use Rattle.hmac.specs.Rfc2104.{hmacSha256}
 use Rattle.hmac.proofs.Laws.{hmacSha256-length}
 use Rattle.prf_plus.specs.PrfPlus.{block, prfPlus}
 use Rattle.prf_plus.proofs.Laws.{count-le, block-of-input, prfPlus-length}
-use Rattle.requests.specs.Rfc5295.{usageText}
 use Rattle.requests.specs.Requests.{Request, BlockOf, lengthOf, checkOf, vrkLabel, textOf, inputOf, keyOf}
-use Rattle.requests.specs.Statements.{KeyOfBlocks, VrkIsUsage, SomeAccepted, GateTexts}
+use Rattle.requests.specs.Statements.{KeyOfBlocks, VrkIsUsage, SomeAccepted}
 use Rattle.requests.proofs.Accepting.{sound}
 
 -- each block is HMAC of its input
@@ -40,7 +39,3 @@ vrk-is-usage emsk room = (simp then-pass, refl, refl, λ i. refl)
 pub some-accepted : SomeAccepted
 unfolding checkOf labelCheck _andThen_ unless within every labelByte
 some-accepted = (refl, refl, refl)
-
-pub gate-texts : GateTexts
-unfolding textOf usageText
-gate-texts room = (refl, refl)

@@ -1,5 +1,5 @@
--- What is proved of requests under an EMSK (document 01, demand 3, "Usage keys", "Visited keys"). The proofs are `separated` of
--- proofs/Separation.antt, and `key-of-blocks`, `vrk-is-usage`, `some-accepted` and `gate-texts` of proofs/Requests.antt.
+-- What is proved of requests under an EMSK (document 01, demand 3, "Usage keys", "Visited keys"). The proofs are `separated` and `gate-texts`
+-- of proofs/Separation.antt, and `key-of-blocks`, `vrk-is-usage` and `some-accepted` of proofs/Requests.antt.
 -- Assumes nothing.
 use Prim.Native.Nat.{ℕ, _≤_}
 use mathlib.Core.Path.{_≡_}
