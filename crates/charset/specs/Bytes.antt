@@ -1,8 +1,9 @@
--- Which bytes a label, a server ID and a domain may hold (document 01, "Refusal numbers", 3, 7 and 8), and the place of the first byte that a text may not hold.
+-- Which bytes a label, a server ID and a domain may hold (document 01, "Refusal numbers", 3, 7 and 8), and the position of
+-- the first byte that a text may not hold.
 -- Assumes nothing.
 use Prim.Native.Nat.{ℕ, suc}
 use Prim.Native.Char.{code}
-use mathlib.Core.Bool.{Bool, true, false, _&&_, _||_}
+use mathlib.Core.Bool.{Bool, true, cond, _&&_, _||_}
 use mathlib.Core.List.{List, [], _∷_}
 use lib.Dec.{eqb}
 use Rattle.refusal.specs.Checks.{within}
@@ -34,15 +35,11 @@ unfoldable pub every : (ℕ → Bool) → List ℕ → Bool
 every p [] = true
 every p (x ∷ xs) = p x && every p xs
 
-abbrev pub pickScan : Bool → Scan → Scan → Scan
-pickScan true a b = a
-pickScan false a b = b
-
--- the place of the first element that fails the test, where the list's first element has the place i
+-- the position of the first element that fails the test, where the list's first element has position i
 unfoldable pub scanFrom : (ℕ → Bool) → ℕ → List ℕ → Scan
 scanFrom p i [] = Clean
-scanFrom p i (x ∷ xs) = pickScan (p x) (scanFrom p (suc i) xs) (BadAt i)
+scanFrom p i (x ∷ xs) = cond (p x) (scanFrom p (suc i) xs) (BadAt i)
 
--- the place of the first element that fails the test, counted from 0
+-- the position of the first element that fails the test, counted from 0
 abbrev pub firstBad : (ℕ → Bool) → List ℕ → Scan
 firstBad p xs = scanFrom p 0 xs

@@ -8,7 +8,8 @@ use lib.ListN.{length, take}
 use lib.Seq.{length-take-le}
 use Rattle.refusal.specs.Checks.{Reason, Check, pass, refuse, _andThen_, check6}
 use Rattle.refusal.specs.Answers.{Answer, answerTo, bufferAfter}
-use Rattle.charset.specs.Checks.{labelCheck}
+use Rattle.refusal.proofs.Passing.{first-refuses}
+use Rattle.identifiers.specs.Checks.{labelCheck}
 use Rattle.sha256_block.specs.Fips180.{sha256}
 use Rattle.sha256.proofs.Stream.{sha256-length}
 use Rattle.key_name.specs.Ndf64.{check9, nameCheck, nameOf}
@@ -20,8 +21,8 @@ name-size m {hash} h = length-take-le 8 hash (omega (arith, sha256-length m, ap 
 -- what a call answers and leaves, by what its tests before the room's came to: a refusal of theirs, or the hash's first 8 bytes
 module _ (session label buffer : List ℕ) where
   pub refused-first : {x : Reason} → (check9 session andThen labelCheck label) ≡ refuse x → nameCheck session label (length buffer) ≡ refuse x
-  unfolding nameCheck _andThen_
-  refused-first e = rw e
+  unfolding nameCheck
+  refused-first e = sym (first-refuses (check9 session andThen labelCheck label) (check6 8 (length buffer)) e)
 
   pub name-put : {hash after : List ℕ} {a : Answer} → (check9 session andThen labelCheck label) ≡ pass → hash ≡ sha256 (session ++ label)
       → (a ≡ answerTo (pass andThen check6 (length (take 8 hash)) (length buffer)) (length (take 8 hash))) × (after ≡ bufferAfter (pass andThen check6 (length (take 8 hash)) (length buffer)) (length (take 8 hash)) (take 8 hash) buffer)

@@ -1,29 +1,29 @@
 // Key names (source document 001, section 4.1; document 01, "Visited keys"): the first 8 bytes of SHA-256 over Session-ID then label. The
-// two are hashed one after the other, and joined nowhere.
+// two are hashed one after the other and are not joined in a buffer.
 ghost use mathlib.Core.Path.{_≡_};
 ghost use lib.ListN.{length};
 ghost use Rattle.refusal.specs.Checks.{_andThen_};
 ghost use Rattle.refusal.specs.Answers.{checkedAs, answerOf, answerTo, bufferAfter};
-ghost use Rattle.charset.specs.Checks.{labelCheck};
+ghost use Rattle.identifiers.specs.Checks.{labelCheck};
 ghost use Rattle.sha256_block.specs.Fips180.{sha256};
 ghost use Rattle.key_name.specs.Ndf64.{check9, nameCheck, nameOf};
 use refusal::Checked;
 use refusal::Refusal;
 use refusal::Written;
 
-// The bytes of a name.
+// The number of bytes in a name.
 const NAME: usize = 8;
 
-// The tests of a name before the room's: 9, 2, 3.
+// The tests of a name that come before that of the room: 9, 2, 3.
 fn check_inputs(session: &[u8], label: &[u8]) -> Checked
     ensures { λ r. ⌜ checkedAs r ≡ (check9 (now (session .entry)) andThen labelCheck (now (label .entry))) ⌝ }
 {
     let id = refusal::unless(refusal::in_range(1, 255, session.len()), Refusal::SessionId);
-    let text = charset::check_label(label);
+    let text = identifiers::check_label(label);
     refusal::then_check(id, text)
 }
 
-// The name of a Session-ID and a label: 8 bytes at the start of out. Nothing is hashed where 9, 2 or 3 refuses.
+// Writes the name of a Session-ID and a label: 8 bytes at the start of out. Nothing is hashed if 9, 2 or 3 refuses.
 pub fn key_name(session: &[u8], label: &[u8], out: &mut [u8]) -> Written
     ensures answer { λ r. ⌜ answerOf r ≡ answerTo (nameCheck (now (session .entry)) (now (label .entry)) (length (now (out .entry)))) 8 ⌝ }
     ensures buffer { λ _. ⌜ now (out .exit) ≡ bufferAfter (nameCheck (now (session .entry)) (now (label .entry)) (length (now (out .entry)))) 8 (nameOf (now (session .entry)) (now (label .entry))) (now (out .entry)) ⌝ }

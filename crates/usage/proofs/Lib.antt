@@ -1,5 +1,1 @@
-pub mod Accepting
-pub mod Answering
-pub mod Separation
-pub mod Requests
-pub mod Cases
+pub mod Tests

@@ -1,23 +1,21 @@
 // Usage keys (RFC 5295; source document 000, section 3; document 01, "Usage keys"): n bytes of prf+ under the EMSK, with a text S of the
-// label, a zero byte, optional data and n. specs/Statements.antt says that no two requests under an EMSK share a block's input.
+// label, a zero byte, optional data and n. The crate `requests` has the definitions.
 ghost use mathlib.Core.Path.{_≡_};
-ghost use mathlib.Core.List.{[], _∷_};
-ghost use Prim.Native.Nat.{_/_, _%_};
 ghost use lib.ListN.{length};
 ghost use Rattle.refusal.specs.Checks.{_andThen_, check1};
 ghost use Rattle.refusal.specs.Answers.{checkedAs, answerOf};
-ghost use Rattle.charset.specs.Checks.{labelCheck};
-ghost use Rattle.usage.specs.Rfc5295.{check4};
-ghost use Rattle.usage.specs.Requests.{forUsage, requestAnswer, requestBuffer};
-use charset::check_label;
+ghost use Rattle.identifiers.specs.Checks.{labelCheck};
+ghost use Rattle.requests.specs.Rfc5295.{check4};
+ghost use Rattle.requests.specs.Requests.{forUsage, requestAnswer, requestBuffer};
+use identifiers::check_label;
 use refusal::Checked;
 use refusal::Refusal;
 use refusal::Written;
 
-// The longest optional data.
+// The most bytes of optional data.
 const MOST_DATA: usize = 2048;
 
-// The tests before the expansion's: 1, 2, 3, 4.
+// The tests that come before those of the expansion: 1, 2, 3, 4.
 fn check_inputs(emsk: &[u8], label: &[u8], data: &[u8]) -> Checked
     ensures { λ r. ⌜ checkedAs r ≡ (check1 (now (emsk .entry)) andThen labelCheck (now (label .entry)) andThen check4 (now («data» .entry))) ⌝ }
 {
@@ -27,16 +25,7 @@ fn check_inputs(emsk: &[u8], label: &[u8], data: &[u8]) -> Checked
     refusal::then_check(refusal::then_check(key, name), extra)
 }
 
-// n as two bytes, high byte first.
-fn two_bytes(n: usize) -> [u8; 2]
-    ensures { λ r. ⌜ r ≡ (n / 256 % 256 ∷ n % 256 ∷ []) ⌝ }
-{
-    let high = (n / 256 % 256) as u8;
-    let low = (n % 256) as u8;
-    [high, low]
-}
-
-// The usage key of a label, optional data and a length: n bytes at the start of out. The expansion tests 5 and 6.
+// Writes the usage key of a label, optional data and a length n: n bytes at the start of out. The expansion tests 5 and 6.
 pub fn usage_key<'a>(
     emsk: &[u8],
     label: &'a [u8],
@@ -48,6 +37,6 @@ pub fn usage_key<'a>(
     ensures buffer { λ _. ⌜ now (out .exit) ≡ requestBuffer (now (emsk .entry)) (forUsage (now (label .entry)) (now («data» .entry)) n (length (now (out .entry)))) (now (out .entry)) ⌝ }
 {
     let check = check_inputs(emsk, label, data);
-    let size = two_bytes(n);
+    let size = slices::be16(n);
     prf_plus::expand(check, emsk, label, &[0], data, &size, n, out)
 }

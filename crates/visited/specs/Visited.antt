@@ -1,11 +1,11 @@
 -- The visited-domain keys under a VRK and under a VMSK (source document 001, sections 4.2 and 5.1; document 01, "Visited keys"). The VRK
--- itself is a request under the EMSK: `forVrk` of the crate usage's specs/Requests.antt.
+-- itself is a request under the EMSK: `forVrk` of the crate requests' specs/Requests.antt.
 -- Assumes nothing.
 use Prim.Native.Nat.{ℕ}
 use mathlib.Core.List.{List, _++_}
 use Rattle.refusal.specs.Checks.{Check, _andThen_, check1, check6}
 use Rattle.slices.specs.Ascii.{ascii}
-use Rattle.charset.specs.Checks.{check7, check8}
+use Rattle.identifiers.specs.Checks.{check7, check8}
 use Rattle.hmac.specs.Rfc2104.{hmacSha256}
 use Rattle.prf_plus.specs.PrfPlus.{prfPlus}
 

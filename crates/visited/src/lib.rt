@@ -1,16 +1,16 @@
 // The visited-domain keys of source document 001, as document 01 reads it ("Visited keys"): the VRK under the EMSK, a VMSK for a server
-// and its domain under the VRK, and the V-rRK under a VMSK. Each is 64 bytes of prf+ at the start of the output buffer; each call answers 64.
+// and its domain under the VRK, and the V-rRK under a VMSK. Each call writes 64 bytes of prf+ at the start of out and answers 64.
 ghost use mathlib.Core.Path.{_≡_};
 ghost use lib.ListN.{length};
 ghost use Rattle.refusal.specs.Checks.{_andThen_, check1};
 ghost use Rattle.refusal.specs.Answers.{checkedAs, answerOf, answerTo, bufferAfter};
-ghost use Rattle.charset.specs.Checks.{check7, check8};
-ghost use Rattle.usage.specs.Requests.{forVrk, requestAnswer, requestBuffer};
+ghost use Rattle.identifiers.specs.Checks.{check7, check8};
+ghost use Rattle.requests.specs.Requests.{forVrk, requestAnswer, requestBuffer};
 ghost use Rattle.visited.specs.Visited.{vmskCheck, vmskKey, reauthCheck, reauthKey};
 use refusal::Checked;
 use refusal::Written;
 
-// The VRK: the usage key of its fixed label, no data and n = 64.
+// Writes the VRK: the usage key of its fixed label, with no data and n = 64.
 pub fn visited_root_key(emsk: &[u8], out: &mut [u8]) -> Written
     ensures answer { λ r. ⌜ answerOf r ≡ requestAnswer (now (emsk .entry)) (forVrk (length (now (out .entry)))) ⌝ }
     ensures buffer { λ _. ⌜ now (out .exit) ≡ requestBuffer (now (emsk .entry)) (forVrk (length (now (out .entry)))) (now (out .entry)) ⌝ }
@@ -20,17 +20,17 @@ pub fn visited_root_key(emsk: &[u8], out: &mut [u8]) -> Written
     prf_plus::expand(check, emsk, label, &[0], b"", &[0, 64], 64, out)
 }
 
-// The tests of a VMSK request before the expansion's: 1, 7, 8.
+// The tests of a VMSK request that come before those of the expansion: 1, 7, 8.
 fn check_visited(vrk: &[u8], server: &[u8], domain: &[u8]) -> Checked
     ensures { λ r. ⌜ checkedAs r ≡ (check1 (now (vrk .entry)) andThen check7 (now (server .entry)) andThen check8 (now (domain .entry))) ⌝ }
 {
     let key = refusal::check_root_key(vrk);
-    let id = charset::check_server_id(server);
-    let realm = charset::check_domain(domain);
+    let id = identifiers::check_server_id(server);
+    let realm = identifiers::check_domain(domain);
     refusal::then_check(refusal::then_check(key, id), realm)
 }
 
-// The VMSK of a server and a domain.
+// Writes the VMSK of a server and its domain.
 pub fn visited_master_key<'a>(
     vrk: &[u8],
     server: &'a [u8],
@@ -44,7 +44,7 @@ pub fn visited_master_key<'a>(
     prf_plus::expand(check, vrk, server, domain, b"", b"", 64, out)
 }
 
-// The V-rRK: its S is the label alone.
+// Writes the V-rRK. Its S is the label alone.
 pub fn visited_reauth_key(vmsk: &[u8], out: &mut [u8]) -> Written
     ensures answer { λ r. ⌜ answerOf r ≡ answerTo (reauthCheck (now (vmsk .entry)) (length (now (out .entry)))) 64 ⌝ }
     ensures buffer { λ _. ⌜ now (out .exit) ≡ bufferAfter (reauthCheck (now (vmsk .entry)) (length (now (out .entry)))) 64 (reauthKey (now (vmsk .entry))) (now (out .entry)) ⌝ }

@@ -4,17 +4,18 @@ use Prim.Native.Nat.{ℕ}
 use borrow.Author.Needs.{needs}
 use denote.Ref.{now}
 use lib.ListN.{length}
-use Rattle.usage.specs.Rfc5295.{usageText}
-use Rattle.usage.specs.Requests.{Request, forUsage, textOf, keyOf}
-use Rattle.usage.proofs.Answering.{usage-tests, answered, left}
+use Rattle.refusal.proofs.Answering.{answer-by, buffer-by}
+use Rattle.requests.specs.Rfc5295.{usageText}
+use Rattle.requests.specs.Requests.{Request, forUsage, textOf, keyOf, requestAnswer, requestBuffer}
+use Rattle.usage.proofs.Tests.{usage-tests}
 use Rattle.usage.proofs.usage_key.Statement.{statement}
 use Rattle.usage.proofs.usage_key.Tie as tie
 
 check-inputs-requires : tie.Need-check-inputs-requires
 check-inputs-requires c κs = search needs
 
-two-bytes-requires : tie.Need-two-bytes-requires
-two-bytes-requires c κs = search needs
+be16-requires : tie.Need-be16-requires
+be16-requires c κs = search needs
 
 slice-aggregate-expand : tie.Need-slice-aggregate-expand
 slice-aggregate-expand c = search needs
@@ -29,7 +30,7 @@ same-length : tie.Need-same-length
 same-length c = search needs
 
 returns : tie.Need-returns
-unfolding keyOf textOf usageText
+unfolding requestAnswer requestBuffer keyOf textOf usageText
 returns c =
     let e = c .before .before in
     let t = e .before .before .before .before in
@@ -38,14 +39,14 @@ returns c =
     let room : ℕ = length (now (s .out)) in
     let tests = usage-tests (now (s .emsk)) (now (s .label)) (now (s .«data»)) (s .n) room (k .check-inputs .ensures) in
     let r : Request = forUsage (now (s .label)) (now (s .«data»)) (s .n) room in
-    (answered (now (s .emsk)) r tests (e .expand .ensures .0), left (now (s .emsk)) r (now (s .out)) tests (rw (t .two-bytes .ensures) at (e .expand .ensures .1)))
+    (answer-by (s .n) tests (e .expand .ensures .0), buffer-by (s .n) (keyOf (now (s .emsk)) r) (now (s .out)) tests (rw (t .be16 .ensures) at (e .expand .ensures .1)))
 
 pub usage-key-spec : {M : Type 1} → statement M
 usage-key-spec =
     tie.close
     (tie.spec
     check-inputs-requires
-    two-bytes-requires
+    be16-requires
     slice-aggregate-expand
     slice-aggregate-expand-2
     expand-requires

@@ -3,7 +3,9 @@
 use borrow.Author.Needs.{needs}
 use denote.Ref.{now}
 use lib.ListN.{length}
-use Rattle.visited.proofs.Tests.{master-tests, answer-by, master-buffer}
+use Rattle.refusal.proofs.Answering.{answer-by}
+use Rattle.visited.specs.Visited.{vmskCheck}
+use Rattle.visited.proofs.Tests.{then-room, master-buffer}
 use Rattle.visited.proofs.visited_master_key.Statement.{statement}
 use Rattle.visited.proofs.visited_master_key.Tie as tie
 
@@ -23,11 +25,12 @@ same-length : tie.Need-same-length
 same-length c = search needs
 
 returns : tie.Need-returns
+unfolding vmskCheck
 returns c =
     let e = c .before .before in
     let k = e .before .before .before .before in
     let s = k .before .before .before .before .before .args in
-    let tests = master-tests (now (s .vrk)) (now (s .server)) (now (s .domain)) (length (now (s .out))) (k .check-visited .ensures) in
+    let tests = then-room (length (now (s .out))) (k .check-visited .ensures) in
     (answer-by 64 tests (e .expand .ensures .0), master-buffer (now (s .vrk)) (now (s .server)) (now (s .domain)) (now (s .out)) tests (e .expand .ensures .1))
 
 pub visited-master-key-spec : {M : Type 1} → statement M

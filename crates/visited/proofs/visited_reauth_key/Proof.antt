@@ -3,8 +3,9 @@
 use borrow.Author.Needs.{needs}
 use denote.Ref.{now}
 use lib.ListN.{length}
-use Rattle.visited.specs.Visited.{reauthText, reauthKey}
-use Rattle.visited.proofs.Tests.{reauth-tests, answer-by, buffer-by}
+use Rattle.refusal.proofs.Answering.{answer-by, buffer-by}
+use Rattle.visited.specs.Visited.{reauthText, reauthCheck, reauthKey}
+use Rattle.visited.proofs.Tests.{then-room}
 use Rattle.visited.proofs.visited_reauth_key.Statement.{statement}
 use Rattle.visited.proofs.visited_reauth_key.Tie as tie
 
@@ -27,12 +28,12 @@ same-length : tie.Need-same-length
 same-length c = search needs
 
 returns : tie.Need-returns
-unfolding reauthKey reauthText
+unfolding reauthCheck reauthKey reauthText
 returns c =
     let e = c .before .before in
     let k = e .before .before .before .before .before .before .before in
     let s = k .before .before .before .args in
-    let tests = reauth-tests (now (s .vmsk)) (length (now (s .out))) (k .check-root-key .ensures) in
+    let tests = then-room (length (now (s .out))) (k .check-root-key .ensures) in
     (answer-by 64 tests (e .expand .ensures .0), buffer-by 64 (reauthKey (now (s .vmsk))) (now (s .out)) tests (e .expand .ensures .1))
 
 pub visited-reauth-key-spec : {M : Type 1} → statement M

@@ -3,10 +3,10 @@
 use borrow.Author.Needs.{needs}
 use denote.Ref.{now}
 use lib.ListN.{length}
-use Rattle.usage.specs.Rfc5295.{usageText}
-use Rattle.usage.specs.Requests.{Request, forVrk, vrkLabel, textOf, keyOf}
-use Rattle.usage.proofs.Answering.{answered, left}
-use Rattle.visited.proofs.Tests.{root-tests}
+use Rattle.refusal.proofs.Answering.{answer-by, buffer-by}
+use Rattle.requests.specs.Rfc5295.{usageText}
+use Rattle.requests.specs.Requests.{Request, forVrk, vrkLabel, checkOf, textOf, keyOf, requestAnswer, requestBuffer}
+use Rattle.visited.proofs.Tests.{then-room}
 use Rattle.visited.proofs.visited_root_key.Statement.{statement}
 use Rattle.visited.proofs.visited_root_key.Tie as tie
 
@@ -29,14 +29,14 @@ same-length : tie.Need-same-length
 same-length c = search needs
 
 returns : tie.Need-returns
-unfolding keyOf textOf usageText vrkLabel
+unfolding checkOf requestAnswer requestBuffer keyOf textOf usageText vrkLabel
 returns c =
     let e = c .before .before in
     let k = e .before .before .before .before .before .before .before in
     let s = k .before .before .before .args in
     let r : Request = forVrk (length (now (s .out))) in
-    let tests = root-tests (now (s .emsk)) (length (now (s .out))) (k .check-root-key .ensures) in
-    (answered (now (s .emsk)) r tests (e .expand .ensures .0), left (now (s .emsk)) r (now (s .out)) tests (e .expand .ensures .1))
+    let tests = then-room (length (now (s .out))) (k .check-root-key .ensures) in
+    (answer-by 64 tests (e .expand .ensures .0), buffer-by 64 (keyOf (now (s .emsk)) r) (now (s .out)) tests (e .expand .ensures .1))
 
 pub visited-root-key-spec : {M : Type 1} → statement M
 visited-root-key-spec =

@@ -1,0 +1,20 @@
+-- `identifiers::check_domain` meets its contract.
+-- Assumes nothing.
+use borrow.Author.Needs.{needs}
+use Rattle.identifiers.specs.Checks.{check8}
+use Rattle.identifiers.proofs.Forms.{well-formed}
+use Rattle.identifiers.proofs.check_domain.Statement.{statement}
+use Rattle.identifiers.proofs.check_domain.Tie as tie
+
+form-of-requires : tie.Need-form-of-requires
+form-of-requires c κs = search needs
+
+unless-well-formed-requires : tie.Need-unless-well-formed-requires
+unless-well-formed-requires c κs = search needs
+
+returns : tie.Need-returns
+unfolding check8
+returns c = rw (c .unless-well-formed .ensures, c .before .form-of .ensures, well-formed)
+
+pub check-domain-spec : {M : Type 1} → statement M
+check-domain-spec = tie.close (tie.spec form-of-requires unless-well-formed-requires returns)

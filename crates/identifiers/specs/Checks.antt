@@ -1,0 +1,28 @@
+-- The tests of labels, server IDs and domains by document 01's numbers ("Refusal numbers", 2, 3, 7 and 8).
+-- Assumes nothing.
+use Prim.Native.Nat.{ℕ}
+use mathlib.Core.Bool.{_&&_}
+use mathlib.Core.List.{List}
+use lib.ListN.{length}
+use Rattle.refusal.specs.Checks.{Check, bare, unless, within, _andThen_}
+use Rattle.charset.specs.Bytes.{every, labelByte, serverByte, domainByte}
+
+-- 2: label not 1 to 255 bytes
+abbrev pub check2 : List ℕ → Check
+check2 label = unless (within 1 255 (length label)) (bare 2)
+
+-- 3: a label byte outside 32 to 126
+abbrev pub check3 : List ℕ → Check
+check3 label = unless (every labelByte label) (bare 3)
+
+-- the tests of a label, for usage keys and for names
+unfoldable pub labelCheck : List ℕ → Check
+labelCheck label = check2 label andThen check3 label
+
+-- 7: server ID not 1 to 255 bytes, or a byte of it outside 33 to 126
+unfoldable pub check7 : List ℕ → Check
+check7 server = unless (within 1 255 (length server) && every serverByte server) (bare 7)
+
+-- 8: domain not 1 to 253 bytes, or a byte not a letter, digit, hyphen or dot
+unfoldable pub check8 : List ℕ → Check
+check8 domain = unless (within 1 253 (length domain) && every domainByte domain) (bare 8)

@@ -1,0 +1,41 @@
+-- The key of a request is made of its blocks, a VRK is the usage request with its label, and some requests are accepted.
+-- Assumes nothing.
+use Prim.Native.Nat.{ℕ, zero, suc}
+use mathlib.Core.Path.{_≡_, refl}
+use mathlib.Core.List.{List}
+use native.Mathlib.Nat.{not-suc-le-zero}
+use Rattle.refusal.specs.Checks.{unless, _andThen_, within}
+use Rattle.refusal.proofs.Passing.{then-pass}
+use Rattle.charset.specs.Bytes.{every, labelByte}
+use Rattle.identifiers.specs.Checks.{labelCheck}
+use Rattle.hmac.specs.Rfc2104.{hmacSha256}
+use Rattle.hmac.proofs.Laws.{hmacSha256-length}
+use Rattle.prf_plus.specs.PrfPlus.{block, prfPlus}
+use Rattle.prf_plus.proofs.Laws.{count-le, block-of-input, prfPlus-length}
+use Rattle.requests.specs.Requests.{Request, BlockOf, lengthOf, checkOf, vrkLabel, textOf, inputOf, keyOf}
+use Rattle.requests.specs.Statements.{KeyOfBlocks, VrkIsUsage, SomeAccepted}
+use Rattle.requests.proofs.Accepting.{sound}
+
+-- each block is HMAC of its input
+block-of-request : (emsk : List ℕ) (r : Request) (i : ℕ) → BlockOf r i → block hmacSha256 emsk (textOf r) i ≡ hmacSha256 emsk (inputOf emsk r i)
+unfolding inputOf
+block-of-request emsk r zero b = absurd (not-suc-le-zero (b .0))
+block-of-request emsk r (suc i) b = block-of-input hmacSha256 emsk (textOf r) i
+
+pub key-of-blocks : KeyOfBlocks
+unfolding keyOf prfPlus
+key-of-blocks emsk r = (
+  refl,
+  block-of-request emsk r,
+  prfPlus-length hmacSha256 hmacSha256-length emsk (textOf r) (lengthOf r),
+  λ a. count-le (lengthOf r) (sound emsk r a .high),
+)
+
+-- a VRK's label, data and length pass the tests of a usage request
+pub vrk-is-usage : VrkIsUsage
+unfolding checkOf labelCheck vrkLabel unless within every labelByte textOf inputOf keyOf
+vrk-is-usage emsk room = (simp then-pass, refl, refl, λ i. refl)
+
+pub some-accepted : SomeAccepted
+unfolding checkOf labelCheck _andThen_ unless within every labelByte
+some-accepted = (refl, refl, refl)

@@ -1,0 +1,57 @@
+-- What is proved of requests under an EMSK (document 01, demand 3, "Usage keys", "Visited keys"). The proofs are `separated` and `gate-texts`
+-- of proofs/Separation.antt, and `key-of-blocks`, `vrk-is-usage` and `some-accepted` of proofs/Requests.antt.
+-- Assumes nothing.
+use Prim.Native.Nat.{ℕ, _≤_}
+use mathlib.Core.Path.{_≡_}
+use mathlib.Core.Logic.{_↔_}
+use mathlib.Core.List.{List, [], _∷_}
+use lib.ListN.{length, take, replicate}
+use Rattle.slices.specs.Ascii.{ascii}
+use Rattle.refusal.specs.Checks.{refuse, bare}
+use Rattle.hmac.specs.Rfc2104.{hmacSha256}
+use Rattle.prf_plus.specs.PrfPlus.{blockCount, block, blocks}
+use Rattle.requests.specs.Requests.{Request, forUsage, forVrk, labelOf, dataOf, lengthOf, checkOf, Accepted, BlockOf, vrkLabel, textOf, inputOf, keyOf}
+
+-- Demand 3: for any EMSK, any two requests accepted under it and any block of each, the bytes handed to HMAC are equal exactly when
+-- label, optional data, key length and block number are all equal. Nothing is assumed of HMAC or SHA-256
+abbrev pub Separated : Type 0
+Separated =
+    (emsk : List ℕ) (r₁ r₂ : Request)
+    → Accepted emsk r₁ → Accepted emsk r₂
+    → (i j : ℕ) → BlockOf r₁ i → BlockOf r₂ j
+    → (inputOf emsk r₁ i ≡ inputOf emsk r₂ j) ↔ ((labelOf r₁ ≡ labelOf r₂) × (dataOf r₁ ≡ dataOf r₂) × (lengthOf r₁ ≡ lengthOf r₂) × (i ≡ j))
+
+-- The inputs that demand 3 speaks of are those of the blocks of demand 2's key. The key is the first n bytes of the request's blocks, one after
+-- the other; each block is HMAC of its input; the key has n bytes; and an accepted request has at most 255 blocks, so that a block number is a byte
+abbrev pub KeyOfBlocks : Type 0
+KeyOfBlocks =
+    (emsk : List ℕ) (r : Request)
+    → (keyOf emsk r ≡ take (lengthOf r) (blocks hmacSha256 emsk (textOf r) (blockCount (lengthOf r))))
+    × ((i : ℕ) → BlockOf r i → block hmacSha256 emsk (textOf r) i ≡ hmacSha256 emsk (inputOf emsk r i))
+    × (length (keyOf emsk r) ≡ lengthOf r)
+    × (Accepted emsk r → blockCount (lengthOf r) ≤ 255)
+
+-- A request for a VRK is the usage request with that label, no data and n = 64: the tests come to the same, so that one is accepted exactly
+-- when the other is; text and key are the same, and so is the input of each block
+abbrev pub VrkIsUsage : Type 0
+VrkIsUsage =
+    (emsk : List ℕ) (room : ℕ)
+    → (checkOf emsk (forVrk room) ≡ checkOf emsk (forUsage vrkLabel [] 64 room))
+    × (textOf (forVrk room) ≡ textOf (forUsage vrkLabel [] 64 room))
+    × (keyOf emsk (forVrk room) ≡ keyOf emsk (forUsage vrkLabel [] 64 room))
+    × ((i : ℕ) → inputOf emsk (forVrk room) i ≡ inputOf emsk (forUsage vrkLabel [] 64 room) i)
+
+-- Some requests are accepted, and others are refused with the first number that holds: a label of one letter; no label; a label with a tab,
+-- where the key length is wrong too
+abbrev pub SomeAccepted : Type 0
+SomeAccepted =
+    Accepted (replicate 64 7) (forUsage (ascii "a") [] 64 64)
+    × (checkOf (replicate 64 7) (forUsage [] [] 64 64) ≡ refuse (bare 2))
+    × (checkOf (replicate 64 7) (forUsage (0x61 ∷ 0x09 ∷ []) [] 0 64) ≡ refuse (bare 3))
+
+-- the worked example of docs/SEPARATION.md: without the zero byte the two texts would be one
+abbrev pub GateTexts : Type 0
+GateTexts =
+    (room : ℕ)
+    → (textOf (forUsage (ascii "gate1") (ascii "2") 64 room) ≡ 0x67 ∷ 0x61 ∷ 0x74 ∷ 0x65 ∷ 0x31 ∷ 0x00 ∷ 0x32 ∷ 0x00 ∷ 0x40 ∷ [])
+    × (textOf (forUsage (ascii "gate") (ascii "12") 64 room) ≡ 0x67 ∷ 0x61 ∷ 0x74 ∷ 0x65 ∷ 0x00 ∷ 0x31 ∷ 0x32 ∷ 0x00 ∷ 0x40 ∷ [])
