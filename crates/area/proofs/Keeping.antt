@@ -1,23 +1,22 @@
--- Laws of the offers that the walk keeps at the start of a buffer: what one attribute more makes of them, what the end does, and how they
--- are copied.
+-- Laws of the offers that the walk keeps at the start of a buffer: what one attribute more makes of them, and what the end does.
 -- Assumes nothing.
-use Prim.Native.Nat.{ℕ, suc, _+_, _≤_, _<_}
+use Prim.Native.Nat.{ℕ, _+_, _≤_, _<_}
 use mathlib.Core.Path.{_≡_, sym, _∙_}
 use mathlib.Core.Bool.{true, false}
-use mathlib.Core.List.{List, [], _∷_, _++_, append-assoc}
+use mathlib.Core.List.{List, _∷_}
 use native.Mathlib.Omega.{arith}
 use native.Mathlib.Numerals.{add-one}
 use borrow.Author.Tests.{lt-ltb, le-ltb, eq-eqb, ne-eqb}
-use lib.ListN.{length, getD, take, drop, set}
-use lib.Seq.{length-take-le, take-suc-set, take-suc, drop-cons, set-at}
+use lib.ListN.{length, take, set}
+use lib.Seq.{length-take-le, take-suc-set}
 use lib.Dec.{ltb, eqb}
 use Rattle.refusal.specs.Checks.{bare}
-use Rattle.area.specs.Area.{readOn, whole, refusal, ended}
-use Rattle.area.specs.declared.Attribute.{Attribute}
-use Rattle.area.specs.declared.Attribute.the-variants.{Offer}
-use Rattle.area.specs.declared.Bytes.{Bytes}
-use Rattle.area.specs.declared.Name.{Name}
-use Rattle.area.specs.declared.Name.the-variants.{Found}
+use Rattle.area_format.specs.Area.{readOn, whole, refusal, ended}
+use Rattle.area_format.specs.declared.Attribute.{Attribute}
+use Rattle.area_format.specs.declared.Attribute.the-variants.{Offer}
+use Rattle.area_format.specs.declared.Bytes.{Bytes}
+use Rattle.area_format.specs.declared.Name.{Name}
+use Rattle.area_format.specs.declared.Name.the-variants.{Found}
 
 -- an offer, where fewer than 17 are kept, is kept after them
 pub offer-kept : (count v : ℕ) (kept : List ℕ) (name : Name) (later : List Attribute) → 17 ≤ length kept → count < 17
@@ -50,10 +49,3 @@ some-offer count at len kept h n =
     let l : length (take count kept) ≡ count = length-take-le count kept h in
     let t : eqb (length (take count kept)) 0 ≡ false = ne-eqb (length (take count kept)) 0 (λ e. n (sym l ∙ e)) in
     rw t
-
--- one value more is copied
-pub copied : (i : ℕ) (kept out before : List ℕ) → i < length kept → i < length before → out ≡ take i kept ++ drop i before
-    → set out i (getD kept i 0) ≡ take (i + 1) kept ++ drop (i + 1) before
-copied i kept out before h₁ h₂ e =
-    let l : length (take i kept) ≡ i = length-take-le i kept (omega arith) in
-    rw (e, add-one, drop-cons before i 0, take-suc kept i 0) (set-at (take i kept) _ _ _ i l ∙ sym (append-assoc (take i kept) (getD kept i 0 ∷ []) (drop (suc i) before)))

@@ -1,9 +1,2 @@
-pub mod Format
-pub mod Attributes
-pub mod Keeping
-pub mod Walking
-pub mod Answering
-pub mod Using
-pub mod Names
-pub mod Counts
-pub mod Cases
+mod Keeping
+mod Walking

@@ -1,3 +1,2 @@
 pub mod Area
-pub mod Steps
-pub mod Cases
+pub mod Internal

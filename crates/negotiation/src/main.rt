@@ -125,7 +125,7 @@ fn play(offered: &[u16], supported: &[u16]) {
     say(b"\n");
     play_steps(offered, supported);
     let mut renewed = [0u16; 17];
-    say_outcome(offers::negotiate(offered, supported, &mut renewed));
+    say_outcome(offer_exchange::negotiate(offered, supported, &mut renewed));
 }
 
 // A reply that is not the peer's own.

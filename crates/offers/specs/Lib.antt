@@ -1,4 +1,1 @@
-pub mod Rfc5448
 pub mod Answers
-pub mod Negotiation
-pub mod Statements

@@ -3,7 +3,7 @@
 -- Assumes nothing.
 use native.Mathlib.Omega.{arith}
 use denote.Ref.{now}
-use Rattle.area.specs.Area.{readOn}
+use Rattle.area_format.specs.Area.{readOn}
 use Rattle.area.proofs.Keeping.{offer-kept, offer-refused}
 use borrow.Author.Needs.{needs}
 use Rattle.area.proofs.add.Statement.{statement}

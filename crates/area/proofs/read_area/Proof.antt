@@ -1,18 +1,18 @@
 -- `area::read_area` meets its contract: what the walk came to settles the answer and the buffer, and the name that it found lies within the area
 -- (`name-within`).
 -- Assumes nothing.
-use borrow.Author.Needs.{needs}
-use Prim.Native.Nat.{_+_, _-_, _≤_}
+use Prim.Native.Nat.{_≤_}
 use mathlib.Core.Path.{_≡_, sym, _∙_}
 use mathlib.Core.List.{[]}
 use native.Mathlib.Omega.{arith}
+use borrow.Author.Needs.{needs}
 use denote.Ref.{now}
 use lib.ListN.{length, take}
-use lib.Seq.{length-take-le}
-use Rattle.area.specs.Area.{attributes, readOn, whole}
-use Rattle.area.specs.declared.Name.the-variants.{Missing}
-use Rattle.area.proofs.Format.{name-within}
-use Rattle.area.proofs.Answering.{too-little, refused-so, answered-so}
+use lib.Seq.{length-take-le, take-all}
+use Rattle.area_format.specs.Area.{attributes, readOn, whole}
+use Rattle.area_format.specs.declared.Name.the-variants.{Missing}
+use Rattle.area_format.proofs.Format.{name-within}
+use Rattle.area_format.proofs.Answering.{too-little, refused-so, answered-so}
 use Rattle.area.proofs.read_area.Statement.{statement}
 use Rattle.area.proofs.read_area.Tie as tie
 
@@ -22,8 +22,12 @@ read : (c : tie.After-count)
     ≡ readOn [] Missing (attributes (now (c .before .before .before .before .before .before .before .before .before .args .area)))
 read c = rw (c .count .given .1) at (c .before .before .before .walk .ensures .1)
 
+-- the offers that were kept
 few : (c : tie.After-count) → c .count .given .0 .0 ≤ 17
 few c = rw (c .count .given .1) at (c .before .before .before .walk .ensures .0)
+
+counted : (c : tie.After-count) → length (take (c .count .given .0 .0) (c .before .before .before .walk .last .1 .0)) ≡ c .count .given .0 .0
+counted c = length-take-le _ _ (omega (arith, few c, c .before .before .before .walk .kept .1 .0))
 
 returns : tie.Need-returns
 returns c = let a = c .before .before .before .before .args in too-little (now (a .area)) (now (a .own-name)) (now (a .out)) (c .if1 .taken)
@@ -40,28 +44,17 @@ enum-known-why c = search needs
 enum-known-count : tie.Need-enum-known-count
 enum-known-count c = search needs
 
-slice-aggregate-copy : tie.Need-slice-aggregate-copy
-slice-aggregate-copy c = search needs
+is-own-name-requires : tie.Need-is-own-name-requires
+is-own-name-requires c κs = name-within _ (sym (read (c .before)))
 
-copy-requires : tie.Need-copy-requires
-copy-requires c κs = let k = c .before .before .before in omega (arith, few k, k .before .before .before .walk .kept .1 .0, k .before .before .before .before .before .if1 .left)
+array-share-prefix-kept : tie.Need-array-share-prefix-kept
+array-share-prefix-kept c = let k = c .before .before in omega (arith, few k, k .before .before .before .walk .kept .1 .0)
 
-add-same-name : tie.Need-add-same-name
-add-same-name c =
-    let k = c .before .before .before .before .before .before in
-    omega (arith, name-within _ (sym (read k)), k .before .before .before .before .before .before .before .before .before .good)
+slice-aggregate-copy-values : tie.Need-slice-aggregate-copy-values
+slice-aggregate-copy-values c = sym (counted (c .before .before .before))
 
-sub-same-name : tie.Need-sub-same-name
-sub-same-name c = search needs
-
-part-same-name-start : tie.Need-part-same-name-start
-part-same-name-start c = search needs
-
-part-same-name-end : tie.Need-part-same-name-end
-part-same-name-end c = let k = c .before .before .before .before .before .before in name-within _ (sym (read k))
-
-same-name-requires : tie.Need-same-name-requires
-same-name-requires c κs = search needs
+copy-values-requires : tie.Need-copy-values-requires
+copy-values-requires c κs = search needs
 
 returns-2 : tie.Need-returns-2
 returns-2 c =
@@ -74,13 +67,13 @@ same-length c = search needs
 
 returns-3 : tie.Need-returns-3
 returns-3 c =
-    let k = c .before .before .before .before .before .before .before .before in
-    let w = k .before .before .before .walk in
+    let k = c .before .before .before .before .before .before .before in
     let a = k .before .before .before .before .before .before .before .before .before .args in
-    let l : length (take (k .count .given .0 .0) (w .last .1 .0)) ≡ k .count .given .0 .0 = length-take-le _ _ (omega (arith, few k, w .kept .1 .0)) in
-    let n : k .count .given .0 .1 .0 + k .count .given .0 .1 .1 .0 .0 - k .count .given .0 .1 .0 ≡ k .count .given .0 .1 .1 .0 .0 = omega arith in
-    let r = answered-so (now (a .area)) (now (a .own-name)) (now (a .out)) (k .before .before .before .before .before .if1 .left) _ _ _ (read k) in
-    (rw (c .same-name .ensures, n) (rw l at (r .0)), c .before .before .before .before .copy .ensures ∙ (rw l at (r .1)))
+    let room = k .before .before .before .before .before .if1 .left in
+    let offers = take (k .count .given .0 .0) (k .before .before .before .walk .last .1 .0) in
+    let all : take (length (now (a .out))) offers ≡ offers = take-all (length (now (a .out))) offers (omega (arith, few k, counted k, room)) in
+    let r = answered-so (now (a .area)) (now (a .own-name)) (now (a .out)) room _ _ _ (read k) in
+    (rw (c .before .before .before .before .before .is-own-name .ensures) (rw (counted k) at (r .0)), c .before .before .copy-values .ensures ∙ rw all (r .1))
 
 pub read-area-spec : {M : Type 1} → statement M
 read-area-spec =
@@ -91,13 +84,10 @@ read-area-spec =
     walk-requires
     enum-known-why
     enum-known-count
-    slice-aggregate-copy
-    copy-requires
-    add-same-name
-    sub-same-name
-    part-same-name-start
-    part-same-name-end
-    same-name-requires
+    is-own-name-requires
+    array-share-prefix-kept
+    slice-aggregate-copy-values
+    copy-values-requires
     returns-2
     same-length
     returns-3)

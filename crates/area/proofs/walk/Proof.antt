@@ -8,10 +8,10 @@ use mathlib.Core.List.{[]}
 use native.Mathlib.Omega.{arith}
 use denote.Ref.{now}
 use lib.ListN.{length, drop}
-use Rattle.area.specs.Area.{readOn, attributes, attributesFrom}
-use Rattle.area.specs.Steps.{addedOn}
-use Rattle.area.specs.declared.Name.the-variants.{Missing}
-use Rattle.area.proofs.Format.{Met-next, next}
+use Rattle.area_format.specs.Area.{readOn, attributes, attributesFrom}
+use Rattle.area.specs.Internal.{addedOn}
+use Rattle.area_format.specs.declared.Name.the-variants.{Missing}
+use Rattle.area_reader.proofs.Onward.{Met-next, next}
 use Rattle.area.proofs.Walking.{ReadTo, starts, ends, goes-on}
 use Rattle.area.proofs.walk.Statement.{statement}
 use Rattle.area.proofs.walk.Tie as tie
@@ -27,7 +27,7 @@ met : (c : tie.After-add Inv-loop μ-loop) → Met-next (now (c .before .before 
 met c =
     let k = c .before .before .before in
     let l = k .before .before .before .loop in
-    next _ (l .at) _ _ (l .inv .0) (sym (k .before .before .meet .ensures) ∙ k .met .given .1)
+    next _ (l .at) _ _ (sym (k .before .before .read-at .ensures) ∙ k .met .given .1)
 
 -- what is left to be read after the attribute was taken in
 on : (c : tie.After-add Inv-loop μ-loop)
@@ -36,13 +36,13 @@ on : (c : tie.After-add Inv-loop μ-loop)
 on c =
     let k = c .before .before .before in
     let l = k .before .before .before .loop in
-    goes-on _ (l .at) (l .seen) (l .kept) _ _ _ (c .add .result) (l .inv .3) (l .inv .0) (sym (k .before .before .meet .ensures) ∙ k .met .given .1) (c .add .ensures .1)
+    goes-on _ (l .at) (l .seen) (l .kept) _ _ _ (c .add .result) (l .inv .3) (sym (k .before .before .read-at .ensures) ∙ k .met .given .1) (c .add .ensures .1)
 
 loop-holds : tie.Need-loop-holds Inv-loop μ-loop
 loop-holds c = (omega arith, omega arith, refl, starts (now (c .before .before .args .area)) (now (c .before .before .args .kept)))
 
-meet-requires : tie.Need-meet-requires Inv-loop μ-loop
-meet-requires c κs = omega arith
+read-at-requires : tie.Need-read-at-requires Inv-loop μ-loop
+read-at-requires c κs = omega arith
 
 enum-told : tie.Need-enum-told Inv-loop μ-loop
 enum-told c = search needs
@@ -57,7 +57,7 @@ returns : tie.Need-returns Inv-loop μ-loop
 returns c =
     let l = c .before .before .before .before .loop in
     let a = c .before .before .before .before .before .before .before .args in
-    let s = c .before .before .before .meet in
+    let s = c .before .before .before .read-at in
     let room : l .seen .count ≤ length (l .kept) = omega (arith, c .before .before .before .before .before .before .before .pre) in
     (omega arith, c .ended .ensures .1 (l .kept) room ∙ sym (ends (now (a .area)) (l .at) (l .seen) (l .kept) (l .inv .3) (sym (s .ensures) ∙ c .before .enum-told .given .1)))
 
@@ -100,7 +100,7 @@ walk-spec =
     Inv-loop
     μ-loop
     loop-holds
-    meet-requires
+    read-at-requires
     enum-told
     ended-requires
     same-length

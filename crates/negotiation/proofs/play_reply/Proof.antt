@@ -6,7 +6,7 @@ use native.Mathlib.Omega.{arith}
 use lib.ListN.{length}
 use lib.Seq.{length-take-le}
 use Rattle.refusal.specs.Answers.{answerOf}
-use Rattle.offers.proofs.Steps.{wrote-fits}
+use Rattle.offer_rules.proofs.Rounds.{wrote-fits}
 use borrow.Author.Needs.{needs}
 use Rattle.negotiation.proofs.play_reply.Statement.{statement}
 use Rattle.negotiation.proofs.play_reply.Tie as tie

@@ -1,14 +1,18 @@
 -- `offers::answer` meets its contract.
 -- Assumes nothing.
-use mathlib.Core.Path.{_≡_, refl, sym, ap, _∙_}
+use Prim.Native.Nat.{_+_, _≤_}
+use mathlib.Core.Path.{_≡_, sym, ap, _∙_}
+use native.Mathlib.Omega.{arith}
 use borrow.Author.Tests.{leb-true}
 use borrow.Author.Needs.{needs}
 use denote.Ref.{now}
-use lib.ListN.{length}
+use lib.ListN.{length, drop}
+use lib.Seq.{length-take-le}
 use Rattle.refusal.specs.Answers.{checkedAs}
 use Rattle.refusal.proofs.Passing.{last-passed, test-passed}
-use Rattle.offers.specs.Rfc5448.{answerCheck}
-use Rattle.offers.specs.Answers.{serverAnswer, serverBuffer}
+use Rattle.refusal.proofs.Answering.{passed, refused-so, written-so}
+use Rattle.offer_rules.specs.Rfc5448.{renewedList, answerCheck}
+use Rattle.offer_rules.specs.Answers.{serverAnswer, serverBuffer}
 use Rattle.offers.proofs.answer.Statement.{statement}
 use Rattle.offers.proofs.answer.Tie as tie
 
@@ -16,6 +20,11 @@ use Rattle.offers.proofs.answer.Tie as tie
 checked : (c : tie.After-then-check) → let a = c .before .before .before .before .before .args in checkedAs (c .then-check .result) ≡ answerCheck (now (a .offers)) (a .reply) (length (now (a .out)))
 unfolding answerCheck
 checked c = rw (c .then-check .ensures, c .before .before .check-reply .ensures, c .before .check-room .ensures)
+
+-- where they passed, there is room
+room : (c : tie.After-enum-told) → let a = c .before .before .before .before .before .before .before .args in length (now (a .offers)) + 1 ≤ length (now (a .out))
+unfolding answerCheck
+room c = leb-true _ _ (test-passed _ _ (last-passed _ _ (passed (checked (c .before .before)) (c .enum-told .given .1))))
 
 add-count : tie.Need-add-count
 add-count c = search needs
@@ -36,14 +45,22 @@ enum-told : tie.Need-enum-told
 enum-told c = search needs
 
 put-list-requires : tie.Need-put-list-requires
-unfolding answerCheck
 put-list-requires c κs =
-    let p = c .before .before .before in
-    leb-true _ _ (test-passed _ _ (last-passed _ _ (sym (checked p) ∙ ap checkedAs (c .before .enum-told .given .1))))
+    let a = c .before .before .before .before .before .before .before .before .args in
+    length-take-le (length (now (a .offers)) + 1) (now (a .out)) (room (c .before))
+
+slice-relend-prefix-put-list : tie.Need-slice-relend-prefix-put-list
+slice-relend-prefix-put-list c = omega (arith, room c)
+
+slice-aggregate-put-list : tie.Need-slice-aggregate-put-list
+slice-aggregate-put-list c = sym (length-take-le _ _ (omega (arith, room (c .before))))
 
 returns : tie.Need-returns
 unfolding serverAnswer serverBuffer
-returns c = rw (← checked (c .before .before .before), c .before .why .given .1) (refl, refl)
+returns c =
+    let p = c .before .before .before in
+    let a = p .before .before .before .before .before .args in
+    refused-so (length (now (a .offers)) + 1) (renewedList (now (a .offers)) (a .reply)) (now (a .out)) (checked p) (c .before .why .given .1)
 
 same-length : tie.Need-same-length
 same-length c = search needs
@@ -51,8 +68,11 @@ same-length c = search needs
 returns-2 : tie.Need-returns-2
 unfolding serverAnswer serverBuffer
 returns-2 c =
-    let p = c .before .before .before .before .before .before in
-    rw (← checked p, c .before .before .before .before .enum-told .given .1) (refl, c .before .before .put-list .ensures)
+    let k = c .before .before .before .before in
+    let p = k .before .before in
+    let a = p .before .before .before .before .before .args in
+    let n = length (now (a .offers)) + 1 in
+    written-so n (renewedList (now (a .offers)) (a .reply)) (now (a .out)) (checked p) (k .enum-told .given .1) (rw (c .before .before .put-list .ensures))
 
 pub answer-spec : {M : Type 1} → statement M
 answer-spec =
@@ -64,6 +84,8 @@ answer-spec =
     then-check-requires
     enum-known-why
     enum-told
+    slice-relend-prefix-put-list
+    slice-aggregate-put-list
     put-list-requires
     returns
     same-length

@@ -4,7 +4,7 @@ use mathlib.Core.Path.{sym, ap, _∙_}
 use borrow.Author.Needs.{needs}
 use denote.Ref.{now}
 use Rattle.refusal.specs.Answers.{checkedAs}
-use Rattle.offers.proofs.Rounds.{list-refused, list-passed}
+use Rattle.offer_rules.proofs.Rounds.{list-refused, list-passed}
 use Rattle.offers.proofs.choose.Statement.{statement}
 use Rattle.offers.proofs.choose.Tie as tie
 

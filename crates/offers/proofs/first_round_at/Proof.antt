@@ -4,7 +4,7 @@ use borrow.Author.Tests.{le-ltb, lt-ltb}
 use borrow.Author.Needs.{needs}
 use denote.Ref.{now}
 use Rattle.refusal.specs.Checks
-use Rattle.offers.proofs.Rounds.{at-first, at-later}
+use Rattle.offer_rules.proofs.Rounds.{at-first, at-later}
 use Rattle.offers.proofs.first_round_at.Statement.{statement}
 use Rattle.offers.proofs.first_round_at.Tie as tie
 

@@ -1,93 +1,68 @@
--- `offers::put_list` meets its contract: after i values of the list, the buffer has the value and these at its start.
+-- `offers::put_list` meets its contract: the value at the start of the buffer, and the list copied to the part behind it.
 -- Assumes nothing.
-use Prim.Native.Nat.{_+_, _≤_, _<_, _-_}
-use mathlib.Core.Path.{_≡_, refl, _∙_}
+use Prim.Native.Nat.{ℕ, suc, _+_, _-_, _≤_}
+use mathlib.Core.Path.{_≡_, ap, _∙_}
+use mathlib.Core.List.{List, [], _∷_, _++_, append-nil}
 use native.Mathlib.Omega.{arith}
-use native.Mathlib.Numerals.{add-one}
 use borrow.Author.Needs.{needs}
+use borrow.Rule.Slice.PartMut.{putMid, same-len-mid}
 use denote.Ref.{now}
-use lib.ListN.{length, set, length-set}
-use Rattle.offers.proofs.Lists.{put-behind}
-use lib.Seq.{paste, paste-zero, paste-suc}
+use lib.ListN.{length, take, drop, set, length-set, drop-of-length-le}
+use lib.Seq.{take-all, drop-length}
 use Rattle.offers.proofs.put_list.Statement.{statement}
 use Rattle.offers.proofs.put_list.Tie as tie
 
-abbrev Inv-loop : tie.InvT-loop
-Inv-loop value list out₀ i₀ out i = (i ≤ length list) × (length out ≡ length out₀) × (out ≡ paste out₀ 1 list i)
+-- what the copy left in the part behind the value
+copied : (s rest : List ℕ) {z : List ℕ} → length rest ≡ length s → z ≡ take (length (take (length rest) rest)) s ++ drop (length s) (take (length rest) rest) → z ≡ s
+copied s rest h e =
+    let all : take (length rest) rest ≡ rest = take-all (length rest) rest (omega arith) in
+    let none : length rest ≤ length s = omega arith in
+    e ∙ rw (all, drop-of-length-le rest none, take-all (length rest) s (omega arith)) (append-nil s)
 
-abbrev μ-loop : tie.MeasureT-loop
-μ-loop value list out₀ i₀ out i = length list - i
+behind : (value : ℕ) (s out z : List ℕ) → length out ≡ length s + 1
+    → z ≡ take (length (take (length (set out 0 value) - 1) (drop 1 (set out 0 value)))) s ++ drop (length s) (take (length (set out 0 value) - 1) (drop 1 (set out 0 value)))
+    → putMid 1 (length (set out 0 value) - 1) (set out 0 value) z ≡ value ∷ s
+behind value s [] z h e = let none : ⊥ = omega arith in elim none [ ]
+behind value s (y ∷ rest) z h e =
+    let k : suc (length rest) - 1 ≡ length rest = omega arith in
+    let w : z ≡ s = copied s rest (omega arith) (rw k at e) in
+    rw (k, drop-length rest, append-nil z) (ap (λ (l : List ℕ). value ∷ l) w)
 
-slice-write-out : tie.Need-slice-write-out Inv-loop μ-loop
+slice-write-out : tie.Need-slice-write-out
 slice-write-out c = search needs
 
-loop-holds : tie.Need-loop-holds Inv-loop μ-loop
-loop-holds c = let a = c .args in (omega arith, refl, paste-zero (set (now (a .out)) 0 (a .value)) 1 (now (a .list)))
+sub-copy-values : tie.Need-sub-copy-values
+sub-copy-values c = simp length-set (omega arith)
 
-mul-out : tie.Need-mul-out Inv-loop μ-loop
-mul-out c = search needs
+part-copy-values-start : tie.Need-part-copy-values-start
+part-copy-values-start c = simp length-set (omega arith)
 
-shared-slice-read-out : tie.Need-shared-slice-read-out Inv-loop μ-loop
-shared-slice-read-out c = search needs
+part-copy-values-end : tie.Need-part-copy-values-end
+part-copy-values-end c = search needs
 
-add-out : tie.Need-add-out Inv-loop μ-loop
-add-out c = search needs
+copy-values-requires : tie.Need-copy-values-requires
+copy-values-requires c κs = search needs
 
-mul-out-2 : tie.Need-mul-out-2 Inv-loop μ-loop
-mul-out-2 c =
-    let l = c .before .before .loop in
-    let a = c .before .before .before .args in
-    let room : length (l .out) ≡ length (now (a .out)) = l .inv .1 ∙ simp length-set in
-    omega arith
-
-slice-write-out-2 : tie.Need-slice-write-out-2 Inv-loop μ-loop
-slice-write-out-2 c =
-    let l = c .before .before .loop in
-    let a = c .before .before .before .args in
-    let room : length (l .out) ≡ length (now (a .out)) = l .inv .1 ∙ simp length-set in
-    omega arith
-
-add-i : tie.Need-add-i Inv-loop μ-loop
-add-i c = search needs
-
-loop-less : tie.Need-loop-less Inv-loop μ-loop
-loop-less c = search needs
-
-loop-again : tie.Need-loop-again Inv-loop μ-loop
-loop-again c =
-    let l = c .before .before .loop in
-    let a = c .before .before .before .args in
-    let room : length (l .out) ≡ length (now (a .out)) = l .inv .1 ∙ simp length-set in
+same-length : tie.Need-same-length
+same-length c =
+    let a = c .before .before .before .before .before .before .args in
     let begun = set (now (a .out)) 0 (a .value) in
-    let hd : 1 + l .i < length begun = simp length-set (omega arith) in
-    let hs : l .i < length (now (a .list)) = omega arith in
-    (omega arith, simp length-set room, rw (add-one, l .inv .2) (paste-suc begun 1 (now (a .list)) (l .i) 0 hd hs))
+    let l : length begun ≡ length (now (a .out)) = simp length-set in
+    same-len-mid 1 (length begun - 1) begun (c .before .before .copy-values .last .1 .0) (c .before .before .copy-values .kept .1 .0) ∙ l
 
-same-length : tie.Need-same-length Inv-loop μ-loop
-same-length c = let l = c .before .loop in l .inv .1 ∙ simp length-set
-
-returns : tie.Need-returns Inv-loop μ-loop
+returns : tie.Need-returns
 returns c =
-    let l = c .before .loop in
-    let a = c .before .before .args in
-    let e : l .i ≡ length (now (a .list)) = omega arith in
-    l .inv .2 ∙ rw e (put-behind (a .value) (now (a .list)) (now (a .out)) (omega arith))
+    let a = c .before .before .before .before .before .before .args in
+    behind (a .value) (now (a .list)) (now (a .out)) _ (c .before .before .before .before .before .before .pre) (c .before .before .copy-values .ensures)
 
 pub put-list-spec : {M : Type 1} → statement M
 put-list-spec =
     tie.close
     (tie.spec
-    Inv-loop
-    μ-loop
     slice-write-out
-    loop-holds
-    mul-out
-    shared-slice-read-out
-    add-out
-    mul-out-2
-    slice-write-out-2
-    add-i
-    loop-less
-    loop-again
+    sub-copy-values
+    part-copy-values-start
+    part-copy-values-end
+    copy-values-requires
     same-length
     returns)

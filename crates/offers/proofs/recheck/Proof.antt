@@ -4,8 +4,8 @@ use mathlib.Core.Path.{_≡_}
 use borrow.Author.Needs.{needs}
 use denote.Ref.{now}
 use Rattle.refusal.specs.Answers.{checkedAs}
-use Rattle.offers.specs.Rfc5448.{renewedCheck}
-use Rattle.offers.specs.Answers.{renewedAnswer}
+use Rattle.offer_rules.specs.Rfc5448.{renewedCheck}
+use Rattle.offer_rules.specs.Answers.{renewedAnswer}
 use Rattle.offers.proofs.recheck.Statement.{statement}
 use Rattle.offers.proofs.recheck.Tie as tie
 

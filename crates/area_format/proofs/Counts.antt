@@ -1,0 +1,51 @@
+-- A reading has at most 17 offers.
+-- Assumes nothing.
+use Prim.Native.Nat.{ℕ, _+_, _≤_}
+use mathlib.Core.Path.{_≡_, refl}
+use mathlib.Core.Bool.{Bool, true, false, cond}
+use mathlib.Core.List.{List, [], _∷_, _++_}
+use native.Mathlib.Omega.{arith}
+use borrow.Author.Tests.{ltb-true}
+use lib.Dec.{ltb, eqb}
+use lib.ListN.{length, length-append}
+use Rattle.refusal.specs.Checks.{Check, pass, refuse, check6}
+use Rattle.area_format.specs.declared.Attribute.{Attribute}
+use Rattle.area_format.specs.declared.Attribute.the-variants.{Offer, Named, Other, Faulty}
+use Rattle.area_format.specs.declared.Name.{Name}
+use Rattle.area_format.specs.declared.Name.the-variants.{Missing, Found}
+use Rattle.area_format.specs.Area.{Reading, whole, refusal, ended, readOn, guarded, reading, attributes}
+
+-- of a reading that is whole
+abbrev pub Few : Reading → Type 0
+Few (whole offers at len) = length offers ≤ 17
+Few (refusal x) = Unit {0}
+
+few-cond : (t : Bool) (a b : Reading) → (t ≡ true → Few a) → Few b → Few (cond t a b)
+few-cond true a b ha hb = ha refl
+few-cond false a b ha hb = hb
+
+few-ended : (offers : List ℕ) (name : Name) → length offers ≤ 17 → Few (ended offers name)
+few-ended offers Missing h = tt
+few-ended offers (Found at len) h = few-cond (eqb (length offers) 0) _ _ (λ e. tt) h
+
+few-on : (offers : List ℕ) (name : Name) (later : List Attribute) → length offers ≤ 17 → Few (readOn offers name later)
+unfolding readOn
+few-on offers name [] h = few-ended offers name h
+few-on offers name (Faulty x ∷ later) h = tt
+few-on offers name (Other ∷ later) h = few-on offers name later h
+few-on offers name (Offer v ∷ later) h =
+    few-cond (ltb (length offers) 17) _ _
+    (λ e.
+    let less = ltb-true (length offers) 17 e in
+    few-on (offers ++ (v ∷ [])) name later (simp length-append (omega arith)))
+    tt
+few-on offers Missing (Named at len ∷ later) h = few-on offers (Found at len) later h
+few-on offers (Found at₁ len₁) (Named at len ∷ later) h = tt
+
+few-guarded : (c : Check) (r : Reading) → Few r → Few (guarded c r)
+few-guarded pass r h = h
+few-guarded (refuse x) r h = tt
+
+pub few : (area : List ℕ) (room : ℕ) → Few (reading area room)
+unfolding reading
+few area room = few-guarded (check6 17 room) _ (few-on [] Missing (attributes area) (omega arith))

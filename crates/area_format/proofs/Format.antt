@@ -1,0 +1,127 @@
+-- Laws of the area's format: what an attribute within the area has, and that the name of an area that is read whole lies within it.
+-- Assumes nothing.
+use Prim.Native.Nat.{ℕ, zero, suc, _+_, _-_, _*_, _≤_, _<_}
+use mathlib.Core.Path.{_≡_, refl, ap, _∙_}
+use mathlib.Core.Bool.{Bool, true, false, cond}
+use mathlib.Core.List.{List, [], _∷_, _++_}
+use native.Mathlib.Omega.{arith}
+use native.Mathlib.Nat.{add-zero}
+use borrow.Author.Tests.{leb-true, eqb-true}
+use lib.ListN.{length, getD, drop, length-drop}
+use lib.Seq.{drop-drop, drop-length}
+use lib.Dec.{leb, ltb, eqb, eqb·suc-zero}
+use Rattle.slices.proofs.Truth.{and-left, and-right}
+use Rattle.refusal.specs.Checks.{bare}
+use Rattle.refusal.specs.declared.Refusal.the-variants.{AttributeBounds, KdfLength, KdfInput}
+use Rattle.area_format.specs.Area.{typeOf, wordsOf, numberIn, inBytes, inBounds, kdf, zeros, wordsFor, padding, kdfInput, attribute, attributesFrom, attributes, whole, refusal, ended, readOn}
+use Rattle.area_format.specs.declared.Attribute.{Attribute}
+use Rattle.area_format.specs.declared.Attribute.the-variants.{Offer, Named, Other, Faulty}
+use Rattle.area_format.specs.declared.Bytes.{Bytes}
+use Rattle.area_format.specs.declared.Name.{Name}
+use Rattle.area_format.specs.declared.Name.the-variants.{Missing, Found}
+
+-- passing what is left of an attribute
+pub passed : (left at : ℕ) (bytes : List ℕ) → attributesFrom left at bytes ≡ attributesFrom 0 (at + left) (drop left bytes)
+unfolding attributesFrom
+passed zero at bytes = rw add-zero
+passed (suc left) at [] = refl
+passed (suc left) at (x ∷ rest) =
+    let e : suc at + left ≡ at + suc left = omega arith in
+    passed left (suc at) rest ∙ rw e
+
+-- what an attribute within the area has
+pub not-empty : (bytes : List ℕ) → inBounds bytes ≡ true → 1 ≤ wordsOf bytes .0
+unfolding inBounds
+not-empty bytes h = leb-true _ _ (and-left _ _ (and-right (leb 2 (length bytes)) _ h))
+
+pub not-past : (bytes : List ℕ) → inBounds bytes ≡ true → inBytes (wordsOf bytes) .0 ≤ length bytes
+unfolding inBounds
+not-past bytes h = leb-true _ _ (and-right (leb 1 (wordsOf bytes .0)) _ (and-right (leb 2 (length bytes)) _ h))
+
+-- the name of an attribute that ends within the bytes stands within them
+named-within : (at : ℕ) (bytes : List ℕ) (a : ℕ) (l : Bytes) → 4 * getD bytes 1 0 ≤ length bytes → attribute at bytes ≡ Named a l → a + l .0 ≤ at + length bytes
+unfolding attribute kdf kdfInput
+named-within at bytes a l h e =
+    go (eqb (typeOf bytes) 24) (eqb (typeOf bytes) 23) (eqb (wordsOf bytes .0) 1) (eqb (wordsOf bytes .0) (wordsFor (numberIn bytes))) refl (zeros (padding bytes (numberIn bytes))) e
+  where
+    go : (t₁ t₂ t₃ t₄ : Bool) → eqb (wordsOf bytes .0) (wordsFor (numberIn bytes)) ≡ t₄ → (t₅ : Bool)
+        → cond t₁ (cond t₃ (Offer (numberIn bytes)) (Faulty KdfLength)) (cond t₂ (cond t₄ (cond t₅ (Named (at + 4) (record { 0 = numberIn bytes })) (Faulty KdfInput)) (Faulty KdfInput)) Other) ≡ Named a l
+        → a + l .0 ≤ at + length bytes
+    go true t₂ true t₄ r t₅ e = let z : _≡_ {A = ℕ} 0 1 = cc in omega arith
+    go true t₂ false t₄ r t₅ e = let z : _≡_ {A = ℕ} 0 1 = cc in omega arith
+    go false false t₃ t₄ r t₅ e = let z : _≡_ {A = ℕ} 0 1 = cc in omega arith
+    go false true t₃ false r t₅ e = let z : _≡_ {A = ℕ} 0 1 = cc in omega arith
+    go false true t₃ true r false e = let z : _≡_ {A = ℕ} 0 1 = cc in omega arith
+    go false true t₃ true r true e =
+        let w : wordsOf bytes .0 ≡ wordsFor (numberIn bytes) = eqb-true _ _ r in
+        let p : at + 4 ≡ a = cc in
+        let q : _≡_ {A = Bytes} (record { 0 = numberIn bytes }) l = cc in
+        let n : numberIn bytes ≡ l .0 = ap (λ (b : Bytes). b .0) q in
+        omega arith
+
+-- a name that was met stands within so many bytes
+abbrev NameWithin : ℕ → Name → Type 0
+NameWithin size Missing = Unit
+NameWithin size (Found at len) = at + len .0 ≤ size
+
+-- which the number alone decides
+name-same : {m n : ℕ} (name : Name) → m ≡ n → NameWithin m name → NameWithin n name
+name-same Missing e w = tt
+name-same (Found a l) e w = omega arith
+
+-- at the end the answer has the name that was met
+at-the-end : (offers : List ℕ) (name : Name) (size : ℕ) {o : List ℕ} {a l : ℕ} → NameWithin size name → ended offers name ≡ whole o a l → a + l ≤ size
+at-the-end offers Missing size w e = let z : _≡_ {A = ℕ} 0 1 = cc in omega arith
+at-the-end offers (Found at len) size {o} {a} {l} w e = go (eqb (length offers) 0) e
+  where
+    go : (t : Bool) → cond t (refusal (bare 10)) (whole offers at (len .0)) ≡ whole o a l → a + l ≤ size
+    go true e = let z : _≡_ {A = ℕ} 0 1 = cc in omega arith
+    go false e =
+        let p : at ≡ a = cc in
+        let q : len .0 ≡ l = cc in
+        omega arith
+
+-- one attribute more, where the rest of the reading keeps within the bytes
+one-more : (m : Attribute) (later : List Attribute) (offers : List ℕ) (name : Name) (size : ℕ) {o : List ℕ} {a l : ℕ}
+    → ((i : ℕ) (n : Bytes) → m ≡ Named i n → i + n .0 ≤ size)
+    → ((offers : List ℕ) (name : Name) → NameWithin size name → readOn offers name later ≡ whole o a l → a + l ≤ size)
+    → NameWithin size name → readOn offers name (m ∷ later) ≡ whole o a l → a + l ≤ size
+unfolding readOn
+one-more (Faulty x) later offers name size here rest w e = let z : _≡_ {A = ℕ} 0 1 = cc in omega arith
+one-more Other later offers name size here rest w e = rest offers name w e
+one-more (Offer v) later offers name size {o} {a} {l} here rest w e = go (ltb (length offers) 17) e
+  where
+    go : (t : Bool) → cond t (readOn (offers ++ (v ∷ [])) name later) (refusal (bare 10)) ≡ whole o a l → a + l ≤ size
+    go true e = rest (offers ++ (v ∷ [])) name w e
+    go false e = let z : _≡_ {A = ℕ} 0 1 = cc in omega arith
+one-more (Named i n) later offers Missing size here rest w e = rest offers (Found i n) (here i n refl) e
+one-more (Named i n) later offers (Found i₁ n₁) size here rest w e = let z : _≡_ {A = ℕ} 0 1 = cc in omega arith
+
+-- by induction on the bytes
+found-within : (left at : ℕ) (bytes offers : List ℕ) (name : Name) {o : List ℕ} {a l : ℕ} → NameWithin (at + length bytes) name
+    → readOn offers name (attributesFrom left at bytes) ≡ whole o a l → a + l ≤ at + length bytes
+unfolding attributesFrom readOn
+found-within left at [] offers name w e = at-the-end offers name (at + 0) w e
+found-within (suc left) at (x ∷ rest) offers name {o} {a} {l} w e =
+    let k : at + suc (length rest) ≡ suc at + length rest = omega arith in
+    let r : a + l ≤ suc at + length rest = found-within left (suc at) rest offers name (name-same name k w) e in
+    omega arith
+found-within zero at (x ∷ rest) offers name {o} {a} {l} w e =
+    go (inBounds (x ∷ rest)) refl (λ p n v f. found-within (4 * getD (x ∷ rest) 1 0 - 1) (suc at) rest p n v f) e
+  where
+    go : (t : Bool) → inBounds (x ∷ rest) ≡ t
+        → ((p : List ℕ) (n : Name) → NameWithin (suc at + length rest) n → readOn p n (attributesFrom (4 * getD (x ∷ rest) 1 0 - 1) (suc at) rest) ≡ whole o a l → a + l ≤ suc at + length rest)
+        → readOn offers name (cond t (attribute at (x ∷ rest) ∷ attributesFrom (4 * getD (x ∷ rest) 1 0 - 1) (suc at) rest) (Faulty AttributeBounds ∷ [])) ≡ whole o a l
+        → a + l ≤ at + suc (length rest)
+    go true h ih e =
+        let k : at + suc (length rest) ≡ suc at + length rest = omega arith in
+        one-more (attribute at (x ∷ rest)) (attributesFrom (4 * getD (x ∷ rest) 1 0 - 1) (suc at) rest) offers name (at + suc (length rest)) (λ i n f. named-within at (x ∷ rest) i n (not-past (x ∷ rest) h) f)
+        (λ p n v f. let r : a + l ≤ suc at + length rest = ih p n (name-same n k v) f in omega arith) w e
+    go false h ih e = let z : _≡_ {A = ℕ} 0 1 = cc in omega arith
+
+-- the name of an area that is read whole stands within it
+pub name-within : (area : List ℕ) {o : List ℕ} {a l : ℕ} → readOn [] Missing (attributes area) ≡ whole o a l → a + l ≤ length area
+unfolding attributes
+name-within area {o} {a} {l} e =
+    let r : a + l ≤ 0 + length area = found-within 0 0 area [] Missing tt e in
+    omega arith

@@ -1,0 +1,19 @@
+-- A law for callers: an accepted reading's count is within the buffer that was lent.
+-- Assumes nothing.
+use Prim.Native.Nat.{ℕ, _≤_}
+use mathlib.Core.Path.{_≡_, ap}
+use mathlib.Core.Bool.{Bool}
+use mathlib.Core.List.{List}
+use native.Mathlib.Omega.{arith}
+use lib.ListN.{length, length-append}
+use Rattle.area_format.specs.Area.{Reading, whole, refusal, reading, answered, answerTo, bufferTo, areaAnswer, areaBuffer}
+
+pub count-within : (area own out last : List ℕ) {count at len : ℕ} {same : Bool} → answered count at len same ≡ areaAnswer area own (length out) → last ≡ areaBuffer area out → count ≤ length last
+unfolding areaAnswer areaBuffer
+count-within area own out last {count} {at} {len} {same} e b = go (reading area (length out)) e b
+  where
+    go : (r : Reading) → answered count at len same ≡ answerTo area own r → last ≡ bufferTo r out → count ≤ length last
+    go (whole offers i n) e b =
+        let c : count ≡ length offers = cc in
+        omega (arith, simp length-append at (ap length b))
+    go (refusal x) e b = let z : _≡_ {A = ℕ} 0 1 = cc in omega arith

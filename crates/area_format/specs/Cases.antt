@@ -1,0 +1,46 @@
+-- Worked cases of reading an area: document 01's example ("Checked cases"), and an area for each refusal, in the order of "Attribute area".
+-- Assumes nothing.
+use mathlib.Core.Path.{_≡_}
+use Prim.Native.Nat.{ℕ, zero, suc}
+use mathlib.Core.Bool.{true, false}
+use mathlib.Core.List.{List, [], _∷_, _++_}
+use lib.ListN.{replicate}
+use Rattle.refusal.specs.Checks.{bare}
+use Rattle.area_format.specs.Area.{AreaAnswer, answered, refused, areaAnswer, areaBuffer}
+
+-- 18 01 00 02, 18 01 00 01, 17 02 00 03 57 4C 4E 00
+abbrev pub two : List ℕ
+two = 0x18 ∷ 0x01 ∷ 0x00 ∷ 0x02 ∷ []
+
+abbrev pub one : List ℕ
+one = 0x18 ∷ 0x01 ∷ 0x00 ∷ 0x01 ∷ []
+
+abbrev pub wln : List ℕ
+wln = 0x17 ∷ 0x02 ∷ 0x00 ∷ 0x03 ∷ 0x57 ∷ 0x4C ∷ 0x4E ∷ 0x00 ∷ []
+
+-- the same bytes so many times
+abbrev pub times : ℕ → List ℕ → List ℕ
+times zero s = []
+times (suc n) s = s ++ times n s
+
+-- what is answered where the peer's own name is empty and there is room for 17
+abbrev pub answerFor : List ℕ → AreaAnswer
+answerFor area = areaAnswer area [] 17
+
+abbrev pub Cases : Type 0
+Cases =
+    (answerFor (two ++ one ++ wln) ≡ answered 2 12 3 false)
+    × (areaBuffer (two ++ one ++ wln) (replicate 17 7) ≡ 2 ∷ 1 ∷ replicate 15 7)
+    × (areaAnswer (two ++ wln) (0x57 ∷ 0x4C ∷ 0x4E ∷ []) 17 ≡ answered 1 8 3 true)
+    × (areaAnswer (two ++ wln) [] 16 ≡ refused (bare 6))
+    × (answerFor (two ++ wln ++ 0x18 ∷ []) ≡ refused (bare 16))
+    × (answerFor (two ++ wln ++ 0x85 ∷ 0x00 ∷ 0x00 ∷ 0x00 ∷ []) ≡ refused (bare 16))
+    × (answerFor (two ++ wln ++ 0x18 ∷ 0x02 ∷ 0x00 ∷ 0x02 ∷ 0x00 ∷ 0x00 ∷ 0x00 ∷ []) ≡ refused (bare 16))
+    × (answerFor (two ++ wln ++ 0x18 ∷ 0x02 ∷ 0x00 ∷ 0x02 ∷ 0x00 ∷ 0x00 ∷ 0x00 ∷ 0x00 ∷ []) ≡ refused (bare 17))
+    × (answerFor (two ++ 0x17 ∷ 0x01 ∷ 0x00 ∷ 0x01 ∷ []) ≡ refused (bare 18))
+    × (answerFor (two ++ 0x17 ∷ 0x02 ∷ 0x00 ∷ 0x03 ∷ 0x57 ∷ 0x4C ∷ 0x4E ∷ 0x01 ∷ []) ≡ refused (bare 18))
+    × (answerFor (two ++ wln ++ wln) ≡ refused (bare 19))
+    × (answerFor two ≡ refused (bare 19))
+    × (answerFor wln ≡ refused (bare 10))
+    × (answerFor (times 17 two ++ wln) ≡ answered 17 72 3 false)
+    × (answerFor (times 18 two ++ wln) ≡ refused (bare 10))

@@ -1,0 +1,177 @@
+// Reads the attributes of an area one at a time (document 01, "Attribute area"; RFC 5448 sections 3.1 and 3.2): what stands at an offset, and where the
+// next attribute begins.
+ghost use mathlib.Core.Path.{_≡_};
+ghost use Prim.Native.Nat.{_+_, _^_, _≤_, _<_};
+ghost use lib.ListN.{length};
+ghost use Rattle.area_format.specs.Area.{wordsOf, numberIn, inBytes, inBounds, kdfInput};
+ghost use Rattle.area_format.specs.Area;
+ghost use Rattle.area_reader.specs.Steps.{metAt, stepAt};
+use area_format::Attribute;
+use area_format::Bytes;
+use area_format::Words;
+use refusal::Refusal;
+use slices::from_be16;
+
+// A reader's place: the area, and an offset in it.
+struct Reader<'a> {
+    area: &'a [u8],
+    at: usize,
+}
+
+// What stands at a reader's place: the area's end, or an attribute and the offset after it.
+pub enum Step {
+    End,
+    Met(Attribute, usize),
+}
+
+// The one conversion between the two counts.
+fn in_bytes(length: Words) -> Bytes
+    requires { ⌜ length .0 ≤ 255 ⌝ }
+    ensures { λ r. ⌜ r ≡ inBytes length ⌝ }
+{
+    Bytes(4 * length.0)
+}
+
+// The length of the attribute at the start of `bytes`.
+fn length_in(bytes: &[u8]) -> Words
+    requires { ⌜ 2 ≤ length (now bytes) ⌝ }
+    ensures length { λ r. ⌜ r ≡ wordsOf (now (bytes .entry)) ⌝ }
+    ensures small { λ r. ⌜ r .0 ≤ 255 ⌝ }
+{
+    Words(bytes[1] as usize)
+}
+
+// The number in the two bytes after an attribute's length.
+fn number_in(bytes: &[u8]) -> u16
+    requires { ⌜ 4 ≤ length (now bytes) ⌝ }
+    ensures { λ r. ⌜ r ≡ numberIn (now (bytes .entry)) ⌝ }
+{
+    from_be16(bytes[2], bytes[3])
+}
+
+// Whether the attribute at the start of `bytes` ends within them. One of any length takes four bytes.
+fn in_bounds(bytes: &[u8]) -> bool
+    ensures { λ r. ⌜ r ≡ inBounds (now (bytes .entry)) ⌝ }
+{
+    if bytes.len() < 4 {
+        return false;
+    }
+    let words = length_in(bytes);
+    let size = in_bytes(words);
+    (1 <= words.0) & (size.0 <= bytes.len())
+}
+
+// An AT_KDF: its value.
+fn kdf(bytes: &[u8]) -> Attribute
+    requires { ⌜ 4 ≤ length (now bytes) ⌝ }
+    ensures { λ r. ⌜ r ≡ Area.kdf (now (bytes .entry)) ⌝ }
+{
+    let words = length_in(bytes);
+    if words.0 == 1 {
+        Attribute::Offer(number_in(bytes))
+    } else {
+        Attribute::Faulty(Refusal::KdfLength)
+    }
+}
+
+// Whether all bytes are zero.
+fn zeros(bytes: &[u8]) -> bool
+    ensures { λ r. ⌜ r ≡ Area.zeros (now (bytes .entry)) ⌝ }
+{
+    let mut i = 0;
+    while i < bytes.len() {
+        if bytes[i] != 0 {
+            return false;
+        }
+        i += 1;
+    }
+    true
+}
+
+// An AT_KDF_INPUT at an offset of the area: where its name stands. Its length belongs to the name length where name and padding fill
+// the attribute and the padding is less than a word.
+fn kdf_input(bytes: &[u8], at: usize) -> Attribute
+    requires { ⌜ 4 ≤ length (now bytes) ⌝ }
+    requires { ⌜ inBytes (wordsOf (now bytes)) .0 ≤ length (now bytes) ⌝ }
+    requires { ⌜ at + length (now bytes) < 2 ^ 64 ⌝ }
+    ensures { λ r. ⌜ r ≡ kdfInput at (now (bytes .entry)) ⌝ }
+{
+    let size = in_bytes(length_in(bytes)).0;
+    let name = Bytes(number_in(bytes) as usize);
+    let start = 4 + name.0;
+    if size < start {
+        return Attribute::Faulty(Refusal::KdfInput);
+    }
+    if size - start > 3 {
+        return Attribute::Faulty(Refusal::KdfInput);
+    }
+    if zeros(&bytes[start..size]) {
+        Attribute::Named {
+            at: at + 4,
+            len: name,
+        }
+    } else {
+        Attribute::Faulty(Refusal::KdfInput)
+    }
+}
+
+// The attribute at the start of `bytes`, which stand at an offset of the area.
+fn attribute_at(bytes: &[u8], at: usize) -> Attribute
+    requires { ⌜ 4 ≤ length (now bytes) ⌝ }
+    requires { ⌜ inBytes (wordsOf (now bytes)) .0 ≤ length (now bytes) ⌝ }
+    requires { ⌜ at + length (now bytes) < 2 ^ 64 ⌝ }
+    ensures { λ r. ⌜ r ≡ Area.attribute at (now (bytes .entry)) ⌝ }
+{
+    match bytes[0] {
+        24 => kdf(bytes),
+        23 => kdf_input(bytes, at),
+        _ => Attribute::Other,
+    }
+}
+
+// What stands at an offset of the area where `bytes` are those from there to its end. Nothing follows an attribute that is not within the area.
+fn met(bytes: &[u8], at: usize) -> Step
+    requires { ⌜ at + length (now bytes) < 2 ^ 64 ⌝ }
+    ensures { λ r. ⌜ r ≡ metAt at (now (bytes .entry)) ⌝ }
+{
+    if in_bounds(bytes) {
+        let next = at + in_bytes(length_in(bytes)).0;
+        Step::Met(attribute_at(bytes, at), next)
+    } else {
+        let end = at + bytes.len();
+        Step::Met(Attribute::Faulty(Refusal::AttributeBounds), end)
+    }
+}
+
+// What stands at an offset of the area.
+fn step_at(area: &[u8], at: usize) -> Step
+    ensures { λ r. ⌜ r ≡ stepAt (now (area .entry)) at ⌝ }
+{
+    if area.len() <= at {
+        return Step::End;
+    }
+    met(&area[at..], at)
+}
+
+impl<'a> Reader<'a> {
+    // A reader at an offset of the area.
+    fn new(area: &'a [u8], at: usize) -> Self
+        ensures { λ r. ⌜ (r .area ≡ area .entry) × (r .at ≡ at) ⌝ }
+    {
+        Reader { area, at }
+    }
+
+    // What stands at the reader's place.
+    fn next(self) -> Step
+        ensures { λ r. ⌜ r ≡ stepAt (now (self .entry .area)) (self .entry .at) ⌝ }
+    {
+        step_at(self.area, self.at)
+    }
+}
+
+// What a reader meets at an offset of the area. Its parameters are plain, so that its callers need not hold a reader.
+pub fn read_at(area: &[u8], at: usize) -> Step
+    ensures { λ r. ⌜ r ≡ stepAt (now (area .entry)) at ⌝ }
+{
+    Reader::new(area, at).next()
+}

@@ -1,4 +1,0 @@
-pub mod Lists
-pub mod Rounds
-pub mod Statements
-pub mod Steps
