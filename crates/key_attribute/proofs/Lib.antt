@@ -1,5 +1,5 @@
-pub mod Parts
+pub mod Told
+mod Parts
 pub mod Writing
-pub mod Reading
-pub mod RoundTrips
+mod Reading
 pub mod Cases

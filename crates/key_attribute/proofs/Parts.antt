@@ -10,8 +10,10 @@ use lib.ListN.{length, take, drop, replicate, length-append, length-drop, drop-o
 use lib.Seq.{take-all, take-at, drop-at, drop-drop}
 use Rattle.refusal.specs.Checks.{Check, pass, unless, _andThen_, check6}
 use Rattle.refusal.specs.Answers.{bufferAfter}
+use Rattle.slices.specs.Numbers.{be32}
+use Rattle.slices.proofs.Lists.{rest-drop}
 use Rattle.keywrap.specs.Rfc3394.{initialValue}
-use Rattle.key_frame.specs.KeyFrame.{fourBytes, header}
+use Rattle.key_frame.specs.KeyFrame.{header}
 use Rattle.key_attribute.specs.KeyAttribute.{fieldsOf}
 
 -- sixteen bytes copied over sixteen others
@@ -20,10 +22,7 @@ all-sixteen s j h e =
     let l : length s ≤ 16 = omega arith in
     rw e (append-nil (take 16 s) ∙ take-all 16 s l)
 
--- the part of a list from a place on, and the list with that part replaced
-pub part-from : (at : ℕ) (l : List ℕ) → take (length l - at) (drop at l) ≡ drop at l
-part-from at l = let h : length (drop at l) ≤ length l - at = simp length-drop (omega arith) in take-all (length l - at) (drop at l) h
-
+-- a list whose part from a place on is replaced
 pub put-from : (at : ℕ) (l z : List ℕ) → putMid at (length l - at) l z ≡ take at l ++ z
 put-from at l z =
     let h : length (drop at l) ≤ length l - at = simp length-drop (omega arith) in
@@ -34,14 +33,14 @@ pub part-after : (at n : ℕ) (l values z : List ℕ) {c : Check} → c ≡ pass
     → z ≡ bufferAfter c n values (take (length l - at) (drop at l)) → putMid at (length l - at) l z ≡ take at l ++ (values ++ drop (at + n) l)
 part-after at n l values z p e =
     let w : z ≡ values ++ drop n (take (length l - at) (drop at l)) = rw p at e in
-    put-from at l z ∙ ap (λ (r : List ℕ). take at l ++ r) (w ∙ ap (λ (r : List ℕ). values ++ r) (ap (drop n) (part-from at l) ∙ drop-drop n at l))
+    put-from at l z ∙ ap (λ (r : List ℕ). take at l ++ r) (w ∙ ap (λ (r : List ℕ). values ++ r) (ap (drop n) (rest-drop at l) ∙ drop-drop n at l))
 
 -- there is room for them
 pub room-from : (at n : ℕ) (l : List ℕ) → at + n ≤ length l → (pass andThen check6 n (length (take (length l - at) (drop at l)))) ≡ pass
 unfolding unless _andThen_
 room-from at n l h =
     let r : n ≤ length (drop at l) = simp length-drop (omega arith) in
-    rw (part-from at l, le-leb n (length (drop at l)) r)
+    rw (rest-drop at l, le-leb n (length (drop at l)) r)
 
 -- one part of n bytes more, where the parts before it are done
 pub next-part : (l₀ done part l after : List ℕ) (at n : ℕ) → length done ≡ at → l ≡ done ++ drop at l₀
@@ -56,7 +55,7 @@ regroup : (a b c d e f w : List ℕ) → (a ++ b ++ c ++ d ++ e ++ f) ++ w ≡ (
 regroup a b c d e f w = simp append-assoc
 
 -- the six parts of a header, as they are put in place one after the other
-pub header-parts : (t n app life : ℕ) (kekId keyId four₁ four₂ l₀ l₁ l₂ l₃ l₄ l₅ l₆ : List ℕ) → length kekId ≡ 16 → length keyId ≡ 16 → four₁ ≡ fourBytes app → four₂ ≡ fourBytes life
+pub header-parts : (t n app life : ℕ) (kekId keyId four₁ four₂ l₀ l₁ l₂ l₃ l₄ l₅ l₆ : List ℕ) → length kekId ≡ 16 → length keyId ≡ 16 → four₁ ≡ be32 app → four₂ ≡ be32 life
     → l₁ ≡ take 0 l₀ ++ ((t ∷ n ∷ 0 ∷ 0 ∷ []) ++ drop 4 l₀)
     → l₂ ≡ take 4 l₁ ++ (four₁ ++ drop (4 + length four₁) l₁)
     → l₃ ≡ take 8 l₂ ++ (kekId ++ drop (8 + length kekId) l₂)
@@ -67,8 +66,8 @@ pub header-parts : (t n app life : ℕ) (kekId keyId four₁ four₂ l₀ l₁ l
 unfolding header
 header-parts t n app life kekId keyId four₁ four₂ l₀ l₁ l₂ l₃ l₄ l₅ l₆ hk hy f₁ f₂ e₁ e₂ e₃ e₄ e₅ e₆ =
     let start : List ℕ = t ∷ n ∷ 0 ∷ 0 ∷ [] in
-    let a : List ℕ = fourBytes app in
-    let b : List ℕ = fourBytes life in
+    let a : List ℕ = be32 app in
+    let b : List ℕ = be32 life in
     let p₂ = next-part l₀ start a l₁ l₂ 4 4 refl e₁ (rw f₁ at e₂) in
     let p₃ = next-part l₀ (start ++ a) kekId l₂ l₃ 8 16 refl p₂ (rw hk at e₃) in
     let p₄ = next-part l₀ (start ++ a ++ kekId) keyId l₃ l₄ 24 16 (simp length-append (omega arith)) p₃ (rw hy at e₄) in

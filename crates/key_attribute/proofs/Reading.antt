@@ -11,13 +11,15 @@ use Rattle.refusal.specs.Answers.{reasonOf, Answer, wrote, answerOf, answerTo, 
 use Rattle.refusal.specs.declared.Refusal.{Refusal}
 use Rattle.refusal.specs.declared.Written.{Written}
 use Rattle.refusal.specs.declared.Written.the-variants.{Wrote, Refused}
+use Rattle.refusal.proofs.Passing.{test-holds, both-pass, first-refuses}
+use Rattle.slices.proofs.Lists.{rest-drop}
 use Rattle.keywrap.specs.Rfc3394.{unwrappedIv, unwrappedKey}
 use Rattle.keywrap.specs.Calls.{check23, check28, keyLength, unwrapCheck}
 use Rattle.key_frame.specs.KeyFrame.{fieldsIn, wrappedIn, keyLengthIn, frameCheck}
 use Rattle.key_frame.specs.declared.KeyFields.{KeyFields}
-use Rattle.key_frame.proofs.Frames.{framed, refused-then, passed-then, test-holds}
+use Rattle.key_frame.proofs.Frames.{framed}
 use Rattle.key_attribute.specs.KeyAttribute.{check22, keyIn, readCheck, readingTo, reading, readBuffer, answerIn, fieldsRead, noFields}
-use Rattle.key_attribute.proofs.Parts.{part-from}
+use Rattle.key_attribute.proofs.Told.{told-count, told-refusal}
 
 -- what the reader's contract says of what it returned and left
 pub record Read (kek a buffer : List ℕ) (answer : Answer) (fields : KeyFields) (after : List ℕ) : Type 0 where
@@ -41,26 +43,17 @@ by-check kek a buffer c e p q s =
 pub refused-early : (kek a buffer : List ℕ) (x : Reason) {answer : Answer} {fields : KeyFields} → (check22 kek andThen frameCheck a) ≡ refuse x
     → answer ≡ Answer.refused x → fields ≡ noFields → Read kek a buffer answer fields buffer
 unfolding readCheck
-refused-early kek a buffer x e p q = by-check kek a buffer (refuse x) (refused-then _ _ (refused-then _ _ e)) p q refl
+refused-early kek a buffer x e p q = by-check kek a buffer (refuse x) (sym (first-refuses _ _ (sym (first-refuses _ _ e)))) p q refl
 
 -- they pass: what the unwrapping asks of the wrapped key is what is left to test, since its length is that of a wrapped key
 rest-of : (kek a : List ℕ) (room : ℕ) → length kek ≡ 16 → frameCheck a ≡ pass → readCheck kek a room ≡ unwrapCheck kek (wrappedIn a) room
 unfolding readCheck unwrapCheck
 rest-of kek a room hk hf =
     let n : keyLength (wrappedIn a) ≡ keyLengthIn a = simp length-drop (omega arith) in
-    let x : (check22 kek andThen frameCheck a) ≡ pass = passed-then _ _ (test-holds _ _ (eq-eqb (length kek) 16 hk)) ∙ hf in
+    let x : (check22 kek andThen frameCheck a) ≡ pass = both-pass _ _ (test-holds _ _ (eq-eqb (length kek) 16 hk)) hf in
     let y : check23 (keyLengthIn a) ≡ pass = test-holds _ _ (framed a hf .size .sized) in
     ap (λ (c : Check). c andThen check6 (keyLengthIn a) room andThen check28 (unwrappedIv kek (wrappedIn a))) (x ∙ sym y)
     ∙ ap (λ (k : ℕ). check23 k andThen check6 k room andThen check28 (unwrappedIv kek (wrappedIn a))) (sym n)
-
--- the unwrapping's answer, by cases
-wrote-by : (c : Check) (f : KeyFields) (n m : ℕ) → wrote m ≡ answerTo c n → (wrote m ≡ answerIn (readingTo c f n)) × (f ≡ fieldsRead (readingTo c f n))
-wrote-by pass f n m e = (e, refl)
-wrote-by (refuse x) f n m e = (e, cc)
-
-refused-by : (c : Check) (f : KeyFields) (n : ℕ) (x : Reason) → Answer.refused x ≡ answerTo c n → (Answer.refused x ≡ answerIn (readingTo c f n)) × (noFields ≡ fieldsRead (readingTo c f n))
-refused-by pass f n x e = (e, cc)
-refused-by (refuse y) f n x e = (e, refl)
 
 -- what the unwrapping of the attribute's part from byte 52 on answered and left, said of the attribute
 module _ (kek a buffer kek₁ : List ℕ) (hk : length kek ≡ 16) (hf : frameCheck a ≡ pass) (k : kek₁ ≡ kek) where
@@ -68,35 +61,35 @@ module _ (kek a buffer kek₁ : List ℕ) (hk : length kek ≡ 16) (hf : frameCh
   part = take (length a - 52) (drop 52 a)
 
   part-check : unwrapCheck kek₁ part (length buffer) ≡ readCheck kek a (length buffer)
-  part-check = rw (part-from 52 a, k) (sym (rest-of kek a (length buffer) hk hf))
+  part-check = rw (rest-drop 52 a, k) (sym (rest-of kek a (length buffer) hk hf))
 
   part-length : keyLength part ≡ keyLengthIn a
-  part-length = rw (part-from 52 a) (simp length-drop (omega arith))
+  part-length = rw (rest-drop 52 a) (simp length-drop (omega arith))
 
   part-key : unwrappedKey kek₁ part ≡ keyIn kek a
   unfolding keyIn
-  part-key = rw (part-from 52 a, k)
+  part-key = rw (rest-drop 52 a, k)
 
-  left-by : {after : List ℕ} → after ≡ bufferAfter (unwrapCheck kek₁ part (length buffer)) (keyLength part) (unwrappedKey kek₁ part) buffer
+  left-part : {after : List ℕ} → after ≡ bufferAfter (unwrapCheck kek₁ part (length buffer)) (keyLength part) (unwrappedKey kek₁ part) buffer
       → after ≡ bufferAfter (readCheck kek a (length buffer)) (keyLengthIn a) (keyIn kek a) buffer
-  left-by e = e ∙ (λ i. bufferAfter (part-check i) (part-length i) (part-key i) buffer)
+  left-part e = e ∙ (λ i. bufferAfter (part-check i) (part-length i) (part-key i) buffer)
 
-  answer-by : {answer : Answer} → answer ≡ answerTo (unwrapCheck kek₁ part (length buffer)) (keyLength part)
+  answer-part : {answer : Answer} → answer ≡ answerTo (unwrapCheck kek₁ part (length buffer)) (keyLength part)
       → answer ≡ answerTo (readCheck kek a (length buffer)) (keyLengthIn a)
-  answer-by e = e ∙ (λ i. answerTo (part-check i) (part-length i))
+  answer-part e = e ∙ (λ i. answerTo (part-check i) (part-length i))
 
   -- the key was written, and the attribute's fields are returned
   pub read-so : {ans : Written} {n : ℕ} {fields : KeyFields} {after : List ℕ} → answerOf ans ≡ answerTo (unwrapCheck kek₁ part (length buffer)) (keyLength part)
       → after ≡ bufferAfter (unwrapCheck kek₁ part (length buffer)) (keyLength part) (unwrappedKey kek₁ part) buffer → ans ≡ Wrote n → fields ≡ fieldsIn a
       → Read kek a buffer (wrote n) fields after
   read-so {n = n} u b w f =
-      let r = wrote-by (readCheck kek a (length buffer)) (fieldsIn a) (keyLengthIn a) n (ap answerOf (sym w) ∙ answer-by u) in
-      by-check kek a buffer (readCheck kek a (length buffer)) refl (r .0) (f ∙ r .1) (left-by b)
+      let t = told-count _ _ n (ap answerOf (sym w) ∙ answer-part u) in
+      by-check kek a buffer pass (t .0) (ap wrote (t .1)) f (rw (t .0) at (left-part b))
 
   -- the unwrapping refuses
   pub refused-late : {ans : Written} {why : Refusal} {answer : Answer} {fields : KeyFields} {after : List ℕ} → answerOf ans ≡ answerTo (unwrapCheck kek₁ part (length buffer)) (keyLength part)
       → after ≡ bufferAfter (unwrapCheck kek₁ part (length buffer)) (keyLength part) (unwrappedKey kek₁ part) buffer → ans ≡ Refused why → answer ≡ Answer.refused (reasonOf why) → fields ≡ noFields
       → Read kek a buffer answer fields after
   refused-late {why = why} u b w p f =
-      let r = refused-by (readCheck kek a (length buffer)) (fieldsIn a) (keyLengthIn a) (reasonOf why) (ap answerOf (sym w) ∙ answer-by u) in
-      by-check kek a buffer (readCheck kek a (length buffer)) refl (p ∙ r .0) (f ∙ r .1) (left-by b)
+      let c = told-refusal _ _ (reasonOf why) (ap answerOf (sym w) ∙ answer-part u) in
+      by-check kek a buffer (refuse (reasonOf why)) c p f (rw c at (left-part b))

@@ -1,64 +1,149 @@
--- What the writer's tests say where they pass, and the attribute put together of its header and the wrapped key.
+-- What the writer answers and leaves, by its tests: those before the wrapping, and the wrapping's own.
 -- Assumes nothing.
-use Prim.Native.Nat.{ℕ, _+_, _-_, _≤_}
-use mathlib.Core.Path.{_≡_, ap, _∙_}
+use Prim.Native.Nat.{ℕ, _+_, _-_, _≤_, _<_, min}
+use mathlib.Core.Path.{_≡_, refl, sym, ap, _∙_}
 use mathlib.Core.Bool.{true, _&&_}
-use mathlib.Core.List.{List, _++_}
+use mathlib.Core.List.{List, _++_, append-assoc}
+use native.Mathlib.Decide.{decLt}
+use native.Mathlib.Nat.{min-eq-left, min-eq-right}
 use native.Mathlib.Omega.{arith}
 use borrow.Author.Tests.{leb-true, eqb-true, le-leb}
 use borrow.Rule.Slice.PartMut.{putMid}
-use lib.Dec.{eqb}
-use lib.ListN.{length, take, drop, length-append, length-drop}
-use Rattle.refusal.specs.Checks.{pass, unless, _andThen_}
-use Rattle.refusal.specs.Answers.{bufferAfter}
-use Rattle.refusal.proofs.Passing.{before-passed, last-passed, test-passed}
-use Rattle.slices.proofs.Truth.{and-left, and-right}
+use lib.Dec.{leb, eqb}
+use lib.ListN.{length, take, drop, length-append, length-drop, take-append-drop}
+use lib.Seq.{drop-at, drop-drop, length-take-le}
+use Rattle.refusal.specs.Checks.{Reason, Check, pass, refuse, _andThen_}
+use Rattle.refusal.specs.Answers.{Answer, wrote, answerTo, bufferAfter}
+use Rattle.refusal.proofs.Passing.{before-passed, last-passed, test-passed, first-refuses}
+use Rattle.slices.proofs.Truth.{and-left, and-right, same-truth}
+use Rattle.slices.proofs.Lists.{rest-drop}
 use Rattle.keywrap.specs.Rfc3394.{wrapped}
-use Rattle.keywrap.specs.Calls.{wrappable, wrapCheck}
+use Rattle.keywrap.specs.Calls.{wrapCheck}
 use Rattle.key_frame.specs.KeyFrame.{header, check20}
 use Rattle.key_frame.specs.declared.KeyFields.{KeyFields}
-use Rattle.key_attribute.specs.KeyAttribute.{attributeLength, attribute, writeCheck}
-use Rattle.key_attribute.specs.Writable.{Writable}
-use Rattle.key_attribute.proofs.Parts.{part-from, part-after, next-part}
+use Rattle.key_frame.proofs.Frames.{KeyLength, key-length}
+use Rattle.key_attribute.specs.KeyAttribute.{attributeLength, attribute, check21, check22, writeCheck, writeAnswer, writeBuffer}
+use Rattle.key_attribute.proofs.Told.{told-count, told-refusal}
+use Rattle.key_attribute.proofs.Parts.{put-from}
 
-pub writable : (f : KeyFields) (kek key : List ℕ) (room : ℕ) → writeCheck f kek key room ≡ pass → Writable (f .«kek_id») (f .«key_id») kek key room
-unfolding writeCheck
-writable f kek key room e =
-    let c23 = before-passed _ _ e in
-    let c22 = before-passed _ _ c23 in
-    let c21 = before-passed _ _ c22 in
-    let ids : (eqb (length (f .«kek_id»)) 16 && eqb (length (f .«key_id»)) 16) ≡ true = test-passed _ _ (last-passed _ _ c21) in
+-- the tests before the wrapping
+abbrev pub named : KeyFields → List ℕ → Check
+named f kek = check20 (f .«attribute_type») andThen check21 (f .«kek_id») (f .«key_id») andThen check22 kek
+
+-- what they say where they pass
+pub record Named (f : KeyFields) (kek : List ℕ) : Type 0 where
+  pub kek-id : length (f .«kek_id») ≡ 16
+  pub key-id : length (f .«key_id») ≡ 16
+  pub kek-size : length kek ≡ 16
+
+pub lengths : (f : KeyFields) (kek : List ℕ) → named f kek ≡ pass → Named f kek
+lengths f kek e =
+    let ids : (eqb (length (f .«kek_id»)) 16 && eqb (length (f .«key_id»)) 16) ≡ true = test-passed _ _ (last-passed _ _ (before-passed _ _ e)) in
     record {
       kek-id = eqb-true _ _ (and-left _ _ ids);
       key-id = eqb-true _ _ (and-right (eqb (length (f .«kek_id»)) 16) _ ids);
-      kek-size = eqb-true _ _ (test-passed _ _ (last-passed _ _ c22));
-      key-size = test-passed _ _ (last-passed _ _ c23);
-      fits = leb-true _ _ (test-passed _ _ (last-passed _ _ e));
+      kek-size = eqb-true _ _ (test-passed _ _ (last-passed _ _ e));
     }
 
-pub writer-type : (f : KeyFields) (kek key : List ℕ) (room : ℕ) → writeCheck f kek key room ≡ pass → check20 (f .«attribute_type») ≡ pass
-unfolding writeCheck
-writer-type f kek key room e = before-passed _ _ (before-passed _ _ (before-passed _ _ (before-passed _ _ e)))
+-- they refuse: the answer is their refusal, and the buffer is as it was
+pub refused-named : (f : KeyFields) (kek key buffer : List ℕ) (x : Reason) → named f kek ≡ refuse x
+    → (Answer.refused x ≡ writeAnswer f kek key (length buffer)) × (buffer ≡ writeBuffer f kek key buffer)
+unfolding writeAnswer writeBuffer writeCheck
+refused-named f kek key buffer x e =
+    let c : writeCheck f kek key (length buffer) ≡ refuse x = sym (first-refuses _ _ (sym (first-refuses _ _ e))) in
+    rw c (refl, refl)
 
--- the wrapping of a key that can be wrapped, to a part of a list that has room for it, passes
-wrap-passes : (n : ℕ) (l : List ℕ) → wrappable n ≡ true → 52 + (n + 8) ≤ length l → wrapCheck n (length (take (length l - 52) (drop 52 l))) ≡ pass
-unfolding wrapCheck unless _andThen_
-wrap-passes n l w h =
-    let r : n + 8 ≤ length (drop 52 l) = simp length-drop (omega arith) in
-    rw (part-from 52 l, w, le-leb (n + 8) (length (drop 52 l)) r)
+-- the room from byte 52 on, or from the end where that comes first, is enough for the wrapped key where the whole is enough for the attribute
+same-fit : (n room start : ℕ) → start ≡ min 52 room → leb (60 + n) room ≡ leb (n + 8) (room - start)
+same-fit n room start e =
+    same-truth (leb (60 + n) room) (leb (n + 8) (room - start))
+    (λ p. let fits = leb-true (60 + n) room p in le-leb (n + 8) (room - start) (there (decLt room 52) fits))
+    (λ p. let fits = leb-true (n + 8) (room - start) p in le-leb (60 + n) room (back (decLt room 52) fits))
+  where
+    short : room < 52 → start ≡ room
+    short h = let le : room ≤ 52 = omega arith in e ∙ min-eq-right le
 
--- a header, and the wrapped key after it
-pub attribute-parts : (f : KeyFields) (kek kek₁ key l₀ l₁ z : List ℕ)
-    → Writable (f .«kek_id») (f .«key_id») kek key (length l₀)
-    → length (header f (attributeLength key)) ≡ 52
-    → l₁ ≡ header f (attributeLength key) ++ drop 52 l₀
-    → kek₁ ≡ kek
-    → z ≡ bufferAfter (wrapCheck (length key) (length (take (length l₁ - 52) (drop 52 l₁)))) (length key + 8) (wrapped kek₁ key) (take (length l₁ - 52) (drop 52 l₁))
-    → putMid 52 (length l₁ - 52) l₁ z ≡ attribute f kek key ++ drop (60 + length key) l₀
-unfolding attribute
-attribute-parts f kek kek₁ key l₀ l₁ z w h e k a =
-    let s : length l₁ ≡ length l₀ = ap length e ∙ simp (length-append, length-drop) (omega (arith, w .fits)) in
-    let room : 52 + (length key + 8) ≤ length l₁ = omega (arith, w .fits) in
-    let n : 52 + (length key + 8) ≡ 60 + length key = omega arith in
-    let p = part-after 52 (length key + 8) l₁ (wrapped kek₁ key) z (wrap-passes (length key) l₁ (w .key-size) room) a in
-    rw (n, k) at (next-part l₀ (header f (attributeLength key)) (wrapped kek₁ key) l₁ _ 52 (length key + 8) h e p)
+    long : (room < 52 → ⊥) → start ≡ 52
+    long h = let le : 52 ≤ room = omega arith in e ∙ min-eq-left le
+
+    there : Dec (room < 52) → 60 + n ≤ room → n + 8 ≤ room - start
+    there (yes h) fits = omega arith
+    there (no h) fits = let s = long h in omega arith
+
+    back : Dec (room < 52) → n + 8 ≤ room - start → 60 + n ≤ room
+    back (yes h) fits = let s = short h in omega arith
+    back (no h) fits = let s = long h in omega arith
+
+-- what is so where the wrap routine, lent the part from there on, answers a count
+pub record Accepted (f : KeyFields) (kek key buffer : List ℕ) (start n : ℕ) : Type 0 where
+  pub tests : writeCheck f kek key (length buffer) ≡ pass
+  pub count : n ≡ length key + 8
+  pub size : KeyLength (length key)
+  pub fits : 60 + length key ≤ length buffer
+  pub at-52 : start ≡ 52
+
+-- they pass, and the part of the buffer from there on is lent to the wrap routine, which leaves z in it
+module _ (f : KeyFields) (kek key buffer : List ℕ) (ok : named f kek ≡ pass) (start : ℕ) (at : start ≡ min 52 (length buffer)) where
+  abbrev part : List ℕ
+  part = take (length buffer - start) (drop start buffer)
+
+  -- what it tests is what is left to test
+  rest-tests : writeCheck f kek key (length buffer) ≡ wrapCheck (length key) (length part)
+  unfolding writeCheck wrapCheck _andThen_
+  rest-tests =
+      let size : length part ≡ length buffer - start = rw (rest-drop start buffer) (length-drop start buffer) in
+      rw (ok, size, same-fit (length key) (length buffer) start at)
+
+  -- it refuses
+  pub refused-wrap : (kek₁ : List ℕ) (x : Reason) {z : List ℕ} → Answer.refused x ≡ answerTo (wrapCheck (length key) (length part)) (length key + 8)
+      → z ≡ bufferAfter (wrapCheck (length key) (length part)) (length key + 8) (wrapped kek₁ key) part
+      → (Answer.refused x ≡ writeAnswer f kek key (length buffer)) × (putMid start (length buffer - start) buffer z ≡ writeBuffer f kek key buffer)
+  unfolding writeAnswer writeBuffer
+  refused-wrap kek₁ x {z} a b =
+      let c : wrapCheck (length key) (length part) ≡ refuse x = told-refusal _ _ x a in
+      let same : z ≡ drop start buffer = rw c at b ∙ rest-drop start buffer in
+      rw (rest-tests, c) (refl, put-from start buffer z ∙ rw same (take-append-drop start buffer))
+
+  -- it accepts
+  pub accepted-wrap : (n : ℕ) → wrote n ≡ answerTo (wrapCheck (length key) (length part)) (length key + 8) → Accepted f kek key buffer start n
+  unfolding writeCheck
+  accepted-wrap n a =
+      let t = told-count _ _ n a in
+      let tests : writeCheck f kek key (length buffer) ≡ pass = rest-tests ∙ t .0 in
+      let fits : 60 + length key ≤ length buffer = leb-true _ _ (test-passed _ _ (last-passed _ _ tests)) in
+      let long : 52 ≤ length buffer = omega arith in
+      record {
+        tests = tests;
+        count = t .1;
+        size = key-length _ (test-passed _ _ (last-passed _ _ (before-passed _ _ tests)));
+        fits = fits;
+        at-52 = at ∙ min-eq-left long;
+      }
+
+  -- and there is room for the header before what it left
+  before-part : {n : ℕ} → Accepted f kek key buffer start n → length (take start buffer) ≡ 52
+  before-part acc = length-take-le start buffer (omega (arith, acc .at-52, acc .fits)) ∙ acc .at-52
+
+  pub header-room : {n : ℕ} {z left : List ℕ} → Accepted f kek key buffer start n → z ≡ left → 52 ≤ length (putMid start (length buffer - start) buffer z)
+  header-room {z = z} acc e =
+      let size : length (take start buffer ++ z) ≡ 52 + length z = length-append (take start buffer) z ∙ ap (λ (k : ℕ). k + length z) (before-part acc) in
+      rw (put-from start buffer z) (omega arith)
+
+  -- which is put there
+  pub written-wrap : (kek₁ : List ℕ) (n all : ℕ) {z after : List ℕ} → Accepted f kek key buffer start n → kek₁ ≡ kek
+      → z ≡ bufferAfter (wrapCheck (length key) (length part)) (length key + 8) (wrapped kek₁ key) part
+      → all ≡ 52 + n
+      → after ≡ header f all ++ drop 52 (putMid start (length buffer - start) buffer z)
+      → (wrote all ≡ writeAnswer f kek key (length buffer)) × (after ≡ writeBuffer f kek key buffer)
+  unfolding writeAnswer writeBuffer attribute
+  written-wrap kek₁ n all {z} {after} acc k b s h =
+      let size : all ≡ attributeLength key = omega (arith, acc .count) in
+      let c : wrapCheck (length key) (length part) ≡ pass = sym rest-tests ∙ acc .tests in
+      let far : start + (length key + 8) ≡ 60 + length key = omega (arith, acc .at-52) in
+      let left : z ≡ wrapped kek key ++ drop (60 + length key) buffer
+      = rw (c, k) at b ∙ ap (λ (l : List ℕ). wrapped kek key ++ drop (length key + 8) l) (rest-drop start buffer)
+      ∙ ap (λ (l : List ℕ). wrapped kek key ++ l) (drop-drop (length key + 8) start buffer ∙ ap (λ (i : ℕ). drop i buffer) far) in
+      let put : drop 52 (putMid start (length buffer - start) buffer z) ≡ z = ap (drop 52) (put-from start buffer z) ∙ drop-at (take start buffer) z 52 (before-part acc) in
+      let whole : after ≡ (header f (attributeLength key) ++ wrapped kek key) ++ drop (60 + length key) buffer
+      = h ∙ (λ i. header f (size i) ++ (put ∙ left) i) ∙ sym (append-assoc (header f (attributeLength key)) (wrapped kek key) (drop (60 + length key) buffer)) in
+      rw (acc .tests) (ap wrote size, whole)

@@ -1,3 +1,1 @@
 pub mod KeyAttribute
-pub mod Statements
-pub mod Writable

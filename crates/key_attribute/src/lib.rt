@@ -1,21 +1,22 @@
 // The RADIUS Key attribute written and read (source document 004, section 3.1): a key, wrapped under a KEK, with the fields that name it.
 ghost use mathlib.Core.Path.{_≡_};
 ghost use mathlib.Core.List.{_++_};
-ghost use Prim.Native.Nat.{ℕ, _+_, _*_, _^_, _≤_};
+ghost use Prim.Native.Nat.{_+_, _≤_};
 ghost use lib.ListN.{length, take, drop};
-ghost use Rattle.refusal.specs.Checks.{pass};
+ghost use Rattle.refusal.specs.Checks.{pass, _andThen_};
 ghost use Rattle.refusal.specs.Answers.{Answer, checkedAs, answerOf, reasonOf};
-ghost use Rattle.keywrap.specs.Calls.{check23};
-ghost use Rattle.key_frame.specs.KeyFrame.{fourBytes, numberAt, header, fieldsIn, frameCheck};
-ghost use Rattle.key_attribute.specs.KeyAttribute.{fieldsOf, attribute as attributeOf, check22, writeCheck, writeAnswer, writeBuffer, reading, readBuffer, answerIn, noFields, fieldsRead};
-ghost use Rattle.key_attribute.specs.Writable.{Writable};
+ghost use Rattle.slices.specs.Numbers.{be32At};
+ghost use Rattle.key_frame.specs.KeyFrame.{header, fieldsIn, check20, frameCheck};
+ghost use Rattle.key_attribute.specs.KeyAttribute.{fieldsOf, check21, check22, writeAnswer, writeBuffer, reading, readBuffer, answerIn, noFields, fieldsRead};
 use key_frame::KeyFields;
 use refusal::Checked;
 use refusal::Refusal;
 use refusal::Written;
-use refusal::check_room;
 use refusal::then_check;
 use refusal::unless;
+use slices::be32;
+use slices::from_be32;
+use slices::least;
 
 // What reading answers: the key's length or a refusal, and the fields, which are all zero on a refusal.
 pub struct KeyRead {
@@ -23,31 +24,12 @@ pub struct KeyRead {
     pub fields: KeyFields,
 }
 
-// A number as four bytes, high byte first.
-fn four_bytes(n: u32) -> [u8; 4]
-    ensures { λ r. ⌜ r ≡ fourBytes n ⌝ }
-{
-    [
-        (n / 16777216 % 256) as u8,
-        (n / 65536 % 256) as u8,
-        (n / 256 % 256) as u8,
-        (n % 256) as u8,
-    ]
-}
-
-// The number of four bytes, high byte first.
-fn number(a: u8, b: u8, c: u8, d: u8) -> u32
-    ensures { λ r. ⌜ r ≡ a * 2 ^ 24 + b * 2 ^ 16 + c * 2 ^ 8 + d ⌝ }
-{
-    (a as u32) * 16777216 + (b as u32) * 65536 + (c as u32) * 256 + (d as u32)
-}
-
-// The number that four bytes of s hold from index `at` on.
+// The number that four bytes of s hold from index `at` on, high byte first.
 fn number_at(s: &[u8], at: usize) -> u32
     requires { ⌜ at + 4 ≤ length (now s) ⌝ }
-    ensures { λ r. ⌜ r ≡ numberAt (now (s .entry)) at ⌝ }
+    ensures { λ r. ⌜ r ≡ be32At (now (s .entry)) at ⌝ }
 {
-    number(s[at], s[at + 1], s[at + 2], s[at + 3])
+    from_be32(s[at], s[at + 1], s[at + 2], s[at + 3])
 }
 
 // Sixteen bytes as an array.
@@ -84,10 +66,10 @@ fn put_header(
     ensures { λ _. ⌜ now (out .exit) ≡ header (fieldsOf «attribute_type» «app_id» (now («kek_id» .entry)) (now («key_id» .entry)) lifetime) «length_byte» ++ drop 52 (now (out .entry)) ⌝ }
 {
     put_at(&[attribute_type, length_byte, 0, 0], 0, out);
-    put_at(&four_bytes(app_id), 4, out);
+    put_at(&be32(app_id), 4, out);
     put_at(kek_id, 8, out);
     put_at(key_id, 24, out);
-    put_at(&four_bytes(lifetime), 40, out);
+    put_at(&be32(lifetime), 40, out);
     put_at(&[0xa6; 8], 44, out);
 }
 
@@ -98,25 +80,10 @@ fn check_kek(kek: &[u8]) -> Checked
     unless(kek.len() == 16, Refusal::KekLength)
 }
 
-// The test of the length of a key to wrap.
-fn check_key_length(n: usize) -> Checked
-    ensures { λ r. ⌜ checkedAs r ≡ check23 n ⌝ }
+// The writer's tests before the wrapping: the type, the two IDs, the KEK.
+fn check_named(attribute_type: u8, kek_id: &[u8], key_id: &[u8], kek: &[u8]) -> Checked
+    ensures { λ r. ⌜ checkedAs r ≡ (check20 «attribute_type» andThen check21 (now («kek_id» .entry)) (now («key_id» .entry)) andThen check22 (now (kek .entry))) ⌝ }
 {
-    unless(keywrap::is_wrappable(n), Refusal::KeyToWrapLength)
-}
-
-// The tests of the writer, in their order.
-fn check_write(
-    attribute_type: u8,
-    kek_id: &[u8],
-    key_id: &[u8],
-    kek: &[u8],
-    key: &[u8],
-    room: usize,
-) -> Checked
-    ensures { λ r. ⌜ ((app lifetime : ℕ) → checkedAs r ≡ writeCheck (fieldsOf «attribute_type» app (now («kek_id» .entry)) (now («key_id» .entry)) lifetime) (now (kek .entry)) (now (key .entry)) room) ⌝ }
-{
-    let n = key.len();
     let c20 = unless(attribute_type != 0, Refusal::AttributeType);
     let c21 = then_check(
         c20,
@@ -125,13 +92,12 @@ fn check_write(
             Refusal::IdLength,
         ),
     );
-    let c22 = then_check(c21, check_kek(kek));
-    let c23 = then_check(c22, check_key_length(n));
-    then_check(c23, check_room(60 + n, room))
+    then_check(c21, check_kek(kek))
 }
 
-// The attribute, to the start of out, where every length is right.
-fn put_attribute(
+// Writes an attribute whose tests before the wrapping pass. The part of out from byte 52 on is lent to the wrap routine, which tests the key and the room;
+// the bytes before it are written once it has accepted both.
+fn write_named(
     attribute_type: u8,
     app_id: u32,
     kek_id: &[u8],
@@ -140,21 +106,29 @@ fn put_attribute(
     kek: &[u8],
     key: &[u8],
     out: &mut [u8],
-)
-    requires { ⌜ Writable (now «kek_id») (now «key_id») (now kek) (now key) (length (now out)) ⌝ }
-    ensures { λ _. ⌜ now (out .exit) ≡ attributeOf (fieldsOf «attribute_type» «app_id» (now («kek_id» .entry)) (now («key_id» .entry)) lifetime) (now (kek .entry)) (now (key .entry)) ++ drop (60 + length (now (key .entry))) (now (out .entry)) ⌝ }
+) -> Written
+    requires { ⌜ (check20 «attribute_type» andThen check21 (now «kek_id») (now «key_id») andThen check22 (now kek)) ≡ pass ⌝ }
+    ensures answer { λ r. ⌜ answerOf r ≡ writeAnswer (fieldsOf «attribute_type» «app_id» (now («kek_id» .entry)) (now («key_id» .entry)) lifetime) (now (kek .entry)) (now (key .entry)) (length (now (out .entry))) ⌝ }
+    ensures buffer { λ _. ⌜ now (out .exit) ≡ writeBuffer (fieldsOf «attribute_type» «app_id» (now («kek_id» .entry)) (now («key_id» .entry)) lifetime) (now (kek .entry)) (now (key .entry)) (now (out .entry)) ⌝ }
 {
-    let n = 60 + key.len();
-    put_header(
-        attribute_type,
-        n as u8,
-        app_id,
-        kek_id,
-        key_id,
-        lifetime,
-        out,
-    );
-    keywrap::wrap(sixteen(kek), key, &mut out[52..]);
+    let start = least(52, out.len());
+    let wrapped = keywrap::wrap(sixteen(kek), key, &mut out[start..]);
+    match wrapped {
+        Written::Refused(why) => Written::Refused(why),
+        Written::Wrote(n) => {
+            let all = 52 + n;
+            put_header(
+                attribute_type,
+                all as u8,
+                app_id,
+                kek_id,
+                key_id,
+                lifetime,
+                out,
+            );
+            Written::Wrote(all)
+        }
+    }
 }
 
 // Writes the attribute that carries a key, wrapped under a KEK, and answers its length.
@@ -171,22 +145,19 @@ pub fn write(
     ensures answer { λ r. ⌜ answerOf r ≡ writeAnswer (fieldsOf «attribute_type» «app_id» (now («kek_id» .entry)) (now («key_id» .entry)) lifetime) (now (kek .entry)) (now (key .entry)) (length (now (out .entry))) ⌝ }
     ensures buffer { λ _. ⌜ now (out .exit) ≡ writeBuffer (fieldsOf «attribute_type» «app_id» (now («kek_id» .entry)) (now («key_id» .entry)) lifetime) (now (kek .entry)) (now (key .entry)) (now (out .entry)) ⌝ }
 {
-    let check = check_write(attribute_type, kek_id, key_id, kek, key, out.len());
+    let check = check_named(attribute_type, kek_id, key_id, kek);
     match check {
         Checked::Failed(why) => Written::Refused(why),
-        Checked::Passed => {
-            put_attribute(
-                attribute_type,
-                app_id,
-                kek_id,
-                key_id,
-                lifetime,
-                kek,
-                key,
-                out,
-            );
-            Written::Wrote(60 + key.len())
-        }
+        Checked::Passed => write_named(
+            attribute_type,
+            app_id,
+            kek_id,
+            key_id,
+            lifetime,
+            kek,
+            key,
+            out,
+        ),
     }
 }
 

@@ -1,35 +1,20 @@
 -- What the tests of an attribute's frame say where they pass.
 -- Assumes nothing.
 use Prim.Native.Nat.{ℕ, _-_, _%_, _≤_, _<_}
-use mathlib.Core.Path.{_≡_, refl, sym, ap, _∙_}
-use mathlib.Core.Bool.{Bool, true, false, _&&_}
-use mathlib.Core.List.{List, [], _∷_}
+use mathlib.Core.Path.{_≡_}
+use mathlib.Core.Bool.{Bool, true, false, _&&_, and-false}
+use mathlib.Core.List.{List}
 use native.Mathlib.Omega.{arith}
-use borrow.Author.Tests.{eqb-true, eqb-false, eq-eqb, le-leb, lt-leb, not-true}
+use borrow.Author.Tests.{eqb-true, eqb-false, le-leb, lt-leb, not-true}
 use lib.Dec.{leb, eqb}
 use lib.ListN.{length, getD}
-use Rattle.refusal.specs.Checks.{Reason, Check, pass, refuse, bare, unless, _andThen_, within}
+use Rattle.refusal.specs.Checks.{Check, pass, refuse, bare, unless, _andThen_, within}
 use Rattle.refusal.proofs.Passing.{within-low, within-high, before-passed, last-passed, test-passed}
 use Rattle.slices.proofs.Truth.{and-left, and-right}
-use Rattle.slices.specs.Same.{sameList}
-use Rattle.slices.proofs.Same.{same-equal, equal-same}
+use Rattle.slices.proofs.Same.{same-equal}
 use Rattle.keywrap.specs.Rfc3394.{initialValue}
 use Rattle.keywrap.specs.Calls.{wrappable}
 use Rattle.key_frame.specs.KeyFrame.{ivIn, check20, lengthHolds, check25, check26, check27, frameCheck}
-
--- tests after those that refuse, or that pass
-pub refused-then : (c d : Check) {x : Reason} → c ≡ refuse x → (c andThen d) ≡ refuse x
-unfolding _andThen_
-refused-then c d e = ap (λ (y : Check). y andThen d) e
-
-pub passed-then : (c d : Check) → c ≡ pass → (c andThen d) ≡ d
-unfolding _andThen_
-passed-then c d e = ap (λ (y : Check). y andThen d) e
-
--- a test that holds passes
-pub test-holds : (t : Bool) (x : Reason) → t ≡ true → unless t x ≡ pass
-unfolding unless
-test-holds t x e = ap (λ (b : Bool). unless b x) e
 
 -- a length that a key to wrap may have
 pub record KeyLength (n : ℕ) : Type 0 where
@@ -70,10 +55,6 @@ attribute-length a e =
     }
 
 -- the length of fewer than 60 bytes does not hold
-and-false : (b : Bool) → (b && false) ≡ false
-and-false true = refl
-and-false false = refl
-
 pub no-length : (a : List ℕ) → length a < 60 → false ≡ lengthHolds a
 unfolding lengthHolds
 no-length a h =
@@ -118,42 +99,3 @@ framed a e =
       method = eqb-true _ _ (test-passed _ _ (last-passed _ _ c26));
       iv = same-equal _ _ (test-passed _ _ (last-passed _ _ e));
     }
-
--- the test of eight bytes, one by one
-and-true : (b : Bool) → (b && true) ≡ b
-and-true true = refl
-and-true false = refl
-
-and-assoc : (a b c : Bool) → ((a && b) && c) ≡ (a && (b && c))
-and-assoc true b c = refl
-and-assoc false b c = refl
-
-pub is-initial-of : (l : List ℕ) → length l ≡ 8 → (eqb (getD l 0 0) 166 && eqb (getD l 1 0) 166 && eqb (getD l 2 0) 166 && eqb (getD l 3 0) 166 && eqb (getD l 4 0) 166 && eqb (getD l 5 0) 166 && eqb (getD l 6 0) 166 && eqb (getD l 7 0) 166) ≡ sameList l initialValue
-unfolding sameList
-is-initial-of [] h = absurd (omega arith)
-is-initial-of (x0 ∷ []) h = absurd (omega arith)
-is-initial-of (x0 ∷ x1 ∷ []) h = absurd (omega arith)
-is-initial-of (x0 ∷ x1 ∷ x2 ∷ []) h = absurd (omega arith)
-is-initial-of (x0 ∷ x1 ∷ x2 ∷ x3 ∷ []) h = absurd (omega arith)
-is-initial-of (x0 ∷ x1 ∷ x2 ∷ x3 ∷ x4 ∷ []) h = absurd (omega arith)
-is-initial-of (x0 ∷ x1 ∷ x2 ∷ x3 ∷ x4 ∷ x5 ∷ []) h = absurd (omega arith)
-is-initial-of (x0 ∷ x1 ∷ x2 ∷ x3 ∷ x4 ∷ x5 ∷ x6 ∷ []) h = absurd (omega arith)
-is-initial-of (x0 ∷ x1 ∷ x2 ∷ x3 ∷ x4 ∷ x5 ∷ x6 ∷ x7 ∷ []) h = simp (and-assoc, and-true)
-is-initial-of (x0 ∷ x1 ∷ x2 ∷ x3 ∷ x4 ∷ x5 ∷ x6 ∷ x7 ∷ x8 ∷ l) h = absurd (omega arith)
-
--- an attribute passes where each of its tests does
-pub frame-passes : (a : List ℕ) → 60 ≤ length a → getD a 1 0 ≡ length a → wrappable (length a - 60) ≡ true → check20 (getD a 0 0) ≡ pass → getD a 2 0 ≡ 0 → getD a 3 0 ≡ 0 → ivIn a ≡ initialValue
-    → frameCheck a ≡ pass
-unfolding frameCheck
-frame-passes a size counted sized kind reserved method iv =
-    let t : (eqb (getD a 1 0) (length a) && wrappable (length a - 60)) ≡ true = rw (eq-eqb (getD a 1 0) (length a) counted, sized) in
-    let c24 = test-holds _ (bare 24) (sym (length-of a _ _ size refl refl) ∙ t) in
-    let c20 = passed-then _ _ c24 ∙ kind in
-    let c25 = passed-then _ _ c20 ∙ test-holds _ (bare 25) (eq-eqb _ _ reserved) in
-    let c26 = passed-then _ _ c25 ∙ test-holds _ (bare 26) (eq-eqb _ _ method) in
-    passed-then _ _ c26 ∙ test-holds _ (bare 27) (rw iv (equal-same initialValue))
-
--- and then its type does
-pub kind-passes : (a : List ℕ) → frameCheck a ≡ pass → check20 (getD a 0 0) ≡ pass
-unfolding frameCheck
-kind-passes a e = last-passed _ _ (before-passed _ _ (before-passed _ _ (before-passed _ _ e)))

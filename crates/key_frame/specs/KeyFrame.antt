@@ -1,40 +1,33 @@
 -- The Key attribute's layout, and the tests of an attribute that need no KEK: source document 004, section 3.1, as document 01, "Key attribute", reads it.
 -- Byte 0 type, 1 length, 2 reserved 0, 3 Enc Type 0, 4 App ID (4), 8 KEK ID (16), 24 Key ID (16), 40 Lifetime (4), 44 IV (8), 52 the wrapped key.
 -- Assumes nothing.
-use Prim.Native.Nat.{ℕ, _+_, _-_, _*_, _/_, _%_, _^_}
+use Prim.Native.Nat.{ℕ, _-_}
 use mathlib.Core.Bool.{Bool, not, _&&_}
 use mathlib.Core.List.{List, [], _∷_, _++_}
 use lib.Dec.{leb, eqb}
 use lib.ListN.{length, take, drop, getD}
 use Rattle.refusal.specs.Checks.{Check, bare, unless, _andThen_}
+use Rattle.slices.specs.Numbers.{be32, be32At}
 use Rattle.slices.specs.Same.{sameList}
 use Rattle.keywrap.specs.Rfc3394.{initialValue}
 use Rattle.keywrap.specs.Calls.{wrappable}
 use Rattle.key_frame.specs.declared.KeyFields.{KeyFields}
 
--- a number as four bytes, high byte first
-abbrev pub fourBytes : ℕ → List ℕ
-fourBytes n = n / 2 ^ 24 % 256 ∷ n / 2 ^ 16 % 256 ∷ n / 2 ^ 8 % 256 ∷ n % 256 ∷ []
-
--- the number that four bytes hold from byte i on
-abbrev pub numberAt : List ℕ → ℕ → ℕ
-numberAt a i = getD a i 0 * 2 ^ 24 + getD a (i + 1) 0 * 2 ^ 16 + getD a (i + 2) 0 * 2 ^ 8 + getD a (i + 3) 0
-
 -- bytes 0 to 51 of an attribute that is n bytes long
 unfoldable pub header : KeyFields → ℕ → List ℕ
 header f n =
     (f .«attribute_type» ∷ n ∷ 0 ∷ 0 ∷ [])
-    ++ (fourBytes (f .«app_id») ++ (f .«kek_id» ++ (f .«key_id» ++ (fourBytes (f .lifetime) ++ initialValue))))
+    ++ (be32 (f .«app_id») ++ (f .«kek_id» ++ (f .«key_id» ++ (be32 (f .lifetime) ++ initialValue))))
 
 -- the fields that an attribute holds
 unfoldable pub fieldsIn : List ℕ → KeyFields
 fieldsIn a =
     record {
       «attribute_type» = getD a 0 0;
-      «app_id» = numberAt a 4;
+      «app_id» = be32At a 4;
       «kek_id» = take 16 (drop 8 a);
       «key_id» = take 16 (drop 24 a);
-      lifetime = numberAt a 40;
+      lifetime = be32At a 40;
     }
 
 -- its IV, the wrapped key, and the length of the key that is wrapped in it

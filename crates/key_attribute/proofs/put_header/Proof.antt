@@ -12,8 +12,8 @@ slice-aggregate-put-at c = search needs
 put-at-requires : tie.Need-put-at-requires
 put-at-requires c κs = search needs
 
-four-bytes-requires : tie.Need-four-bytes-requires
-four-bytes-requires c κs = search needs
+be32-requires : tie.Need-be32-requires
+be32-requires c κs = search needs
 
 slice-aggregate-put-at-2 : tie.Need-slice-aggregate-put-at-2
 slice-aggregate-put-at-2 c = search needs
@@ -27,8 +27,8 @@ put-at-requires-3 c κs = search needs
 put-at-requires-4 : tie.Need-put-at-requires-4
 put-at-requires-4 c κs = search needs
 
-four-bytes-requires-2 : tie.Need-four-bytes-requires-2
-four-bytes-requires-2 c κs = search needs
+be32-requires-2 : tie.Need-be32-requires-2
+be32-requires-2 c κs = search needs
 
 slice-aggregate-put-at-3 : tie.Need-slice-aggregate-put-at-3
 slice-aggregate-put-at-3 c = search needs
@@ -57,8 +57,8 @@ returns c =
     let p1 = b1 .before .before .before in
     let a = p1 .before .before .before .before .before .before in
     header-parts _ _ _ _ _ _ _ _ (now (a .args .out)) _ _ _ _ _ _ (a .pre .0) (a .pre .1)
-    (b1 .four-bytes .ensures)
-    (b2 .four-bytes2 .ensures)
+    (b1 .be32 .ensures)
+    (b2 .be322 .ensures)
     (p1 .put-at .ensures)
     (p2 .put-at2 .ensures)
     (p3 .put-at3 .ensures)
@@ -72,12 +72,12 @@ put-header-spec =
     (tie.spec
     slice-aggregate-put-at
     put-at-requires
-    four-bytes-requires
+    be32-requires
     slice-aggregate-put-at-2
     put-at-requires-2
     put-at-requires-3
     put-at-requires-4
-    four-bytes-requires-2
+    be32-requires-2
     slice-aggregate-put-at-3
     put-at-requires-5
     slice-aggregate-put-at-4

@@ -1,14 +1,16 @@
--- `key_attribute::write` meets its contract: by what its tests came to; where they pass, the attribute is written.
+-- `key_attribute::write` meets its contract: by what the tests before the wrapping came to.
 -- Assumes nothing.
-use Rattle.refusal.proofs.Answering.{passed, refused-so, written-so}
-use Rattle.key_attribute.specs.KeyAttribute.{fieldsOf, writeAnswer, writeBuffer}
-use Rattle.key_attribute.proofs.Writing.{writable}
+use mathlib.Core.Path.{sym, ap, _∙_}
+use Rattle.refusal.specs.Answers.{checkedAs}
+use Rattle.refusal.proofs.Answering.{passed}
+use Rattle.key_attribute.specs.KeyAttribute.{fieldsOf}
+use Rattle.key_attribute.proofs.Writing.{refused-named}
 use borrow.Author.Needs.{needs}
 use Rattle.key_attribute.proofs.write.Statement.{statement}
 use Rattle.key_attribute.proofs.write.Tie as tie
 
-check-write-requires : tie.Need-check-write-requires
-check-write-requires c κs = search needs
+check-named-requires : tie.Need-check-named-requires
+check-named-requires c κs = search needs
 
 enum-known-check : tie.Need-enum-known-check
 enum-known-check c = search needs
@@ -16,35 +18,26 @@ enum-known-check c = search needs
 enum-told : tie.Need-enum-told
 enum-told c = search needs
 
-put-attribute-requires : tie.Need-put-attribute-requires
-put-attribute-requires c κs = writable (fieldsOf _ 0 _ _ 0) _ _ _ (passed (c .before .before .before .check-write .ensures 0 0) (c .before .enum-told .given .1))
-
-add-t17 : tie.Need-add-t17
-add-t17 c = search needs
+write-named-requires : tie.Need-write-named-requires
+write-named-requires c κs = passed (c .before .before .before .check-named .ensures) (c .before .enum-told .given .1)
 
 returns : tie.Need-returns
-unfolding writeAnswer writeBuffer
-returns c = refused-so _ _ _ (c .before .before .before .check-write .ensures _ _) (c .before .check .given .1)
+returns c = refused-named (fieldsOf _ _ _ _ _) _ _ _ _ (sym (c .before .before .before .check-named .ensures) ∙ ap checkedAs (c .before .check .given .1))
 
 same-length : tie.Need-same-length
 same-length c = search needs
 
 returns-2 : tie.Need-returns-2
-unfolding writeAnswer writeBuffer
-returns-2 c =
-    let put = c .before .before in
-    let told = put .before .before in
-    written-so _ _ _ (told .before .before .check-write .ensures _ _) (told .enum-told .given .1) (put .put-attribute .ensures)
+returns-2 c = search needs
 
 pub write-spec : {M : Type 1} → statement M
 write-spec =
     tie.close
     (tie.spec
-    check-write-requires
+    check-named-requires
     enum-known-check
     enum-told
-    put-attribute-requires
-    add-t17
+    write-named-requires
     returns
     same-length
     returns-2)

@@ -28,17 +28,20 @@ unless-requires-3 c κs = search needs
 then-check-requires-2 : tie.Need-then-check-requires-2
 then-check-requires-2 c κs = search needs
 
-sub-is-initial : tie.Need-sub-is-initial
-sub-is-initial c = search needs
+sub-same-bytes : tie.Need-sub-same-bytes
+sub-same-bytes c = search needs
 
-part-is-initial-start : tie.Need-part-is-initial-start
-part-is-initial-start c = search needs
+part-same-bytes-start : tie.Need-part-same-bytes-start
+part-same-bytes-start c = search needs
 
-part-is-initial-end : tie.Need-part-is-initial-end
-part-is-initial-end c = search needs
+part-same-bytes-end : tie.Need-part-same-bytes-end
+part-same-bytes-end c = search needs
 
-is-initial-requires : tie.Need-is-initial-requires
-is-initial-requires c κs = search needs
+slice-aggregate-same-bytes : tie.Need-slice-aggregate-same-bytes
+slice-aggregate-same-bytes c = search needs
+
+same-bytes-requires : tie.Need-same-bytes-requires
+same-bytes-requires c κs = search needs
 
 unless-requires-4 : tie.Need-unless-requires-4
 unless-requires-4 c κs = search needs
@@ -50,7 +53,7 @@ returns : tie.Need-returns
 returns c =
     let p1 = c .before in
     let p2 = p1 .before in
-    let p4 = p2 .before .before in
+    let p4 = p2 .before .before .before in
     let p5 = p4 .before in
     let p7 = p5 .before .before in
     let p8 = p7 .before in
@@ -63,7 +66,7 @@ returns c =
       p5 .unless3 .ensures,
       p8 .unless2 .ensures,
       p10 .unless .ensures,
-      p2 .is-initial .ensures,
+      p2 .same-bytes .ensures,
     )
 
 pub check-header-spec : {M : Type 1} → statement M
@@ -78,10 +81,11 @@ check-header-spec =
     shared-slice-read-unless-3
     unless-requires-3
     then-check-requires-2
-    sub-is-initial
-    part-is-initial-start
-    part-is-initial-end
-    is-initial-requires
+    sub-same-bytes
+    part-same-bytes-start
+    part-same-bytes-end
+    slice-aggregate-same-bytes
+    same-bytes-requires
     unless-requires-4
     then-check-requires-3
     returns)

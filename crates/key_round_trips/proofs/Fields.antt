@@ -1,20 +1,25 @@
 -- The layout of an attribute there and back: the fields of a header that was written are those written, and an attribute whose frame passes is its
 -- fields' header and then the wrapped key.
 -- Assumes nothing.
-use Prim.Native.Nat.{ℕ, _+_, _-_, _*_, _/_, _%_, _^_, _≤_, _<_}
+use Prim.Native.Nat.{ℕ, _+_, _-_, _^_, _≤_, _<_}
 use mathlib.Core.Path.{_≡_, refl, sym, ap, _∙_}
-use mathlib.Core.Bool.{true}
+use mathlib.Core.Bool.{true, _&&_}
 use mathlib.Core.List.{List, [], _∷_, _++_, append-assoc}
-use native.Mathlib.Nat.{add-zero}
 use native.Mathlib.Omega.{arith}
-use lib.ListN.{length, take, drop, getD, length-append, length-drop, take-append-drop}
-use lib.Seq.{take-at, drop-at, drop-drop, getD-drop}
-use Rattle.refusal.specs.Checks.{pass}
+use borrow.Author.Tests.{eq-eqb}
+use lib.Dec.{eqb}
+use lib.ListN.{length, take, drop, getD, length-append, take-append-drop}
+use lib.Seq.{take-at, drop-at, drop-drop}
+use Rattle.refusal.specs.Checks.{pass, bare}
+use Rattle.refusal.proofs.Passing.{before-passed, last-passed, test-holds, both-pass}
+use Rattle.slices.specs.Numbers.{be32, be32At}
+use Rattle.slices.proofs.Same.{equal-same}
 use Rattle.keywrap.specs.Rfc3394.{initialValue}
 use Rattle.keywrap.specs.Calls.{Bytes, wrappable}
-use Rattle.key_frame.specs.KeyFrame.{fourBytes, numberAt, header, fieldsIn, ivIn, wrappedIn, check20, frameCheck}
-use Rattle.key_frame.proofs.Frames.{framed, frame-passes}
+use Rattle.key_frame.specs.KeyFrame.{header, fieldsIn, ivIn, wrappedIn, check20, frameCheck}
 use Rattle.key_frame.specs.declared.KeyFields.{KeyFields}
+use Rattle.key_frame.proofs.Frames.{length-of, framed}
+use Rattle.key_round_trips.proofs.Numbers.{four-back, number-drop, four-first, four-at}
 
 -- the fields fit their places: the type a byte, App ID and Lifetime four, KEK ID and Key ID sixteen
 pub record Fitting (f : KeyFields) : Type 0 where
@@ -23,26 +28,17 @@ pub record Fitting (f : KeyFields) : Type 0 where
   pub key : length (f .«key_id») ≡ 16
   pub life : f .lifetime < 2 ^ 32
 
--- four bytes hold the number, and the number gives the four bytes
-pub four-back : (n : ℕ) (rest : List ℕ) → n < 2 ^ 32 → numberAt (fourBytes n ++ rest) 0 ≡ n
-four-back n rest h =
-    let e1 : n / 2 ^ 8 ≡ n / 2 ^ 16 * 256 + n / 2 ^ 8 % 256 = omega arith in
-    let e2 : n / 2 ^ 16 ≡ n / 2 ^ 24 * 256 + n / 2 ^ 16 % 256 = omega arith in
-    let e3 : n / 2 ^ 24 % 256 ≡ n / 2 ^ 24 = omega arith in
-    omega arith
-
-pub four-there : (a b c d : ℕ) → a < 256 → b < 256 → c < 256 → d < 256 → fourBytes (a * 2 ^ 24 + b * 2 ^ 16 + c * 2 ^ 8 + d) ≡ a ∷ b ∷ c ∷ d ∷ []
-four-there a b c d ha hb hc hd =
-    let n : ℕ = a * 2 ^ 24 + b * 2 ^ 16 + c * 2 ^ 8 + d in
-    let p : n / 2 ^ 24 % 256 ≡ a = omega arith in
-    let q : n / 2 ^ 16 % 256 ≡ b = omega arith in
-    let r : n / 2 ^ 8 % 256 ≡ c = omega arith in
-    let s : n % 256 ≡ d = omega arith in
-    λ i. p i ∷ q i ∷ r i ∷ s i ∷ []
-
--- the number at a place is the one at the start of what begins there
-pub number-drop : (n : ℕ) (a : List ℕ) → numberAt (drop n a) 0 ≡ numberAt a n
-number-drop n a = simp (getD-drop, add-zero)
+-- an attribute passes where each of its tests does
+frame-passes : (a : List ℕ) → 60 ≤ length a → getD a 1 0 ≡ length a → wrappable (length a - 60) ≡ true → check20 (getD a 0 0) ≡ pass → getD a 2 0 ≡ 0 → getD a 3 0 ≡ 0 → ivIn a ≡ initialValue
+    → frameCheck a ≡ pass
+unfolding frameCheck
+frame-passes a size counted sized kind reserved method iv =
+    let t : (eqb (getD a 1 0) (length a) && wrappable (length a - 60)) ≡ true = rw (eq-eqb (getD a 1 0) (length a) counted, sized) in
+    let c24 = test-holds _ (bare 24) (sym (length-of a _ _ size refl refl) ∙ t) in
+    let c20 = both-pass _ _ c24 kind in
+    let c25 = both-pass _ _ c20 (test-holds _ (bare 25) (eq-eqb _ _ reserved)) in
+    let c26 = both-pass _ _ c25 (test-holds _ (bare 26) (eq-eqb _ _ method)) in
+    both-pass _ _ c26 (test-holds _ (bare 27) (rw iv (equal-same initialValue)))
 
 -- the two IDs and what follows them
 module _ (x y rest : List ℕ) (hx : length x ≡ 16) (hy : length y ≡ 16) where
@@ -63,12 +59,12 @@ header-size f n hk hy = simp length-append (omega arith)
 -- an attribute: a header and what follows it. Its bytes one after the other, with the IDs whole
 module _ (f : KeyFields) (n : ℕ) (w : List ℕ) where
   rest : List ℕ
-  rest = fourBytes (f .lifetime) ++ (initialValue ++ w)
+  rest = be32 (f .lifetime) ++ (initialValue ++ w)
 
   ids : List ℕ
   ids = f .«kek_id» ++ (f .«key_id» ++ rest)
 
-  laid : header f n ++ w ≡ (f .«attribute_type» ∷ n ∷ 0 ∷ 0 ∷ []) ++ (fourBytes (f .«app_id») ++ ids)
+  laid : header f n ++ w ≡ (f .«attribute_type» ∷ n ∷ 0 ∷ 0 ∷ []) ++ (be32 (f .«app_id») ++ ids)
   unfolding header rest ids
   laid = simp append-assoc
 
@@ -90,9 +86,9 @@ module _ (f : KeyFields) (n : ℕ) (w : List ℕ) where
     fields-written =
         let kek : take 16 (drop 8 (header f n ++ w)) ≡ f .«kek_id» = rw laid (first-id (f .«kek_id») (f .«key_id») rest (h .kek) (h .key)) in
         let key : take 16 (drop 24 (header f n ++ w)) ≡ f .«key_id» = rw laid (second-id (f .«kek_id») (f .«key_id») rest (h .kek) (h .key)) in
-        let app : numberAt (header f n ++ w) 4 ≡ f .«app_id» = rw laid (four-back (f .«app_id») ids (h .app)) in
+        let app : be32At (header f n ++ w) 4 ≡ f .«app_id» = rw laid (four-back (f .«app_id») ids (h .app)) in
         let kind : getD (header f n ++ w) 0 0 ≡ f .«attribute_type» = rw laid in
-        let life : numberAt (header f n ++ w) 40 ≡ f .lifetime = sym (number-drop 40 (header f n ++ w)) ∙ rw after (four-back (f .lifetime) (initialValue ++ w) (h .life)) in
+        let life : be32At (header f n ++ w) 40 ≡ f .lifetime = sym (number-drop 40 (header f n ++ w)) ∙ rw after (four-back (f .lifetime) (initialValue ++ w) (h .life)) in
         λ i. record { «attribute_type» = kind i; «app_id» = app i; «kek_id» = kek i; «key_id» = key i; lifetime = life i }
 
     -- its frame passes, where n is its length and that of an attribute
@@ -103,20 +99,6 @@ module _ (f : KeyFields) (n : ℕ) (w : List ℕ) where
         let reserved : getD (header f n ++ w) 2 0 ≡ 0 = rw laid in
         let method : getD (header f n ++ w) 3 0 ≡ 0 = rw laid in
         frame-passes (header f n ++ w) (rw size low) (counted ∙ sym size) (rw size sized) type reserved method iv-written
-
--- the first bytes of a list that has them
-four-first : (l : List ℕ) → 4 ≤ length l → take 4 l ≡ getD l 0 0 ∷ getD l 1 0 ∷ getD l 2 0 ∷ getD l 3 0 ∷ []
-four-first [] h = absurd (omega arith)
-four-first (a ∷ []) h = absurd (omega arith)
-four-first (a ∷ b ∷ []) h = absurd (omega arith)
-four-first (a ∷ b ∷ c ∷ []) h = absurd (omega arith)
-four-first (a ∷ b ∷ c ∷ d ∷ l) h = refl
-
--- the four bytes at a place are those of the number there
-pub four-at : (n : ℕ) (a : List ℕ) → Bytes a → n + 4 ≤ length a → take 4 (drop n a) ≡ fourBytes (numberAt a n)
-four-at n a b h =
-    let size : 4 ≤ length (drop n a) = simp length-drop (omega arith) in
-    simp (getD-drop, add-zero) at (four-first (drop n a) size) ∙ sym (four-there _ _ _ _ (b n) (b (n + 1)) (b (n + 2)) (b (n + 3)))
 
 -- a part of a list, before what follows it
 onto : (n m : ℕ) (a part after : List ℕ) → take m (drop n a) ≡ part → after ≡ drop (n + m) a → part ++ after ≡ drop n a
@@ -130,9 +112,14 @@ header-back a b e =
     let size : 76 ≤ length a = omega (arith, f .size .key .low) in
     let four : 4 ≤ length a = omega arith in
     let iv = onto 44 8 a initialValue (wrappedIn a) (f .iv) refl in
-    let life = onto 40 4 a (fourBytes (numberAt a 40)) _ (four-at 40 a b (omega arith)) iv in
+    let life = onto 40 4 a (be32 (be32At a 40)) _ (four-at 40 a b (omega arith)) iv in
     let key = onto 24 16 a (take 16 (drop 24 a)) _ refl life in
     let kek = onto 8 16 a (take 16 (drop 8 a)) _ refl key in
-    let app = onto 4 4 a (fourBytes (numberAt a 4)) _ (four-at 4 a b (omega arith)) kek in
+    let app = onto 4 4 a (be32 (be32At a 4)) _ (four-at 4 a b (omega arith)) kek in
     let start : take 4 a ≡ getD a 0 0 ∷ length a ∷ 0 ∷ 0 ∷ [] = four-first a four ∙ (λ i. getD a 0 0 ∷ f .size .counted i ∷ f .reserved i ∷ f .method i ∷ []) in
     laid (fieldsIn a) (length a) (wrappedIn a) ∙ onto 0 4 a (getD a 0 0 ∷ length a ∷ 0 ∷ 0 ∷ []) _ start app
+
+-- and its type passes
+pub kind-passes : (a : List ℕ) → frameCheck a ≡ pass → check20 (getD a 0 0) ≡ pass
+unfolding frameCheck
+kind-passes a e = last-passed _ _ (before-passed _ _ (before-passed _ _ (before-passed _ _ e)))

@@ -1,7 +1,7 @@
--- What is written reads back, and what is accepted, written again, is the same bytes: from the layout's two laws (key_frame) and the wrapping's (keywrap).
+-- What is written reads back, and what is accepted, written again, is the same bytes: from the layout's two laws (proofs/Fields.antt) and the wrapping's (keywrap).
 -- Assumes nothing.
 use Prim.Native.Nat.{ℕ, _+_, _-_, _^_, _≤_, _<_}
-use mathlib.Core.Path.{_≡_, refl, _∙_}
+use mathlib.Core.Path.{_≡_, refl, sym, _∙_}
 use mathlib.Core.Bool.{true, _&&_}
 use mathlib.Core.List.{List, _++_}
 use native.Mathlib.Omega.{arith}
@@ -10,26 +10,22 @@ use lib.Dec.{eqb}
 use lib.ListN.{length, take, drop, length-append, length-drop}
 use lib.Seq.{take-at, length-take-le}
 use Rattle.refusal.specs.Checks.{Check, pass, refuse, bare, _andThen_}
-use Rattle.refusal.specs.Answers.{wrote, answerTo}
-use Rattle.refusal.proofs.Passing.{before-passed, last-passed, test-passed}
+use Rattle.refusal.proofs.Passing.{before-passed, last-passed, test-passed, test-holds, both-pass}
 use Rattle.keywrap.specs.Rfc3394.{initialValue, wrapped, unwrappedIv}
-use Rattle.keywrap.specs.Calls.{Bytes}
+use Rattle.keywrap.specs.Calls.{Bytes, wrappable}
 use Rattle.keywrap.proofs.Bytes.{bytes-drop}
 use Rattle.keywrap.proofs.Laws.{length-wrapped, unwrap-initial, unwrap-key, length-unwrappedKey, wrap-again}
 use Rattle.slices.proofs.Same.{same-equal, equal-same}
-use Rattle.key_frame.specs.KeyFrame.{fieldsIn, wrappedIn, keyLengthIn, frameCheck}
+use Rattle.key_frame.specs.KeyFrame.{check20, fieldsIn, wrappedIn, keyLengthIn, frameCheck}
 use Rattle.key_frame.specs.declared.KeyFields.{KeyFields}
-use Rattle.key_frame.proofs.Frames.{framed, passed-then, test-holds, kind-passes}
-use Rattle.key_frame.proofs.Fields.{Fitting, header-size, fields-written, wrapped-written, frame-written, header-back}
-use Rattle.key_attribute.specs.KeyAttribute.{check22, attribute, writeCheck, writeAnswer, writeBuffer, keyIn, readCheck, accepted, readingTo, reading, readBuffer}
-use Rattle.key_attribute.specs.Statements.{ReadsBack, WritesAgain}
-use Rattle.key_attribute.proofs.Writing.{writable, writer-type}
+use Rattle.key_frame.proofs.Frames.{framed}
+use Rattle.key_attribute.specs.KeyAttribute.{check21, check22, attribute, writeCheck, writeAnswer, writeBuffer, keyIn, readCheck, accepted, readingTo, reading, readBuffer}
+use Rattle.key_round_trips.specs.Statements.{ReadsBack, WritesAgain}
+use Rattle.key_attribute.proofs.Told.{told-count}
+use Rattle.key_attribute.proofs.Writing.{lengths}
+use Rattle.key_round_trips.proofs.Fields.{Fitting, header-size, fields-written, wrapped-written, frame-written, header-back, kind-passes}
 
--- an answer that tells a count, and a reading that is accepted, come of tests that passed
-wrote-passed : (c : Check) (m n : ℕ) → answerTo c m ≡ wrote n → (c ≡ pass) × (m ≡ n)
-wrote-passed pass m n e = (refl, cc)
-wrote-passed (refuse x) m n e = (cc, cc)
-
+-- a reading that is accepted comes of tests that passed
 accepted-passed : (c : Check) (f g : KeyFields) (m n : ℕ) → readingTo c f m ≡ accepted g n → (c ≡ pass) × (f ≡ g) × (m ≡ n)
 accepted-passed pass f g m n e = (refl, cc, cc)
 accepted-passed (refuse x) f g m n e = (cc, cc, cc)
@@ -38,8 +34,20 @@ accepted-passed (refuse x) f g m n e = (cc, cc, cc)
 
 module _ (f : KeyFields) (kek key : List ℕ) (space : ℕ) (app : f .«app_id» < 2 ^ 32) (life : f .lifetime < 2 ^ 32) (bk : Bytes kek) (by : Bytes key)
     (ok : writeCheck f kek key space ≡ pass) where
+  -- what the writer's tests say
+  named-passes : (check20 (f .«attribute_type») andThen check21 (f .«kek_id») (f .«key_id») andThen check22 kek) ≡ pass
+  unfolding writeCheck
+  named-passes = before-passed _ _ (before-passed _ _ ok)
+
+  kind-written : check20 (f .«attribute_type») ≡ pass
+  kind-written = before-passed _ _ (before-passed _ _ named-passes)
+
+  key-sized : wrappable (length key) ≡ true
+  unfolding writeCheck
+  key-sized = test-passed _ _ (last-passed _ _ (before-passed _ _ ok))
+
   fitting : Fitting f
-  fitting = let w = writable f kek key space ok in record { app = app; kek = w .kek-id; key = w .key-id; life = life }
+  fitting = let w = lengths f kek named-passes in record { app = app; kek = w .kek-id; key = w .key-id; life = life }
 
   size : length (attribute f kek key) ≡ 60 + length key
   unfolding attribute
@@ -63,19 +71,18 @@ module _ (f : KeyFields) (kek key : List ℕ) (space : ℕ) (app : f .«app_id»
   frame-same : frameCheck (attribute f kek key) ≡ pass
   unfolding attribute
   frame-same =
-      let w = writable f kek key space ok in
       let n : length key ≡ 60 + length key - 60 = omega arith in
-      frame-written f (60 + length key) (wrapped kek key) fitting (writer-type f kek key space ok) (omega arith) (rw n at (w .key-size)) size
+      frame-written f (60 + length key) (wrapped kek key) fitting kind-written (omega arith) (rw n at key-sized) size
 
   reads : (room : ℕ) → length key ≤ room → readCheck kek (attribute f kek key) room ≡ pass
   unfolding readCheck
   reads room h =
-      let w = writable f kek key space ok in
+      let w = lengths f kek named-passes in
       let fits : keyLengthIn (attribute f kek key) ≤ room = omega (arith, size) in
       let c22 = test-holds _ (bare 22) (eq-eqb _ _ (w .kek-size)) in
-      let c27 = passed-then _ _ c22 ∙ frame-same in
-      let c6 = passed-then _ _ c27 ∙ test-holds _ (bare 6) (le-leb _ _ fits) in
-      passed-then _ _ c6 ∙ test-holds _ (bare 28) (rw (wrapped-same, unwrap-initial kek bk key by) (equal-same initialValue))
+      let c27 = both-pass _ _ c22 frame-same in
+      let c6 = both-pass _ _ c27 (test-holds _ (bare 6) (le-leb _ _ fits)) in
+      both-pass _ _ c6 (test-holds _ (bare 28) (rw (wrapped-same, unwrap-initial kek bk key by) (equal-same initialValue)))
 
   key-length-same : keyLengthIn (attribute f kek key) ≡ length key
   key-length-same = omega (arith, size)
@@ -96,10 +103,14 @@ module _ (f : KeyFields) (kek key : List ℕ) (space : ℕ) (app : f .«app_id»
 
 pub reads-back : ReadsBack
 unfolding writeAnswer
-reads-back f kek key buffer room n app life bk by e h =
-    let p = wrote-passed (writeCheck f kek key (length buffer)) (60 + length key) n e in
-    let b = begins f kek key (length buffer) app life bk by (p .0) buffer n refl (p .1) in
-    rw b (read-same f kek key (length buffer) app life bk by (p .0) (length room) h, left-same f kek key (length buffer) app life bk by (p .0) room h)
+reads-back f kek key buffer out n app life bk by e h =
+    let app-fits : f .«app_id» < 2 ^ 32 = omega arith in
+    let life-fits : f .lifetime < 2 ^ 32 = omega arith in
+    let room : length key ≤ length out = omega arith in
+    let p = told-count (writeCheck f kek key (length buffer)) (60 + length key) n (sym e) in
+    let b = begins f kek key (length buffer) app-fits life-fits bk by (p .0) buffer n refl (sym (p .1)) in
+    rw b
+    (read-same f kek key (length buffer) app-fits life-fits bk by (p .0) (length out) room, left-same f kek key (length buffer) app-fits life-fits bk by (p .0) out room)
 
 -- ---- what is accepted, written again, is the same bytes
 
@@ -150,10 +161,10 @@ module _ (kek a : List ℕ) (room : ℕ) (bk : Bytes kek) (ba : Bytes a) (ok : r
       let ids : (eqb (length (take 16 (drop 8 a))) 16 && eqb (length (take 16 (drop 24 a))) 16) ≡ true = rw (kek-id, key-id) in
       let n : length a - 60 ≡ length (keyIn kek a) = omega (arith, key-size) in
       let fits : 60 + length (keyIn kek a) ≤ space = omega (arith, key-size) in
-      let c21 = passed-then _ _ (kind-passes a frame) ∙ test-holds _ (bare 21) ids in
-      let c22 = passed-then _ _ c21 ∙ test-holds _ (bare 22) (eq-eqb _ _ kek-size) in
-      let c23 = passed-then _ _ c22 ∙ test-holds _ (bare 23) (rw n at (f .size .sized)) in
-      passed-then _ _ c23 ∙ test-holds _ (bare 6) (le-leb _ _ fits)
+      let c21 = both-pass _ _ (kind-passes a frame) (test-holds _ (bare 21) ids) in
+      let c22 = both-pass _ _ c21 (test-holds _ (bare 22) (eq-eqb _ _ kek-size)) in
+      let c23 = both-pass _ _ c22 (test-holds _ (bare 23) (rw n at (f .size .sized))) in
+      both-pass _ _ c23 (test-holds _ (bare 6) (le-leb _ _ fits))
 
   -- the first bytes of what the reader leaves are the key
   key-read : (out : List ℕ) (n : ℕ) → length out ≡ room → keyLengthIn a ≡ n → take n (readBuffer kek a out) ≡ keyIn kek a
@@ -167,7 +178,8 @@ pub writes-again : WritesAgain
 unfolding reading writeAnswer writeBuffer
 writes-again kek a out f n buffer bk ba e h =
     let p = accepted-passed (readCheck kek a (length out)) (fieldsIn a) f (keyLengthIn a) n e in
-    let w = writes kek a (length out) bk ba (p .0) (length buffer) h in
+    let room : length a ≤ length buffer = omega arith in
+    let w = writes kek a (length out) bk ba (p .0) (length buffer) room in
     let r = key-read kek a (length out) bk ba (p .0) out n refl (p .2) in
     let k = key-size kek a (length out) bk ba (p .0) in
     let s = attribute-same kek a (length out) bk ba (p .0) in

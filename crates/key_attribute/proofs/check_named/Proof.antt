@@ -1,0 +1,39 @@
+-- `key_attribute::check_named` meets its contract: each test answers its check, and the combinators join them in their order.
+-- Assumes nothing.
+use borrow.Author.Needs.{needs}
+use Rattle.key_attribute.proofs.check_named.Statement.{statement}
+use Rattle.key_attribute.proofs.check_named.Tie as tie
+
+unless-requires : tie.Need-unless-requires
+unless-requires c κs = search needs
+
+unless-requires-2 : tie.Need-unless-requires-2
+unless-requires-2 c κs = search needs
+
+then-check-requires : tie.Need-then-check-requires
+then-check-requires c κs = search needs
+
+check-kek-requires : tie.Need-check-kek-requires
+check-kek-requires c κs = search needs
+
+then-check-requires-2 : tie.Need-then-check-requires-2
+then-check-requires-2 c κs = search needs
+
+returns : tie.Need-returns
+returns c =
+    let kek = c .before in
+    let ids = kek .before in
+    let two = ids .before in
+    let one = two .before in
+    rw (c .then-check2 .ensures, ids .then-check .ensures, one .unless .ensures, two .unless2 .ensures, kek .check-kek .ensures)
+
+pub check-named-spec : {M : Type 1} → statement M
+check-named-spec =
+    tie.close
+    (tie.spec
+    unless-requires
+    unless-requires-2
+    then-check-requires
+    check-kek-requires
+    then-check-requires-2
+    returns)

@@ -1,0 +1,3 @@
+mod Numbers
+mod Fields
+pub mod RoundTrips
