@@ -1,0 +1,14 @@
+-- `outcome::refused` meets its contract.
+-- Assumes nothing.
+use borrow.Author.Needs.{needs}
+use Rattle.outcome.proofs.refused.Statement.{statement}
+use Rattle.outcome.proofs.refused.Tie as tie
+
+number-requires : tie.Need-number-requires
+number-requires c κs = search needs
+
+returns : tie.Need-returns
+returns c = simp (c .number .ensures)
+
+pub refused-spec : {M : Type 1} → statement M
+refused-spec = tie.close (tie.spec number-requires returns)

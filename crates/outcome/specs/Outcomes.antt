@@ -1,0 +1,27 @@
+-- What a call returns to C, by what it answers: the struct kv_outcome of include/ketvaulo.h, whose comment says the same in words.
+-- Assumes nothing.
+use Prim.Native.Nat.{ℕ}
+use Rattle.refusal.specs.Checks.{Reason, bare}
+use Rattle.refusal.specs.Answers.{Answer, wrote, refused}
+use Rattle.outcome.specs.declared.Outcome.{Outcome}
+
+-- the number that a refusal returns
+abbrev pub numberIn : Reason → ℕ
+numberIn (bare k) = k
+
+-- the place that a refusal carries, and 0 where it carries none
+abbrev pub placeIn : Reason → ℕ
+placeIn (bare k) = 0
+
+-- a refusal: its number and its place
+abbrev pub refusedOutcome : Reason → Outcome
+refusedOutcome x = record { refusal = numberIn x; value = placeIn x }
+
+-- acceptance: 0 and what the call answers
+abbrev pub acceptedOutcome : ℕ → Outcome
+acceptedOutcome n = record { refusal = 0; value = n }
+
+-- the answer of a call that writes
+abbrev pub outcomeOf : Answer → Outcome
+outcomeOf (wrote n) = acceptedOutcome n
+outcomeOf (refused x) = refusedOutcome x
