@@ -4,7 +4,7 @@ use Prim.Native.Nat.{ℕ, _<_, _^_}
 use mathlib.Core.List.{List}
 use native.Mathlib.Omega.{arith}
 use lib.Dec.{lit<}
-use Rattle.area.specs.Area.{Reading, whole, refusal, reading, answerTo, areaAnswer}
+use Rattle.area_format.specs.Area.{Reading, whole, refusal, reading, answerTo, areaAnswer}
 use Rattle.area.proofs.Counts.{Few, few}
 use Rattle.area_c.specs.Internal.{countIn}
 

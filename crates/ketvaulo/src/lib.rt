@@ -7,7 +7,7 @@ ghost use Rattle.refusal.specs.Answers.{answerTo, bufferAfter};
 ghost use Rattle.sha256_block.specs.Fips180.{sha256};
 ghost use Rattle.hmac.specs.Rfc2104.{hmacSha256};
 ghost use Rattle.outcome.specs.Outcomes.{outcomeOf};
-ghost use Rattle.usage.specs.Requests.{forUsage, forVrk, requestAnswer, requestBuffer};
+ghost use Rattle.requests.specs.Requests.{forUsage, forVrk, requestAnswer, requestBuffer};
 ghost use Rattle.visited.specs.Visited.{vmskCheck, vmskKey, reauthCheck, reauthKey};
 ghost use Rattle.key_name.specs.Ndf64.{nameCheck, nameOf};
 ghost use Rattle.offers.specs.Answers.{firstRound, serverAnswer, serverBuffer, renewedAnswer};

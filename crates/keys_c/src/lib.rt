@@ -3,7 +3,7 @@
 ghost use mathlib.Core.Path.{_≡_};
 ghost use lib.ListN.{length};
 ghost use Rattle.refusal.specs.Answers.{answerTo, bufferAfter};
-ghost use Rattle.usage.specs.Requests.{forUsage, forVrk, requestAnswer, requestBuffer};
+ghost use Rattle.requests.specs.Requests.{forUsage, forVrk, requestAnswer, requestBuffer};
 ghost use Rattle.visited.specs.Visited.{vmskCheck, vmskKey, reauthCheck, reauthKey};
 ghost use Rattle.key_name.specs.Ndf64.{nameCheck, nameOf};
 ghost use Rattle.outcome.specs.Outcomes.{outcomeOf};

@@ -9,8 +9,8 @@ use lib.Dec.{lit<}
 use lib.ListN.{length}
 use Rattle.refusal.specs.Checks.{Check, pass, refuse}
 use Rattle.refusal.proofs.Passing.{before-passed, last-passed, test-passed, within-high}
-use Rattle.offers.specs.Rfc5448.{firstSupported, chooseCheck}
-use Rattle.offers.specs.Answers.{firstRoundAt, firstRoundTo, firstRound}
+use Rattle.offer_rules.specs.Rfc5448.{firstSupported, chooseCheck}
+use Rattle.offer_rules.specs.Answers.{firstRoundAt, firstRoundTo, firstRound}
 use Rattle.offers_c.specs.Internal.{positionIn}
 
 -- whatever the tests came to, the position is that of the offer taken, or 0
