@@ -9,19 +9,19 @@ enum-told : tie.Need-enum-told
 enum-told c = search needs
 
 between-requires : tie.Need-between-requires
-between-requires c κs = search needs
+between-requires c κs = tt
 
 enum-told-2 : tie.Need-enum-told-2
 enum-told-2 c = search needs
 
 between-requires-2 : tie.Need-between-requires-2
-between-requires-2 c κs = search needs
+between-requires-2 c κs = tt
 
 enum-told-3 : tie.Need-enum-told-3
 enum-told-3 c = search needs
 
 domain-byte-requires : tie.Need-domain-byte-requires
-domain-byte-requires c κs = search needs
+domain-byte-requires c κs = tt
 
 returns : tie.Need-returns
 unfolding labelByte

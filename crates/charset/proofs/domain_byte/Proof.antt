@@ -1,18 +1,17 @@
 -- `charset::domain_byte` meets its contract.
 -- Assumes nothing.
-use borrow.Author.Needs.{needs}
 use Rattle.charset.specs.Bytes.{domainByte}
 use Rattle.charset.proofs.domain_byte.Statement.{statement}
 use Rattle.charset.proofs.domain_byte.Tie as tie
 
 between-requires : tie.Need-between-requires
-between-requires c κs = search needs
+between-requires c κs = tt
 
 between-requires-2 : tie.Need-between-requires-2
-between-requires-2 c κs = search needs
+between-requires-2 c κs = tt
 
 between-requires-3 : tie.Need-between-requires-3
-between-requires-3 c κs = search needs
+between-requires-3 c κs = tt
 
 returns : tie.Need-returns
 unfolding domainByte

@@ -25,7 +25,7 @@ shared-slice-read-allowed : tie.Need-shared-slice-read-allowed Inv-loop μ-loop
 shared-slice-read-allowed c = search needs
 
 allowed-requires : tie.Need-allowed-requires Inv-loop μ-loop
-allowed-requires c κs = search needs
+allowed-requires c κs = tt
 
 returns : tie.Need-returns Inv-loop μ-loop
 returns c =

@@ -8,7 +8,7 @@ use Rattle.identifiers.proofs.check_label.Statement.{statement}
 use Rattle.identifiers.proofs.check_label.Tie as tie
 
 form-of-requires : tie.Need-form-of-requires
-form-of-requires c κs = search needs
+form-of-requires c κs = tt
 
 enum-told : tie.Need-enum-told
 enum-told c = search needs

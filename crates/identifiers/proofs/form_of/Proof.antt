@@ -9,13 +9,13 @@ use Rattle.identifiers.proofs.form_of.Statement.{statement}
 use Rattle.identifiers.proofs.form_of.Tie as tie
 
 in-range-requires : tie.Need-in-range-requires
-in-range-requires c κs = search needs
+in-range-requires c κs = tt
 
 returns : tie.Need-returns
 returns c = wrong-length _ _ _ (sym (c .before .in-range .ensures) ∙ not-true _ (c .if1 .taken))
 
 first-bad-requires : tie.Need-first-bad-requires
-first-bad-requires c κs = search needs
+first-bad-requires c κs = tt
 
 enum-told : tie.Need-enum-told
 enum-told c = search needs

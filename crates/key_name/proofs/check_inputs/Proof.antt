@@ -1,20 +1,19 @@
 -- `key_name::check_inputs` meets its contract.
 -- Assumes nothing.
-use borrow.Author.Needs.{needs}
 use Rattle.key_name.proofs.check_inputs.Statement.{statement}
 use Rattle.key_name.proofs.check_inputs.Tie as tie
 
 in-range-requires : tie.Need-in-range-requires
-in-range-requires c κs = search needs
+in-range-requires c κs = tt
 
 unless-requires : tie.Need-unless-requires
-unless-requires c κs = search needs
+unless-requires c κs = tt
 
 check-label-requires : tie.Need-check-label-requires
-check-label-requires c κs = search needs
+check-label-requires c κs = tt
 
 then-check-requires : tie.Need-then-check-requires
-then-check-requires c κs = search needs
+then-check-requires c κs = tt
 
 returns : tie.Need-returns
 returns c =

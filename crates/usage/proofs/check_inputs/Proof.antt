@@ -1,23 +1,22 @@
 -- `usage::check_inputs` meets its contract.
 -- Assumes nothing.
-use borrow.Author.Needs.{needs}
 use Rattle.usage.proofs.check_inputs.Statement.{statement}
 use Rattle.usage.proofs.check_inputs.Tie as tie
 
 check-root-key-requires : tie.Need-check-root-key-requires
-check-root-key-requires c κs = search needs
+check-root-key-requires c κs = tt
 
 check-label-requires : tie.Need-check-label-requires
-check-label-requires c κs = search needs
+check-label-requires c κs = tt
 
 unless-requires : tie.Need-unless-requires
-unless-requires c κs = search needs
+unless-requires c κs = tt
 
 then-check-requires : tie.Need-then-check-requires
-then-check-requires c κs = search needs
+then-check-requires c κs = tt
 
 then-check-requires-2 : tie.Need-then-check-requires-2
-then-check-requires-2 c κs = search needs
+then-check-requires-2 c κs = tt
 
 returns : tie.Need-returns
 returns c =

@@ -1,6 +1,7 @@
 -- `usage::usage_key` meets its contract: the expansion's tests after its own are the request's, and the text in parts is the request's.
 -- Assumes nothing.
 use Prim.Native.Nat.{ℕ}
+use mathlib.Core.Path.{refl}
 use borrow.Author.Needs.{needs}
 use denote.Ref.{now}
 use lib.ListN.{length}
@@ -12,19 +13,19 @@ use Rattle.usage.proofs.usage_key.Statement.{statement}
 use Rattle.usage.proofs.usage_key.Tie as tie
 
 check-inputs-requires : tie.Need-check-inputs-requires
-check-inputs-requires c κs = search needs
+check-inputs-requires c κs = tt
 
 be16-requires : tie.Need-be16-requires
-be16-requires c κs = search needs
+be16-requires c κs = tt
 
 slice-aggregate-expand : tie.Need-slice-aggregate-expand
-slice-aggregate-expand c = search needs
+slice-aggregate-expand c = refl
 
 slice-aggregate-expand-2 : tie.Need-slice-aggregate-expand-2
 slice-aggregate-expand-2 c = search needs
 
 expand-requires : tie.Need-expand-requires
-expand-requires c κs = search needs
+expand-requires c κs = tt
 
 same-length : tie.Need-same-length
 same-length c = search needs

@@ -1,23 +1,22 @@
 -- `visited::check_visited` meets its contract.
 -- Assumes nothing.
-use borrow.Author.Needs.{needs}
 use Rattle.visited.proofs.check_visited.Statement.{statement}
 use Rattle.visited.proofs.check_visited.Tie as tie
 
 check-root-key-requires : tie.Need-check-root-key-requires
-check-root-key-requires c κs = search needs
+check-root-key-requires c κs = tt
 
 check-server-id-requires : tie.Need-check-server-id-requires
-check-server-id-requires c κs = search needs
+check-server-id-requires c κs = tt
 
 check-domain-requires : tie.Need-check-domain-requires
-check-domain-requires c κs = search needs
+check-domain-requires c κs = tt
 
 then-check-requires : tie.Need-then-check-requires
-then-check-requires c κs = search needs
+then-check-requires c κs = tt
 
 then-check-requires-2 : tie.Need-then-check-requires-2
-then-check-requires-2 c κs = search needs
+then-check-requires-2 c κs = tt
 
 returns : tie.Need-returns
 returns c =
