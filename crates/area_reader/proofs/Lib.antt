@@ -1,1 +1,4 @@
+mod Attributes
+pub mod Bounds
 pub mod Onward
+mod Padding

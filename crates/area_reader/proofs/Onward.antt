@@ -13,7 +13,7 @@ use Rattle.refusal.specs.declared.Refusal.the-variants.{AttributeBounds}
 use Rattle.area_format.specs.Area.{wordsOf, inBytes, inBounds, attribute, attributesFrom}
 use Rattle.area_format.specs.declared.Attribute.{Attribute}
 use Rattle.area_format.specs.declared.Attribute.the-variants.{Faulty}
-use Rattle.area_format.proofs.Format.{passed, not-empty, not-past}
+use Rattle.area_reader.proofs.Bounds.{passed, not-empty, not-past}
 use Rattle.area_reader.specs.Steps.{metAt, stepAt}
 use Rattle.area_reader.specs.declared.Step.the-variants.{End, Met}
 

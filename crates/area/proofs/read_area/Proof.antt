@@ -11,8 +11,8 @@ use lib.ListN.{length, take}
 use lib.Seq.{length-take-le, take-all}
 use Rattle.area_format.specs.Area.{attributes, readOn, whole}
 use Rattle.area_format.specs.declared.Name.the-variants.{Missing}
-use Rattle.area_format.proofs.Format.{name-within}
-use Rattle.area_format.proofs.Answering.{too-little, refused-so, answered-so}
+use Rattle.area.proofs.Names.{name-within}
+use Rattle.area.proofs.Answering.{too-little, refused-so, answered-so}
 use Rattle.area.proofs.read_area.Statement.{statement}
 use Rattle.area.proofs.read_area.Tie as tie
 
@@ -50,9 +50,6 @@ is-own-name-requires c κs = name-within _ (sym (read (c .before)))
 array-share-prefix-kept : tie.Need-array-share-prefix-kept
 array-share-prefix-kept c = let k = c .before .before in omega (arith, few k, k .before .before .before .walk .kept .1 .0)
 
-slice-aggregate-copy-values : tie.Need-slice-aggregate-copy-values
-slice-aggregate-copy-values c = sym (counted (c .before .before .before))
-
 copy-values-requires : tie.Need-copy-values-requires
 copy-values-requires c κs = search needs
 
@@ -74,6 +71,9 @@ returns-3 c =
     let all : take (length (now (a .out))) offers ≡ offers = take-all (length (now (a .out))) offers (omega (arith, few k, counted k, room)) in
     let r = answered-so (now (a .area)) (now (a .own-name)) (now (a .out)) room _ _ _ (read k) in
     (rw (c .before .before .before .before .before .is-own-name .ensures) (rw (counted k) at (r .0)), c .before .before .copy-values .ensures ∙ rw all (r .1))
+
+slice-aggregate-copy-values : tie.Need-slice-aggregate-copy-values
+slice-aggregate-copy-values c = sym (counted (c .before .before .before))
 
 pub read-area-spec : {M : Type 1} → statement M
 read-area-spec =

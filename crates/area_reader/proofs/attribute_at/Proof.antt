@@ -2,7 +2,7 @@
 -- Assumes nothing.
 use mathlib.Core.Path.{_∙_}
 use denote.Ref.{now}
-use Rattle.area_format.proofs.Attributes.{type-24, type-23, type-other}
+use Rattle.area_reader.proofs.Attributes.{type-24, type-23, type-other}
 use borrow.Author.Needs.{needs}
 use Rattle.area_reader.proofs.attribute_at.Statement.{statement}
 use Rattle.area_reader.proofs.attribute_at.Tie as tie

@@ -2,7 +2,7 @@
 -- Assumes nothing.
 use mathlib.Core.Path.{sym}
 use denote.Ref.{now}
-use Rattle.area_format.proofs.Attributes.{too-short, long-enough}
+use Rattle.area_reader.proofs.Attributes.{too-short, long-enough}
 use borrow.Author.Needs.{needs}
 use Rattle.area_reader.proofs.in_bounds.Statement.{statement}
 use Rattle.area_reader.proofs.in_bounds.Tie as tie

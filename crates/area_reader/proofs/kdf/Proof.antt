@@ -1,6 +1,6 @@
 -- `area_reader::kdf` meets its contract: the test of the length says which case of `kdf` holds.
 -- Assumes nothing.
-use Rattle.area_format.proofs.Attributes.{kdf-read, kdf-refused}
+use Rattle.area_reader.proofs.Attributes.{kdf-read, kdf-refused}
 use borrow.Author.Needs.{needs}
 use Rattle.area_reader.proofs.kdf.Statement.{statement}
 use Rattle.area_reader.proofs.kdf.Tie as tie

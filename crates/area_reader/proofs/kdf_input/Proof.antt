@@ -7,7 +7,7 @@ use borrow.Author.Needs.{needs}
 use denote.Ref.{now}
 use Rattle.area_format.specs.Area.{wordsOf, numberIn, inBytes, zeros, wordsFor, padding}
 use Rattle.area_format.specs.declared.Bytes.{Bytes}
-use Rattle.area_format.proofs.Attributes.{length-disagrees, input-read, padding-refused}
+use Rattle.area_reader.proofs.Attributes.{length-disagrees, input-read, padding-refused}
 use Rattle.area_reader.proofs.kdf_input.Statement.{statement}
 use Rattle.area_reader.proofs.kdf_input.Tie as tie
 

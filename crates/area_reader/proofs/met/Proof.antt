@@ -9,7 +9,7 @@ use denote.Ref.{now}
 use lib.ListN.{length}
 use Rattle.area_format.specs.Area.{wordsOf, inBytes}
 use Rattle.area_format.specs.declared.Bytes.{Bytes}
-use Rattle.area_format.proofs.Format.{not-empty, not-past}
+use Rattle.area_reader.proofs.Bounds.{not-empty, not-past}
 use Rattle.area_reader.proofs.Onward.{met-within, met-past}
 use Rattle.area_reader.proofs.met.Statement.{statement}
 use Rattle.area_reader.proofs.met.Tie as tie

@@ -5,7 +5,7 @@ use mathlib.Core.Path.{_≡_, refl}
 use native.Mathlib.Omega.{arith}
 use lib.ListN.{length, drop}
 use Rattle.area_format.specs.Area.{zeros}
-use Rattle.area_format.proofs.Padding.{zeros-not, zeros-on, zeros-all}
+use Rattle.area_reader.proofs.Padding.{zeros-not, zeros-on, zeros-all}
 use Rattle.area_reader.proofs.zeros.Statement.{statement}
 use Rattle.area_reader.proofs.zeros.Tie as tie
 

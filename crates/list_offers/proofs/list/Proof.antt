@@ -5,7 +5,7 @@ use mathlib.Core.Path.{sym}
 use borrow.Author.Needs.{needs}
 use lib.ListN.{length}
 use lib.Seq.{length-take-le}
-use Rattle.area_format.proofs.Using.{count-within}
+use Rattle.area.proofs.Using.{count-within}
 use Rattle.list_offers.proofs.list.Statement.{statement}
 use Rattle.list_offers.proofs.list.Tie as tie
 

@@ -1,42 +1,22 @@
--- Laws of the area's format: what an attribute within the area has, and that the name of an area that is read whole lies within it.
+-- The name of an area that is read whole lies within it.
 -- Assumes nothing.
-use Prim.Native.Nat.{ℕ, zero, suc, _+_, _-_, _*_, _≤_, _<_}
-use mathlib.Core.Path.{_≡_, refl, ap, _∙_}
+use Prim.Native.Nat.{ℕ, zero, suc, _+_, _-_, _*_, _≤_}
+use mathlib.Core.Path.{_≡_, refl, ap}
 use mathlib.Core.Bool.{Bool, true, false, cond}
 use mathlib.Core.List.{List, [], _∷_, _++_}
 use native.Mathlib.Omega.{arith}
-use native.Mathlib.Nat.{add-zero}
-use borrow.Author.Tests.{leb-true, eqb-true}
-use lib.ListN.{length, getD, drop, length-drop}
-use lib.Seq.{drop-drop, drop-length}
-use lib.Dec.{leb, ltb, eqb, eqb·suc-zero}
-use Rattle.slices.proofs.Truth.{and-left, and-right}
+use borrow.Author.Tests.{eqb-true}
+use lib.ListN.{length, getD}
+use lib.Dec.{ltb, eqb}
 use Rattle.refusal.specs.Checks.{bare}
 use Rattle.refusal.specs.declared.Refusal.the-variants.{AttributeBounds, KdfLength, KdfInput}
 use Rattle.area_format.specs.Area.{typeOf, wordsOf, numberIn, inBytes, inBounds, kdf, zeros, wordsFor, padding, kdfInput, attribute, attributesFrom, attributes, whole, refusal, ended, readOn}
 use Rattle.area_format.specs.declared.Attribute.{Attribute}
 use Rattle.area_format.specs.declared.Attribute.the-variants.{Offer, Named, Other, Faulty}
 use Rattle.area_format.specs.declared.Bytes.{Bytes}
 use Rattle.area_format.specs.declared.Name.{Name}
 use Rattle.area_format.specs.declared.Name.the-variants.{Missing, Found}
-
--- passing what is left of an attribute
-pub passed : (left at : ℕ) (bytes : List ℕ) → attributesFrom left at bytes ≡ attributesFrom 0 (at + left) (drop left bytes)
-unfolding attributesFrom
-passed zero at bytes = rw add-zero
-passed (suc left) at [] = refl
-passed (suc left) at (x ∷ rest) =
-    let e : suc at + left ≡ at + suc left = omega arith in
-    passed left (suc at) rest ∙ rw e
-
--- what an attribute within the area has
-pub not-empty : (bytes : List ℕ) → inBounds bytes ≡ true → 1 ≤ wordsOf bytes .0
-unfolding inBounds
-not-empty bytes h = leb-true _ _ (and-left _ _ (and-right (leb 2 (length bytes)) _ h))
-
-pub not-past : (bytes : List ℕ) → inBounds bytes ≡ true → inBytes (wordsOf bytes) .0 ≤ length bytes
-unfolding inBounds
-not-past bytes h = leb-true _ _ (and-right (leb 1 (wordsOf bytes .0)) _ (and-right (leb 2 (length bytes)) _ h))
+use Rattle.area_reader.proofs.Bounds.{not-past}
 
 -- the name of an attribute that ends within the bytes stands within them
 named-within : (at : ℕ) (bytes : List ℕ) (a : ℕ) (l : Bytes) → 4 * getD bytes 1 0 ≤ length bytes → attribute at bytes ≡ Named a l → a + l .0 ≤ at + length bytes
