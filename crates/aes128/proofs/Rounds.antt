@@ -1,224 +1,44 @@
--- The cipher and the inverse cipher undo each other, both ways, under round keys of sixteen bytes each, and those of any key are such.
--- Each step undoes its inverse; so does a round, where the steps of the inverse cipher are grouped from one look-up to the next; and so do the ten.
+-- A round as the code takes it, a turn of each cipher's loop, and its end. Each lemma is over plain lists, and its premises are what the callees ensure.
 -- Assumes nothing.
-use mathlib.Core.Path.{_≡_, refl, sym, ap, ap₂, _∙_, subst}
-use mathlib.Core.List.{List, [], _∷_}
-use Prim.Native.Nat.{ℕ, zero, suc, _+_, _<_}
-use native.Mathlib.Numerals.{add-one}
-use native.Mathlib.Omega.{arith}
-use lib.ListN.{getD, length}
-use lib.Seq.{ext-getD}
-use Rattle.aes_sbox.specs.Field.{xtime}
-use Rattle.aes128.specs.State.{State, Column, column, Block, block, invSubBytes, shiftRows, invShiftRows, mixColumns, invMixColumns, addColumn, addRoundKey}
-use Rattle.aes128.specs.Cipher.{round, lastRound, invRound, invLastRound, rounds, invRounds, cipher, invCipher}
-use Rattle.aes128.specs.KeyExpansion.{rcon, keyCore, nextKey, roundKey, expandKey}
-use Rattle.aes128.proofs.Four.{four}
-use Rattle.aes128.proofs.Steps.{subBytes-block, invSubBytes-block, unsub, resub, shiftRows-block, invShiftRows-block, unshift, reshift, mixColumns-block, invMixColumns-block, unmix, remix, addColumn-column, addRoundKey-block, unadd}
-use Rattle.aes128.proofs.Words.{xor-byte, xtime-byte}
-use Rattle.aes_sbox.proofs.Tables.{sboxOf-byte}
+use mathlib.Core.Path.{_≡_, sym, ap, ap₂, _∙_}
+use mathlib.Core.List.{List, []}
+use Prim.Native.Nat.{ℕ, zero, suc, _+_, _-_, _<_}
+use native.Mathlib.Nat.{not-suc-le-zero}
+use native.Mathlib.Numerals.{add-one, sub-one}
+use lib.ListN.{getD}
+use Rattle.fips197.specs.State.{State, subBytes, invSubBytes, shiftRows, invShiftRows, mixColumns, invMixColumns, addRoundKey}
+use Rattle.fips197.specs.Cipher.{round, rounds, lastRound, cipher, eqInvRound, eqInvRounds, eqInvLastRound, eqInvCipher}
+use Rattle.aes128.specs.Internal.{stateOf, laidOut}
 
--- ---- the inverse cipher, grouped from one look-up to the next
+-- ---- the first round key
 
-abbrev pub begun : State → State
-begun s = invSubBytes (invShiftRows s)
+pub begun-by : (k s a : State) (n : List ℕ) → a ≡ addRoundKey s k → stateOf n ≡ laidOut a → stateOf n ≡ addRoundKey s k
+unfolding addRoundKey
+begun-by k s a n e h = h ∙ ap laidOut e
 
--- the rest of a round, and the beginning of the next
-unfoldable pub goneOn : State → State → State
-goneOn k s = begun (invMixColumns (addRoundKey s k))
+-- ---- a round: SubBytes of the shifted rows is ShiftRows of the looked-up bytes
 
-unfoldable pub turns : List State → ℕ → State → State
-turns ks zero s = s
-turns ks (suc n) s = turns ks n (goneOn (getD ks (suc n) []) s)
+module _ (k : State) (t : List ℕ) (s a : State) (e : s ≡ stateOf t) where
+  pub round-by : (m r : State) (n : List ℕ) → a ≡ shiftRows s → m ≡ mixColumns (subBytes a) → r ≡ addRoundKey m k → stateOf n ≡ laidOut r
+      → stateOf n ≡ round k (stateOf t)
+  unfolding round subBytes addRoundKey
+  round-by m r n ea em er en =
+      en ∙ ap laidOut (er ∙ ap (λ (x : State). addRoundKey x k) (em ∙ ap (λ (x : State). mixColumns (subBytes x)) (ea ∙ ap shiftRows e)))
 
-regroup : (ks : List State) (n : ℕ) (s : State) → begun (invRounds ks n s) ≡ turns ks n (begun s)
-unfolding invRounds turns goneOn invRound
-regroup ks zero s = refl
-regroup ks (suc n) s = regroup ks n (invRound (getD ks (suc n) []) s)
+  pub last-round-by : (m r : State) → a ≡ shiftRows s → m ≡ subBytes a → r ≡ addRoundKey m k → r ≡ lastRound k (stateOf t)
+  unfolding lastRound subBytes
+  last-round-by m r ea em er = er ∙ ap (λ (x : State). addRoundKey x k) (em ∙ ap subBytes (ea ∙ ap shiftRows e))
 
-pub regrouped : (ks : List State) (s : State)
-    → invCipher ks s ≡ addRoundKey (turns ks 9 (begun (addRoundKey s (getD ks 10 [])))) (getD ks 0 [])
-unfolding invCipher invLastRound
-regrouped ks s = ap (λ (x : State). addRoundKey x (getD ks 0 [])) (regroup ks 9 (addRoundKey s (getD ks 10 [])))
+  pub inv-round-by : (m r : State) (n : List ℕ) → a ≡ invShiftRows s → m ≡ invMixColumns (invSubBytes a) → r ≡ addRoundKey m k
+      → stateOf n ≡ laidOut r → stateOf n ≡ eqInvRound k (stateOf t)
+  unfolding eqInvRound invSubBytes addRoundKey
+  inv-round-by m r n ea em er en =
+      en
+      ∙ ap laidOut (er ∙ ap (λ (x : State). addRoundKey x k) (em ∙ ap (λ (x : State). invMixColumns (invSubBytes x)) (ea ∙ ap invShiftRows e)))
 
-abbrev pub Keys : List State → Type 0
-Keys ks = (n : ℕ) → n < 11 → Block (getD ks n [])
-
--- ---- a round
-
-module _ {s k : State} (b : Block s) (h : Block k) where
-  round-block : Block (round k s)
-  unfolding round
-  round-block = addRoundKey-block (mixColumns-block (shiftRows-block (subBytes-block b))) h
-
-  lastRound-block : Block (lastRound k s)
-  unfolding lastRound
-  lastRound-block = addRoundKey-block (shiftRows-block (subBytes-block b)) h
-
-  begun-block : Block (begun (addRoundKey s k))
-  begun-block = invSubBytes-block (invShiftRows-block (addRoundKey-block b h))
-
-  goneOn-block : Block (goneOn k s)
-  unfolding goneOn
-  goneOn-block = invSubBytes-block (invShiftRows-block (invMixColumns-block (addRoundKey-block b h)))
-
-  unround : goneOn k (round k s) ≡ s
-  unfolding round goneOn
-  unround =
-      let u = subBytes-block b in
-      let v = shiftRows-block u in
-      ap (λ (x : State). begun (invMixColumns x)) (unadd (mixColumns-block v) h) ∙ ap begun (unmix v) ∙ ap invSubBytes (unshift u) ∙ unsub b
-
-  reround : round k (goneOn k s) ≡ s
-  unfolding round goneOn
-  reround =
-      let u = addRoundKey-block b h in
-      let v = invMixColumns-block u in
-      ap (λ (x : State). addRoundKey (mixColumns (shiftRows x)) k) (resub (invShiftRows-block v))
-      ∙ ap (λ (x : State). addRoundKey (mixColumns x) k) (reshift v)
-      ∙ ap (λ (x : State). addRoundKey x k) (remix u)
-      ∙ unadd b h
-
-  unlast : begun (addRoundKey (lastRound k s) k) ≡ s
-  unfolding lastRound
-  unlast = let u = subBytes-block b in ap begun (unadd (shiftRows-block u) h) ∙ ap invSubBytes (unshift u) ∙ unsub b
-
-  relast : lastRound k (begun (addRoundKey s k)) ≡ s
-  unfolding lastRound
-  relast =
-      let u = addRoundKey-block b h in
-      ap (λ (x : State). addRoundKey (shiftRows x) k) (resub (invShiftRows-block u)) ∙ ap (λ (x : State). addRoundKey x k) (reshift u) ∙ unadd b h
-
--- ---- the rounds 1 to n
-
-module _ (ks : List State) (keys : Keys ks) where
-  rounds-block : (n : ℕ) → n < 11 → {s : State} → Block s → Block (rounds ks n s)
-  unfolding rounds
-  rounds-block zero h b = b
-  rounds-block (suc n) h b = round-block (rounds-block n (omega arith) b) (keys (suc n) h)
-
-  turns-block : (n : ℕ) → n < 11 → {s : State} → Block s → Block (turns ks n s)
-  unfolding turns
-  turns-block zero h b = b
-  turns-block (suc n) h b = turns-block n (omega arith) (goneOn-block b (keys (suc n) h))
-
-  unrounds : (n : ℕ) → n < 11 → {s : State} → Block s → turns ks n (rounds ks n s) ≡ s
-  unfolding rounds turns
-  unrounds zero h b = refl
-  unrounds (suc n) h b = ap (turns ks n) (unround (rounds-block n (omega arith) b) (keys (suc n) h)) ∙ unrounds n (omega arith) b
-
-  rerounds : (n : ℕ) → n < 11 → {s : State} → Block s → rounds ks n (turns ks n s) ≡ s
-  unfolding rounds turns
-  rerounds zero h b = refl
-  rerounds (suc n) h b = ap (round (getD ks (suc n) [])) (rerounds n (omega arith) (goneOn-block b (keys (suc n) h))) ∙ reround b (keys (suc n) h)
-
-  key0 : Block (getD ks 0 [])
-  key0 = keys 0 (omega arith)
-
-  key10 : Block (getD ks 10 [])
-  key10 = keys 10 (omega arith)
-
-  pub cipher-block : {s : State} → Block s → Block (cipher ks s)
-  unfolding cipher
-  cipher-block b = lastRound-block (rounds-block 9 (omega arith) (addRoundKey-block b key0)) key10
-
-  pub invCipher-block : {s : State} → Block s → Block (invCipher ks s)
-  invCipher-block {s} b = rw regrouped (addRoundKey-block (turns-block 9 (omega arith) (begun-block b key10)) key0)
-
-  -- what is encrypted is decrypted again
-  pub uncipher : {s : State} → Block s → invCipher ks (cipher ks s) ≡ s
-  unfolding cipher
-  uncipher {s} b =
-      let u = addRoundKey-block b key0 in
-      regrouped ks (lastRound (getD ks 10 []) (rounds ks 9 (addRoundKey s (getD ks 0 []))))
-      ∙ ap (λ (x : State). addRoundKey (turns ks 9 x) (getD ks 0 [])) (unlast (rounds-block 9 (omega arith) u) key10)
-      ∙ ap (λ (x : State). addRoundKey x (getD ks 0 [])) (unrounds 9 (omega arith) u)
-      ∙ unadd b key0
-
-  -- what is decrypted is encrypted again
-  pub recipher : {s : State} → Block s → cipher ks (invCipher ks s) ≡ s
-  unfolding cipher
-  recipher {s} b =
-      let u = begun-block b key10 in
-      let v = turns-block 9 (omega arith) u in
-      ap (λ (x : State). lastRound (getD ks 10 []) (rounds ks 9 (addRoundKey x (getD ks 0 [])))) (regrouped ks s)
-      ∙ ap (λ (x : State). lastRound (getD ks 10 []) (rounds ks 9 x)) (unadd v key0)
-      ∙ ap (lastRound (getD ks 10 [])) (rerounds 9 (omega arith) u)
-      ∙ relast b key10
-
--- ---- the round keys
-
-rcon-byte : (n : ℕ) → rcon n < 256
-unfolding rcon
-rcon-byte zero = omega arith
-rcon-byte (suc n) = xtime-byte (rcon n)
-
-keyCore-column : (r : ℕ) → r < 256 → {w : List ℕ} → Column w → Column (keyCore w r)
-unfolding keyCore
-keyCore-column r h (column a b c d) =
-    column (xor-byte (sboxOf-byte _ b) h) (sboxOf-byte _ c) (sboxOf-byte _ d) (sboxOf-byte _ a)
-
-nextKey-block : (r : ℕ) → r < 256 → {k : State} → Block k → Block (nextKey k r)
-unfolding nextKey
-nextKey-block r h (block p q u v) =
-    let w0 = addColumn-column p (keyCore-column r h v) in
-    let w1 = addColumn-column q w0 in
-    let w2 = addColumn-column u w1 in
-    block w0 w1 w2 (addColumn-column v w2)
-
-roundKey-block : (k : State) → Block k → (n : ℕ) → Block (roundKey k n)
-unfolding roundKey
-roundKey-block k b zero = b
-roundKey-block k b (suc n) = nextKey-block (rcon n) (rcon-byte n) (roundKey-block k b n)
-
--- round key n stands at place n
-expandKey-at : (k : State) (n : ℕ) → n < 11 → getD (expandKey k) n [] ≡ roundKey k n
-unfolding expandKey
-expandKey-at k zero h = refl
-expandKey-at k (suc zero) h = refl
-expandKey-at k (suc (suc zero)) h = refl
-expandKey-at k (suc (suc (suc zero))) h = refl
-expandKey-at k (suc (suc (suc (suc zero)))) h = refl
-expandKey-at k (suc (suc (suc (suc (suc zero))))) h = refl
-expandKey-at k (suc (suc (suc (suc (suc (suc zero)))))) h = refl
-expandKey-at k (suc (suc (suc (suc (suc (suc (suc zero))))))) h = refl
-expandKey-at k (suc (suc (suc (suc (suc (suc (suc (suc zero)))))))) h = refl
-expandKey-at k (suc (suc (suc (suc (suc (suc (suc (suc (suc zero))))))))) h = refl
-expandKey-at k (suc (suc (suc (suc (suc (suc (suc (suc (suc (suc zero)))))))))) h = refl
-expandKey-at k (suc (suc (suc (suc (suc (suc (suc (suc (suc (suc (suc n))))))))))) h = absurd (omega arith)
-
-pub expandKey-keys : (k : State) → Block k → Keys (expandKey k)
-expandKey-keys k b n h = subst Block (sym (expandKey-at k n h)) (roundKey-block k b n)
-
--- ---- what the code takes of these, step by step
-
--- the words of the next round key
-pub next-words : (k : State) (r : ℕ) (core w0 w1 w2 w3 : List ℕ) → core ≡ keyCore (getD k 3 []) r
-    → w0 ≡ addColumn (getD k 0 []) core → w1 ≡ addColumn (getD k 1 []) w0 → w2 ≡ addColumn (getD k 2 []) w1 → w3 ≡ addColumn (getD k 3 []) w2
-    → _≡_ {A = State} (w0 ∷ w1 ∷ w2 ∷ w3 ∷ []) (nextKey k r)
-unfolding nextKey
-next-words k r core w0 w1 w2 w3 e p0 p1 p2 p3 =
-    let q0 = p0 ∙ ap (addColumn (getD k 0 [])) e in
-    let q1 = p1 ∙ ap (addColumn (getD k 1 [])) q0 in
-    let q2 = p2 ∙ ap (addColumn (getD k 2 [])) q1 in
-    four q0 q1 q2 (p3 ∙ ap (addColumn (getD k 3 [])) q2)
-
--- the key expansion's loop: before it, a turn of it, and its end
-pub at-zero : (P : ℕ → Type 0) → P 0 → (n : ℕ) → n < 1 → P n
-at-zero P p zero h = p
-at-zero P p (suc n) h = absurd (omega arith)
-
-module _ (k : State) (i : ℕ) where
-  pub next-step : (c : ℕ) (x u : State) → x ≡ roundKey k i → c ≡ rcon i → u ≡ nextKey x c → u ≡ roundKey k (i + 1)
-  unfolding roundKey
-  next-step c x u p q e = e ∙ ap₂ nextKey p q ∙ rw add-one
-
-  pub constant-step : (c d : ℕ) → c ≡ rcon i → d ≡ xtime c → d ≡ rcon (i + 1)
-  unfolding rcon
-  constant-step c d p e = e ∙ ap xtime p ∙ rw add-one
-
-pub expanded : (k : State) (ks : List State) → length ks ≡ 11 → ((n : ℕ) → n < 11 → getD ks n [] ≡ roundKey k n) → ks ≡ expandKey k
-unfolding expandKey
-expanded k ks len each = ext-getD [] ks (expandKey k) len (λ n h. let l : n < 11 = omega (arith, h, len) in each n l ∙ sym (expandKey-at k n l))
+  pub inv-last-round-by : (m r : State) → a ≡ invShiftRows s → m ≡ invSubBytes a → r ≡ addRoundKey m k → r ≡ eqInvLastRound k (stateOf t)
+  unfolding eqInvLastRound invSubBytes
+  inv-last-round-by m r ea em er = er ∙ ap (λ (x : State). addRoundKey x k) (em ∙ ap invSubBytes (ea ∙ ap invShiftRows e))
 
 -- a turn of the cipher's loop, and its end
 module _ (ks : List State) where
@@ -230,3 +50,17 @@ module _ (ks : List State) where
       → r ≡ cipher ks s
   unfolding cipher
   cipher-end i s t u r p q e h = h ∙ ap (lastRound (getD ks 10 [])) (q ∙ ap₂ (rounds ks) e p)
+
+-- ---- a turn of the loop of the equivalent inverse cipher, and its end
+
+module _ (ks : List State) where
+  pub eq-step : (i : ℕ) (t u : State) → 0 < i → u ≡ eqInvRound (getD ks i []) t → eqInvRounds ks (i - 1) u ≡ eqInvRounds ks i t
+  unfolding eqInvRounds
+  eq-step zero t u h e = absurd (not-suc-le-zero h)
+  eq-step (suc i) t u h e = rw sub-one (ap (eqInvRounds ks i) e)
+
+  pub eq-end : (i : ℕ) (s t u r : State) → t ≡ addRoundKey s (getD ks 10 []) → eqInvRounds ks i u ≡ eqInvRounds ks 9 t → i ≡ 0
+      → r ≡ eqInvLastRound (getD ks 0 []) u → r ≡ eqInvCipher ks s
+  unfolding eqInvCipher eqInvRounds
+  eq-end i s t u r p w e h =
+      h ∙ ap (eqInvLastRound (getD ks 0 [])) (ap (λ (n : ℕ). eqInvRounds ks n u) (sym e) ∙ w ∙ ap (eqInvRounds ks 9) p)

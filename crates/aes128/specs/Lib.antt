@@ -1,4 +1,1 @@
-pub mod Cipher
-pub mod KeyExpansion
-pub mod State
-pub mod Words
+pub mod Internal

@@ -6,7 +6,7 @@ use lib.Bits.{bitXor}
 
 -- 4.2.1, xtime: the product {02} · a. A shift to the left, and {1b} added where bit 7 was set.
 unfoldable pub xtime : ℕ → ℕ
-xtime a = bitXor (a * 2 % 256) (a / 128 % 2 * 27)
+xtime a = bitXor (a * 2 % 256) (a / 128 % 2 * 0x1b)
 
 -- a · b over the n low bits of b: the sum of a · x^i over the bits i that are set (4.2.1: "higher powers of x can be implemented by repeated application
 -- of xtime").

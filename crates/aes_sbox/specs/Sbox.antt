@@ -4,8 +4,8 @@ use Prim.Native.Nat.{ℕ, _+_, _-_, _*_, _/_, _%_, _^_}
 use lib.Bits.{bitXor}
 use Rattle.aes_sbox.specs.Field.{mul}
 
--- The multiplicative inverse of a byte, and {00} of {00}: the 254th power, 254 = 2 + 4 + 8 + 16 + 32 + 64 + 128. The law `inverse-right` shows that it is
--- the inverse.
+-- The multiplicative inverse of a byte, and {00} of {00}: the 254th power, 254 = 2 + 4 + 8 + 16 + 32 + 64 + 128. `InverseInverts` of
+-- Statements.antt says that it is the inverse.
 unfoldable pub inverse : ℕ → ℕ
 inverse a =
     let a2 : ℕ = mul a a in
@@ -23,7 +23,7 @@ rotated b k = b * 2 ^ k % 256 + b / 2 ^ (8 - k)
 
 -- Equation 5.1: bit i becomes b_i + b_(i+4) + b_(i+5) + b_(i+6) + b_(i+7) + c_i, the indices modulo 8 and c = {63}.
 unfoldable pub affine : ℕ → ℕ
-affine b = bitXor b (bitXor (rotated b 4) (bitXor (rotated b 3) (bitXor (rotated b 2) (bitXor (rotated b 1) 99))))
+affine b = bitXor b (bitXor (rotated b 4) (bitXor (rotated b 3) (bitXor (rotated b 2) (bitXor (rotated b 1) 0x63))))
 
 -- 5.1.1: the S-box takes the multiplicative inverse and then the affine map.
 unfoldable pub sboxOf : ℕ → ℕ
@@ -31,7 +31,7 @@ sboxOf a = affine (inverse a)
 
 -- The affine map undone: bit i becomes b_(i+2) + b_(i+5) + b_(i+7) + d_i, d = {05}.
 unfoldable pub invAffine : ℕ → ℕ
-invAffine b = bitXor (rotated b 6) (bitXor (rotated b 3) (bitXor (rotated b 1) 5))
+invAffine b = bitXor (rotated b 6) (bitXor (rotated b 3) (bitXor (rotated b 1) 0x05))
 
 -- 5.3.2: the inverse S-box takes the inverse of the affine map and then the multiplicative inverse.
 unfoldable pub invSboxOf : ℕ → ℕ

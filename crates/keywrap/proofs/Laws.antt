@@ -8,9 +8,9 @@ use Prim.Native.Nat.{ℕ, _+_, _-_, _*_, _/_, _≤_}
 use native.Mathlib.Omega.{arith}
 use lib.ListN.{length, take, drop, length-append, length-drop, take-append-drop}
 use lib.Seq.{length-take-le, take-at, drop-at}
-use Rattle.aes128.specs.State.{State, Block, block, column}
-use Rattle.aes128.specs.Cipher.{cipher, invCipher}
-use Rattle.aes128.proofs.Rounds.{Keys, cipher-block, invCipher-block, uncipher, recipher, expandKey-keys}
+use Rattle.fips197.specs.State.{State, Block, block, column}
+use Rattle.fips197.specs.Cipher.{cipher, invCipher}
+use Rattle.fips197.proofs.Rounds.{Keys, cipher-block, invCipher-block, uncipher, recipher, expandKey-keys}
 use Rattle.keywrap.specs.Calls.{Bytes, keyLength}
 use Rattle.keywrap.specs.Rfc3394.{initialValue, Registers, wrapPasses, unwrapPasses, keyState, roundKeys, passesOf, wrapRegisters, wrapped, unwrapRegisters, unwrappedIv, unwrappedKey}
 use Rattle.keywrap.proofs.Bytes.{bytes-take, bytes-drop, half-of, half-length, initial-half}

@@ -16,12 +16,12 @@ use lib.Seq.{take-length, drop-length, paste, paste-suc, take-at, drop-at, take-
 use Rattle.refusal.specs.Checks.{Reason, Check, pass, refuse, _andThen_, within, check6}
 use Rattle.refusal.specs.Answers.{bufferAfter}
 use Rattle.refusal.proofs.Passing.{before-passed, last-passed, test-passed, within-low, within-high}
-use Rattle.slices.proofs.Truth.{and-left, and-right}
-use Rattle.aes128.specs.State.{State}
-use Rattle.aes128.specs.Cipher.{cipher, invCipher, eqInvCipher, EqKeys}
-use Rattle.aes128.specs.KeyExpansion.{expandKey}
-use Rattle.aes128.proofs.Equivalent.{equivalent}
-use Rattle.aes128.proofs.Xor.{xor-cancel}
+use Rattle.slices.proofs.Truth.{and-left, and-right, same-truth}
+use Rattle.fips197.specs.State.{State}
+use Rattle.fips197.specs.Cipher.{cipher, invCipher, eqInvCipher, invertedKeys}
+use Rattle.fips197.specs.KeyExpansion.{expandKey}
+use Rattle.fips197.proofs.Equivalent.{equivalent-inverse}
+use Rattle.fips197.proofs.Xor.{xor-cancel}
 use Rattle.slices.specs.Same.{sameList}
 use Rattle.keywrap.specs.Calls.{wrappable, check23, check28, keyLength, wrapCheck, unwrapCheck}
 use Rattle.keywrap.specs.Rfc3394.{joined, high, low, addCount, initialValue, blockAt, withBlock, Registers, wrapStep, unwrapStep, wrapPass, unwrapPass, wrapPasses, unwrapPasses, keyState, roundKeys, passesOf, wrapRegisters, wrapped, unwrapRegisters, unwrappedIv, unwrappedKey}
@@ -78,11 +78,6 @@ small-count t a b c d e f g h n =
     ∷ []
 
 -- ---- the differences of eight bytes, or-ed, are none exactly where the bytes are the same
-
-same-truth : (p q : Bool) → (p ≡ true → q ≡ true) → (q ≡ true → p ≡ true) → p ≡ q
-same-truth true q f g = sym (f refl)
-same-truth false true f g = g refl
-same-truth false false f g = refl
 
 or-none : (x y : ℕ) → eqb (bitOr x y) 0 ≡ (eqb x 0 && eqb y 0)
 or-none x y =
@@ -261,9 +256,9 @@ module _ (kek : List ℕ) (st : State) (ks : List State) (a b r z : List ℕ) (e
   unfolding expandKey
   eleven = ap length eks
 
-  module _ (ds : List State) (keys : length ks ≡ 11 → EqKeys ks ds) where
+  module _ (ds : List State) (eds : ds ≡ invertedKeys ks) where
     equal : eqInvCipher ds ≡ invCipher (roundKeys kek)
-    equal = (λ i s. equivalent ks ds (keys eleven) s i) ∙ ap invCipher keys-are
+    equal = ap eqInvCipher eds ∙ (λ i s. equivalent-inverse ks eleven s i) ∙ ap invCipher keys-are
 
     pub passes-back : r ≡ unwrapPasses (eqInvCipher ds) (length b / 8) 6 (a, b) .0 → z ≡ unwrapPasses (eqInvCipher ds) (length b / 8) 6 (a, b) .1
         → (back : Bool) → back ≡ true → (r ≡ passesOf back kek (a, b) .0) × (z ≡ passesOf back kek (a, b) .1)

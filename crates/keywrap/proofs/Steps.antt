@@ -9,8 +9,8 @@ use lib.Bits.{bitXor, xor-lt}
 use lib.ListN.{length, take, drop, length-drop}
 use lib.Seq.{length-take-le, take-at, drop-at}
 use borrow.Rule.Slice.PartMut.{same-len-mid, put-same, take-put}
-use Rattle.aes128.specs.State.{State, Block, block, column}
-use Rattle.aes128.proofs.Xor.{xor-cancel}
+use Rattle.fips197.specs.State.{State, Block, block, column}
+use Rattle.fips197.proofs.Xor.{xor-cancel}
 use Rattle.keywrap.specs.Calls.{Bytes}
 use Rattle.keywrap.specs.Rfc3394.{joined, high, low, addCount, blockAt, withBlock, Registers, wrapStep, unwrapStep, wrapPass, unwrapPass, wrapPasses, unwrapPasses}
 use Rattle.keywrap.proofs.Bytes.{bytes-append, bytes-take, bytes-drop, Half, half, half-bytes, block-half}

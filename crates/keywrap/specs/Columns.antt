@@ -2,7 +2,7 @@
 -- Assumes nothing.
 use mathlib.Core.List.{List, [], _∷_}
 use Prim.Native.Nat.{ℕ}
-use Rattle.aes128.specs.State.{byteAt}
+use Rattle.fips197.specs.State.{byteAt}
 
 -- The eight bytes of two columns, one column after the other.
 abbrev pub flat : List (List ℕ) → List ℕ

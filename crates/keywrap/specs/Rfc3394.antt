@@ -6,9 +6,9 @@ use mathlib.Core.List.{List, [], _∷_, _++_}
 use Prim.Native.Nat.{ℕ, zero, suc, _+_, _*_, _/_, _%_, _^_}
 use lib.Bits.{bitXor}
 use lib.ListN.{getD, take, drop, length}
-use Rattle.aes128.specs.State.{State, byteAt}
-use Rattle.aes128.specs.Cipher.{cipher, invCipher}
-use Rattle.aes128.specs.KeyExpansion.{expandKey}
+use Rattle.fips197.specs.State.{State, byteAt}
+use Rattle.fips197.specs.Cipher.{cipher, invCipher}
+use Rattle.fips197.specs.KeyExpansion.{expandKey}
 
 -- A | R: sixteen bytes, eight of a and eight of r, as a state of the cipher (FIPS 197 section 3.4: column after column).
 abbrev pub joined : List ℕ → List ℕ → State

@@ -1,10 +1,10 @@
 // The key wrap of RFC 3394 with AES-128 and the default initial value: a key is wrapped under a key encryption key (KEK), and unwrapped
 // with a check of its integrity. A wrapped key is 8 bytes longer than the key. The eight bytes of A, and of a block, are held as two
 // columns of the cipher's state: so the compiler keeps each column as a word, and takes no word apart between two steps.
+use aes_keys::expand_key;
+use aes_keys::invert_keys;
 use aes128::decrypt;
 use aes128::encrypt;
-use aes128::expand_key;
-use aes128::invert_keys;
 use refusal::Checked;
 use refusal::Refusal;
 use refusal::Written;
@@ -19,7 +19,7 @@ ghost use lib.Bits.{bitXor};
 ghost use lib.ListN.{length, drop, take, getD};
 ghost use Rattle.refusal.specs.Checks.{_andThen_, check6};
 ghost use Rattle.refusal.specs.Answers.{checkedAs, answerOf, answerTo, bufferAfter};
-ghost use Rattle.aes128.specs.Cipher.{cipher, eqInvCipher};
+ghost use Rattle.fips197.specs.Cipher.{cipher, eqInvCipher};
 ghost use Rattle.slices.specs.Same.{sameList};
 ghost use Rattle.keywrap.specs.Calls.{wrappable, check23, check28, wrapCheck, unwrapCheck, keyLength};
 ghost use Rattle.keywrap.specs.Columns.{flat};

@@ -6,6 +6,7 @@ use Prim.Native.Nat.{ℕ, zero, suc, _≤_}
 use native.Mathlib.Nat.{le-of-suc-le-suc, not-suc-le-zero}
 use native.Mathlib.Omega.{arith}
 use lib.ListN.{getD, length}
+use Rattle.tables.specs.Statements.{BeyondEnd}
 use Rattle.tables.specs.Table.{NoneBelow}
 
 elsewhere : (n x : ℕ) → n ≤ x → (x ≡ n → ⊥) → suc n ≤ x
@@ -20,5 +21,5 @@ past-end [] x h = refl
 past-end (y ∷ l) zero h = absurd (not-suc-le-zero h)
 past-end (y ∷ l) (suc x) h = past-end l x (le-of-suc-le-suc h)
 
-pub beyond-end : (n x : ℕ) (l : List ℕ) → length l ≤ n → NoneBelow n x → 0 ≡ getD l x 0
+pub beyond-end : BeyondEnd
 beyond-end n x l h none = let p = none-below n x none in past-end l x (omega (arith, p))

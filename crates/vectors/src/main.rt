@@ -164,10 +164,10 @@ fn bytes(s: [[u8; 4]; 4]) -> [u8; 16] {
 // Encrypts a block, and decrypts the result.
 fn cipher(name: &[u8], key: [u8; 16], block: [u8; 16]) {
     let mut schedule = [[[0u8; 4]; 4]; 11];
-    aes128::expand_key(columns(key), &mut schedule);
+    aes_keys::expand_key(columns(key), &mut schedule);
     let hidden = aes128::encrypt(&schedule, columns(block));
     line(name, &bytes(hidden));
-    aes128::invert_keys(&mut schedule);
+    aes_keys::invert_keys(&mut schedule);
     let shown = aes128::decrypt(&schedule, hidden);
     line(name, &bytes(shown));
 }

@@ -1,7 +1,7 @@
 -- `aes128::add_round_key` meets its contract.
 -- Assumes nothing.
-use Rattle.aes128.proofs.Four.{four}
-use Rattle.aes128.specs.State.{addRoundKey}
+use Rattle.fips197.specs.State.{addRoundKey}
+use Rattle.fips197.proofs.Four.{four}
 use borrow.Author.Needs.{needs}
 use Rattle.aes128.proofs.add_round_key.Statement.{statement}
 use Rattle.aes128.proofs.add_round_key.Tie as tie

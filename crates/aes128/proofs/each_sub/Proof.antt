@@ -1,36 +1,48 @@
 -- `aes128::each_sub` meets its contract: after i turns the first i bytes are looked up.
 -- Assumes nothing.
 use mathlib.Core.Path.{_≡_, refl}
-use Prim.Native.Nat.{_≤_, _-_}
+use Prim.Native.Nat.{ℕ, _≤_, _<_, _-_}
 use native.Mathlib.Omega.{arith}
-use lib.ListN.{length}
+use lib.ListN.{getD}
 use Rattle.aes_sbox.specs.Tables.{sbox}
-use Rattle.aes128.specs.Words.{EachBy}
-use Rattle.aes128.proofs.Filled.{looked-up, all-looked-up}
+use Rattle.aes128.specs.Internal.{byteOf, Square}
+use Rattle.aes128.proofs.Square.{blank, looked-next}
 use borrow.Author.Needs.{needs}
 use Rattle.aes128.proofs.each_sub.Statement.{statement}
 use Rattle.aes128.proofs.each_sub.Tie as tie
 
 abbrev Inv-loop : tie.InvT-loop
-Inv-loop b w₀ i₀ w i = (i ≤ 16) × (length w ≡ 16) × EachBy sbox i b w
+Inv-loop b w₀ i₀ w i = (i ≤ 16) × Square w × ((k : ℕ) → k < i → byteOf w k ≡ getD sbox (byteOf b k) 0)
 
 abbrev μ-loop : tie.MeasureT-loop
 μ-loop b w₀ i₀ w i = 16 - i
 
 loop-holds : tie.Need-loop-holds Inv-loop μ-loop
-loop-holds c = (omega arith, refl, λ k h. absurd (omega (arith, h)))
+loop-holds c = (omega arith, blank _ refl, λ k h. absurd (omega (arith, h)))
 
 mul-entry : tie.Need-mul-entry Inv-loop μ-loop
 mul-entry c = search needs
 
-array-read-entry : tie.Need-array-read-entry Inv-loop μ-loop
-array-read-entry c = search needs
+mul-entry-2 : tie.Need-mul-entry-2 Inv-loop μ-loop
+mul-entry-2 c = search needs
+
+index-1-entry : tie.Need-index-1-entry Inv-loop μ-loop
+index-1-entry c = search needs
+
+index-2-entry : tie.Need-index-2-entry Inv-loop μ-loop
+index-2-entry c = search needs
 
 entry-requires : tie.Need-entry-requires Inv-loop μ-loop
 entry-requires c κs = search needs
 
-array-write-w : tie.Need-array-write-w Inv-loop μ-loop
-array-write-w c = search needs
+mul-w : tie.Need-mul-w Inv-loop μ-loop
+mul-w c = search needs
+
+index-1-w : tie.Need-index-1-w Inv-loop μ-loop
+index-1-w c = search needs
+
+index-2-w : tie.Need-index-2-w Inv-loop μ-loop
+index-2-w c = search needs
 
 add-i : tie.Need-add-i Inv-loop μ-loop
 add-i c = search needs
@@ -40,15 +52,16 @@ loop-less c = search needs
 
 loop-again : tie.Need-loop-again Inv-loop μ-loop
 loop-again c =
-    let p = c .before .before in
-    let h = looked-up sbox (p .before .args .t1) 16 (p .loop .i) (p .loop .w)
-    (c .entry .result) (omega arith) (p .loop .inv .1) (p .loop .inv .2) (c .entry .ensures) in
-    (omega arith, h .0, h .1)
+    let p = c .before .before .before in
+    let l = p .loop in
+    let next = looked-next sbox (p .before .args .t1) (l .w) (l .i) _ (l .inv .1) (c .entry .ensures) (omega arith) (l .inv .2) in
+    (omega arith, next .0, next .1)
 
 returns : tie.Need-returns Inv-loop μ-loop
 returns c =
-    let p = c .before in
-    all-looked-up sbox (p .before .args .t1) 16 (p .loop .i) (p .loop .w) (omega arith) (p .loop .inv .2)
+    let l = c .before .loop in
+    let e : l .i ≡ 16 = omega arith in
+    (l .inv .1, λ k h. l .inv .2 k (omega (arith, e, h)))
 
 pub each-sub-spec : {M : Type 1} → statement M
 each-sub-spec =
@@ -58,9 +71,13 @@ each-sub-spec =
     μ-loop
     loop-holds
     mul-entry
-    array-read-entry
+    mul-entry-2
+    index-1-entry
+    index-2-entry
     entry-requires
-    array-write-w
+    mul-w
+    index-1-w
+    index-2-w
     add-i
     loop-less
     loop-again

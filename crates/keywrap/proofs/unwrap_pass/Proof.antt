@@ -3,7 +3,7 @@
 use borrow.Rule.Slice.PartMut.{same-len-mid}
 use Rattle.keywrap.specs.Columns.{flat}
 use Rattle.keywrap.specs.Rfc3394.{Registers, unwrapPass}
-use Rattle.aes128.specs.Cipher.{eqInvCipher}
+use Rattle.fips197.specs.Cipher.{eqInvCipher}
 use Rattle.keywrap.proofs.Parts.{unpass-less}
 use lib.ListN.{length}
 use denote.Ref.{now}

@@ -2,7 +2,7 @@
 -- Assumes nothing.
 use Rattle.keywrap.specs.Columns.{flat}
 use Rattle.keywrap.specs.Rfc3394.{Registers, unwrapPasses}
-use Rattle.aes128.specs.Cipher.{eqInvCipher}
+use Rattle.fips197.specs.Cipher.{eqInvCipher}
 use Rattle.keywrap.proofs.Parts.{unpasses-less, count-less}
 use lib.ListN.{length}
 use denote.Ref.{now}

@@ -2,7 +2,7 @@
 -- Assumes nothing.
 use Rattle.keywrap.specs.Columns.{flat}
 use Rattle.keywrap.specs.Rfc3394.{joined, high, addCount}
-use Rattle.aes128.specs.Cipher.{eqInvCipher}
+use Rattle.fips197.specs.Cipher.{eqInvCipher}
 use Prim.Native.Nat.{ℕ}
 use mathlib.Core.List.{List}
 use denote.Ref.{now}

@@ -3,7 +3,7 @@
 use borrow.Rule.Slice.PartMut.{same-len-mid}
 use Rattle.keywrap.specs.Columns.{flat}
 use Rattle.keywrap.specs.Rfc3394.{Registers, wrapPass}
-use Rattle.aes128.specs.Cipher.{cipher}
+use Rattle.fips197.specs.Cipher.{cipher}
 use Rattle.keywrap.proofs.Parts.{pass-more}
 use lib.ListN.{length}
 use denote.Ref.{now}

@@ -2,7 +2,7 @@
 -- Assumes nothing.
 use Rattle.keywrap.specs.Columns.{flat}
 use Rattle.keywrap.specs.Rfc3394.{Registers, wrapPasses}
-use Rattle.aes128.specs.Cipher.{cipher}
+use Rattle.fips197.specs.Cipher.{cipher}
 use Rattle.keywrap.proofs.Parts.{passes-more, count-more}
 use lib.ListN.{length}
 use denote.Ref.{now}

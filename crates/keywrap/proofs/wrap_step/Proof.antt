@@ -2,7 +2,7 @@
 -- Assumes nothing.
 use Rattle.keywrap.specs.Columns.{flat}
 use Rattle.keywrap.specs.Rfc3394.{high, addCount}
-use Rattle.aes128.specs.Cipher.{cipher}
+use Rattle.fips197.specs.Cipher.{cipher}
 use denote.Ref.{now}
 use Rattle.keywrap.proofs.Parts.{step-is}
 use mathlib.Core.Path.{ap, _∙_}

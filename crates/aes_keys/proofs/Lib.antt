@@ -1,0 +1,2 @@
+mod Expansion
+mod Words
