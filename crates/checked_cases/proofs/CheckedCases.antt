@@ -6,10 +6,10 @@ use lib.ListN.{length}
 use Rattle.slices.specs.Same.{sameList}
 use Rattle.refusal.specs.Checks.{unless, _andThen_, within}
 use Rattle.prf_plus.specs.PrfPlus.{inputAfter, block, blockInput}
-use Rattle.usage.specs.Rfc5295.{usageText}
-use Rattle.usage.specs.Requests.{textOf, inputOf}
-use Rattle.offers.specs.Rfc5448.{stands, repeats, firstSupported, isFirst, chooseCheck, answerCheck, renewedCheck}
-use Rattle.offers.specs.Answers.{firstRound, serverAnswer, serverBuffer, renewedAnswer}
+use Rattle.requests.specs.Rfc5295.{usageText}
+use Rattle.requests.specs.Requests.{textOf, inputOf}
+use Rattle.offer_rules.specs.Rfc5448.{stands, repeats, firstSupported, isFirst, chooseCheck, answerCheck, renewedCheck}
+use Rattle.offer_rules.specs.Answers.{firstRound, serverAnswer, serverBuffer, renewedAnswer}
 use Rattle.keywrap.specs.Calls.{wrappable}
 use Rattle.key_frame.specs.KeyFrame.{header}
 use Rattle.key_attribute.specs.KeyAttribute.{attribute, writeCheck, writeAnswer, writeBuffer}

@@ -8,8 +8,8 @@ use lib.ListN.{length, getD}
 use Rattle.slices.specs.Ascii.{ascii}
 use Rattle.refusal.specs.Checks.{bare, pass, _andThen_}
 use Rattle.refusal.specs.Answers.{Answer, wrote}
-use Rattle.usage.specs.Requests.{forUsage, textOf, inputOf}
-use Rattle.offers.specs.Answers.{FirstAnswer, carryOn, ask, firstRound, serverAnswer, serverBuffer, RenewedAnswer, renewedAnswer}
+use Rattle.requests.specs.Requests.{forUsage, textOf, inputOf}
+use Rattle.offer_rules.specs.Answers.{FirstAnswer, carryOn, ask, firstRound, serverAnswer, serverBuffer, RenewedAnswer, renewedAnswer}
 use Rattle.key_frame.specs.KeyFrame.{check20}
 use Rattle.key_frame.specs.declared.KeyFields.{KeyFields}
 use Rattle.key_attribute.specs.KeyAttribute.{check21, check22, writeAnswer, writeBuffer}
