@@ -4,25 +4,17 @@ use Prim.Native.Nat.{ℕ, zero, suc, _+_, _-_, _<_, _≤_}
 use mathlib.Core.Path.{_≡_, sym, ap, _∙_}
 use mathlib.Core.Bool.{Bool, cond}
 use mathlib.Core.List.{List, _++_, map, append-nil}
-use native.Mathlib.Nat.{zero-add}
-use native.Mathlib.Numerals.{add-one}
 use native.Mathlib.Decide.{decLt}
 use native.Mathlib.Omega.{arith}
 use borrow.Author.Tests.{le-leb, lt-leb}
 use lib.Bits.{bitXor}
 use lib.Dec.{leb}
-use lib.ListN.{length, getD, set, drop, replicate, length-map, List·getD-map, length-append, length-replicate, drop-of-length-le}
-use lib.Seq.{paste, paste-suc, take-all, take-length}
+use lib.ListN.{length, getD, set, take, drop, replicate, length-map, List·getD-map, length-append, length-replicate, drop-of-length-le}
+use lib.Seq.{take-all}
+use Rattle.slices.proofs.Lists.{copy-turn}
 use Rattle.sha256_block.specs.Fips180.{sha256}
 use Rattle.sha256.proofs.Stream.{sha256-length}
 use Rattle.hmac.specs.Rfc2104.{masked, shortKey, keyBlock}
-
--- a turn of a copy from the front
-pub copy-turn : (d s : List ℕ) (j z : ℕ) {r : List ℕ} → r ≡ paste d 0 s j → j < length d → j < length s → set r j (getD s j z) ≡ paste d 0 s (j + 1)
-copy-turn d s j z e hd hs =
-    let h : 0 + j < length d = omega arith in
-    ap (λ (l : List ℕ). set l j (getD s j z)) e ∙ ap (λ (k : ℕ). set (paste d 0 s j) k (getD s j z)) (sym (zero-add j))
-    ∙ paste-suc d 0 s j z h hs ∙ ap (paste d 0 s) (sym (add-one j))
 
 drop-replicate : (n m : ℕ) → drop {A = ℕ} n (replicate m 0) ≡ replicate (m - n) 0
 drop-replicate zero m = let e : m ≡ m - 0 = omega arith in ap (λ (k : ℕ). replicate k 0) e
@@ -30,18 +22,19 @@ drop-replicate (suc n) zero = let e : 0 ≡ 0 - suc n = omega arith in ap (λ (k
 drop-replicate (suc n) (suc m) = let e : m - n ≡ suc m - suc n = omega arith in drop-replicate n m ∙ ap (λ (k : ℕ). replicate k 0) e
 
 -- the whole of s copied over zeros
-pub filled-all : (s : List ℕ) → paste (replicate 64 0) 0 s (length s) ≡ s ++ replicate (64 - length s) 0
-filled-all s = λ i. take-length s i ++ (ap (λ (k : ℕ). drop {A = ℕ} k (replicate 64 0)) (zero-add (length s)) ∙ drop-replicate (length s) 64) i
+pub filled-all : (s : List ℕ) → s ++ drop (length s) (replicate 64 0) ≡ s ++ replicate (64 - length s) 0
+filled-all s = ap (λ (l : List ℕ). s ++ l) (drop-replicate (length s) 64)
 
 -- a turn of the masking, and all its turns
-pub mask-turn : (b : List ℕ) (c j : ℕ) {r : List ℕ} → r ≡ paste b 0 (masked b c) j → j < length b → set r j (bitXor (getD b j 0) c) ≡ paste b 0 (masked b c) (j + 1)
+pub mask-turn : (b : List ℕ) (c j : ℕ) {r : List ℕ} → r ≡ take j (masked b c) ++ drop j b → j < length b
+    → set r j (bitXor (getD b j 0) c) ≡ take (j + 1) (masked b c) ++ drop (j + 1) b
 unfolding masked
 mask-turn b c j {r} e h =
     let f : ℕ → ℕ = λ x. bitXor x c in
     let l : j < length (map f b) = omega (arith, length-map b f) in
     ap (set r j) (sym (List·getD-map f b j 0)) ∙ copy-turn b (map f b) j (f 0) e h l
 
-pub masked-all : (b : List ℕ) (c : ℕ) → length b ≡ 64 → paste b 0 (masked b c) 64 ≡ masked b c
+pub masked-all : (b : List ℕ) (c : ℕ) → length b ≡ 64 → take 64 (masked b c) ++ drop 64 b ≡ masked b c
 unfolding masked
 masked-all b c e =
     let f : ℕ → ℕ = λ x. bitXor x c in

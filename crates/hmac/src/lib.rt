@@ -1,13 +1,13 @@
 // HMAC-SHA-256 (RFC 2104). `mac` is the MAC of one message. A caller that has a message in parts, or many under one key, keeps the
-// hash values after the key's two blocks (section 4), and starts the inner and the outer hash of each message with them.
+// hash values after the key's two blocks in a `Keyed` (section 4), and each message starts with them.
 ghost use mathlib.Core.Path.{_≡_};
 ghost use mathlib.Core.List.{_++_};
 ghost use Prim.Native.Nat.{_-_, _≤_};
 ghost use lib.ListN.{length, replicate};
-ghost use Rattle.sha256_block.specs.Fips180.{sha256};
+ghost use Rattle.sha256_block.specs.Fips180.{sha256, compress, H0};
 ghost use Rattle.hmac.specs.Rfc2104 as Rfc2104;
-ghost use Rattle.hmac.specs.Rfc2104.{keyBlock, hmacSha256};
-ghost use Rattle.hmac.specs.Keyed.{innerValue, outerValue};
+ghost use Rattle.hmac.specs.Rfc2104.{keyBlock, ipad, opad, hmacSha256};
+ghost use Rattle.hmac.specs.Keyed.{keyValue, hashAfter, macByValues};
 use sha256::Sha256;
 
 // The bytes that the key's block is masked with, for the inner hash and for the outer one.
@@ -21,9 +21,7 @@ fn filled(s: &[u8]) -> [u8; Sha256::BLOCK]
     ensures { λ r. ⌜ r ≡ now (s .entry) ++ replicate (64 - length (now (s .entry))) 0 ⌝ }
 {
     let mut r = [0u8; Sha256::BLOCK];
-    for j in 0..s.len() {
-        r[j] = s[j];
-    }
+    bytes::copy(s, &mut r);
     r
 }
 
@@ -39,7 +37,7 @@ fn masked(block: [u8; Sha256::BLOCK], pad: u8) -> [u8; Sha256::BLOCK]
 }
 
 // A key as a block: one over a block is hashed first.
-pub fn key_block(key: &[u8]) -> [u8; Sha256::BLOCK]
+fn key_block(key: &[u8]) -> [u8; Sha256::BLOCK]
     ensures { λ r. ⌜ r ≡ keyBlock sha256 (now (key .entry)) ⌝ }
 {
     if key.len() <= Sha256::BLOCK {
@@ -49,25 +47,69 @@ pub fn key_block(key: &[u8]) -> [u8; Sha256::BLOCK]
     filled(&short)
 }
 
-// The hash value that the inner hash of a message starts with, from the key's block.
-pub fn inner_value(block: [u8; Sha256::BLOCK]) -> [u32; 8]
-    ensures { λ r. ⌜ r ≡ innerValue block ⌝ }
+// The hash value after the key's block masked by a pad.
+fn key_value(block: [u8; Sha256::BLOCK], pad: u8) -> [u32; 8]
+    ensures { λ r. ⌜ r ≡ compress H0 (Rfc2104.masked block pad) ⌝ }
 {
-    sha256::value_of(masked(block, IPAD))
+    sha256::value_of(masked(block, pad))
 }
 
-// The hash value that the outer hash starts with, from the key's block.
-pub fn outer_value(block: [u8; Sha256::BLOCK]) -> [u32; 8]
-    ensures { λ r. ⌜ r ≡ outerValue block ⌝ }
+// The hash of a message after a block of which only the hash value is given.
+fn hash_after(value: [u32; 8], message: &[u8]) -> [u8; Sha256::DIGEST]
+    ensures { λ r. ⌜ r ≡ hashAfter value (now (message .entry)) ⌝ }
 {
-    sha256::value_of(masked(block, OPAD))
+    Sha256::after(value).absorb(message).finish()
+}
+
+// The same for a digest, and so the outer hash.
+fn outer_hash(value: [u32; 8], digest: [u8; Sha256::DIGEST]) -> [u8; Sha256::DIGEST]
+    ensures { λ r. ⌜ r ≡ hashAfter value digest ⌝ }
+{
+    Sha256::after(value).absorb(&digest).finish()
+}
+
+// A key as it is kept for many messages: the hash values that the inner and the outer hash start with.
+pub struct Keyed {
+    inner: [u32; 8],
+    outer: [u32; 8],
+}
+
+impl Keyed {
+    // The hash values of a key. The key's block is not kept beside them.
+    pub fn new(key: &[u8]) -> Self
+        ensures inner { λ r. ⌜ r .inner ≡ keyValue (now (key .entry)) ipad ⌝ }
+        ensures outer { λ r. ⌜ r .outer ≡ keyValue (now (key .entry)) opad ⌝ }
+    {
+        let block = key_block(key);
+        let inner = key_value(block, IPAD);
+        let outer = key_value(block, OPAD);
+        Keyed { inner, outer }
+    }
+
+    // The MAC of a message in six parts.
+    pub fn mac_of<'a>(
+        self,
+        a: &'a [u8],
+        b: &'a [u8],
+        c: &'a [u8],
+        d: &'a [u8],
+        e: &'a [u8],
+        f: &'a [u8],
+    ) -> [u8; Sha256::DIGEST]
+        ensures { λ r. ⌜ r ≡ macByValues (self .inner) (self .outer) (now (a .entry) ++ (now (b .entry) ++ (now (c .entry) ++ (now (d .entry) ++ (now (e .entry) ++ now (f .entry)))))) ⌝ }
+    {
+        let inner = self.inner;
+        let outer = self.outer;
+        let digest = Sha256::after(inner).finish_with(a, b, c, d, e, f);
+        outer_hash(outer, digest)
+    }
 }
 
 // The MAC of a message.
 pub fn mac(key: &[u8], message: &[u8]) -> [u8; Sha256::DIGEST]
     ensures { λ r. ⌜ r ≡ hmacSha256 (now (key .entry)) (now (message .entry)) ⌝ }
 {
-    let block = key_block(key);
-    let digest = sha256::digest_after(inner_value(block), message);
-    sha256::digest_again(outer_value(block), digest)
+    let k = key_block(key);
+    let digest = hash_after(key_value(k, IPAD), message);
+    outer_hash(key_value(k, OPAD), digest)
 }

@@ -6,7 +6,8 @@ use mathlib.Core.List.{List, [], _∷_, _++_, append-assoc}
 use native.Mathlib.Omega.{arith}
 use lib.ListN.{length, length-append}
 use lib.Seq.{length-take-le}
-use Rattle.prf_plus.specs.PrfPlus.{inputAfter, blockCount, block, blockInput, blocks, prfPlus, TwoCases}
+use Rattle.prf_plus.specs.PrfPlus.{inputAfter, blockCount, block, blockInput, blocks, prfPlus}
+use Rattle.prf_plus.specs.Statements.{TwoCases}
 use Rattle.prf_plus.proofs.Lists.{cancel-front, cancel-back}
 
 -- at most 255 blocks, so a block's number is a byte

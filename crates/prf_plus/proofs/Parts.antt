@@ -4,11 +4,9 @@ use Prim.Native.Nat.{ℕ, _+_, _-_, _*_}
 use mathlib.Core.Path.{_≡_, _∙_}
 use mathlib.Core.List.{List, [], _∷_, _++_, append-assoc}
 use lib.ListN.{take, drop}
-use Rattle.sha256_block.specs.Fips180.{sha256}
-use Rattle.sha256.specs.Stream.{hashAfter}
-use Rattle.hmac.specs.Rfc2104.{keyBlock, hmacSha256}
-use Rattle.hmac.specs.Keyed.{innerValue, outerValue, sealed}
-use Rattle.hmac.proofs.Laws.{sealed-law, hmacSha256-length}
+use Rattle.hmac.specs.Rfc2104.{ipad, opad, hmacSha256}
+use Rattle.hmac.specs.Keyed.{keyValue, macByValues}
+use Rattle.hmac.proofs.Laws.{kept-values-give-mac, hmacSha256-length}
 use Rattle.prf_plus.specs.PrfPlus.{inputAfter, block, blocks}
 use Rattle.prf_plus.proofs.Steps.{last-block, next-block}
 
@@ -18,15 +16,13 @@ unfolding inputAfter
 input-parts p a b c d i = simp append-assoc
 
 -- after the last block of a buffer it is the next one
-pub next-under-key : (key a b c d out₀ out : List ℕ) (i from at : ℕ) {inner outer digest r : List ℕ}
-    → inner ≡ innerValue (keyBlock sha256 key) → outer ≡ outerValue (keyBlock sha256 key)
-    → digest ≡ hashAfter inner (take (at - from) (drop from out) ++ (a ++ (b ++ (c ++ (d ++ ((i + 1) ∷ [])))))) → r ≡ hashAfter outer digest
+pub next-under-key : (key a b c d out₀ out : List ℕ) (i from at : ℕ) {inner outer r : List ℕ}
+    → inner ≡ keyValue key ipad → outer ≡ keyValue key opad
+    → r ≡ macByValues inner outer (take (at - from) (drop from out) ++ (a ++ (b ++ (c ++ (d ++ ((i + 1) ∷ []))))))
     → from ≡ 32 * (i - 1) → at ≡ 32 * i → out ≡ take at (blocks hmacSha256 key (a ++ (b ++ (c ++ d))) i) ++ drop at out₀ → r ≡ block hmacSha256 key (a ++ (b ++ (c ++ d))) (i + 1)
-unfolding sealed
-next-under-key key a b c d out₀ out i from at {r = r} ei eo ed er hf ha ho =
+next-under-key key a b c d out₀ out i from at {r = r} ei eo er hf ha ho =
     let previous : List ℕ = take (at - from) (drop from out) in
     let text : List ℕ = a ++ (b ++ (c ++ d)) in
-    let input : List ℕ = inputAfter previous text (i + 1) in
     next-block hmacSha256 hmacSha256-length key text out₀ previous r i
-    (er ∙ (λ j. hashAfter (eo j) ((ed ∙ (λ k. hashAfter (ei k) (input-parts previous a b c d (i + 1) k))) j)) ∙ sealed-law key input)
+    (er ∙ (λ j. macByValues (ei j) (eo j) (input-parts previous a b c d (i + 1) j)) ∙ kept-values-give-mac key (inputAfter previous text (i + 1)))
     (last-block hmacSha256 hmacSha256-length key text out₀ out i from at hf ha ho)

@@ -1,15 +1,19 @@
 -- A loop that expands into a buffer: its blocks stand there one after another, so each block finds the one before it in the buffer.
 -- Over any MAC whose results have 32 bytes.
 -- Assumes nothing.
-use Prim.Native.Nat.{ℕ, zero, suc, _+_, _-_, _*_, _≤_}
+use Prim.Native.Nat.{ℕ, zero, suc, min, _+_, _-_, _*_, _<_, _≤_}
 use mathlib.Core.Path.{_≡_, sym, ap, _∙_}
 use mathlib.Core.List.{List, _++_, append-assoc}
 use native.Mathlib.Omega.{arith}
 use native.Mathlib.Numerals.{add-one}
 use lib.ListN.{length, take, drop}
-use lib.Seq.{take-all, take-at, drop-at, drop-drop, take-append-add, paste}
+use lib.Seq.{length-take-le, take-all, take-at, drop-at, drop-drop, take-append-add, paste}
 use Rattle.prf_plus.specs.PrfPlus.{inputAfter, block, blocks}
 use Rattle.prf_plus.proofs.Laws.{block-length, blocks-length}
+
+-- a turn leaves fewer bytes to write
+pub closer : (n at m : ℕ) → at < n → m ≡ min 32 (n - at) → n - (at + m) < n - at
+closer n at m h e = omega arith
 
 module _ (mac : List ℕ → List ℕ → List ℕ) (mac-length : (k t : List ℕ) → length (mac k t) ≡ 32) (key text out₀ : List ℕ) where
   -- the buffer with the first i blocks at its start
@@ -55,5 +59,10 @@ module _ (mac : List ℕ → List ℕ → List ℕ) (mac-length : (k t : List �
 
   -- the same as the loop has it: out′ is the buffer after the copy of m bytes of the next block r
   pub next-out : (out out′ r : List ℕ) (i m at : ℕ) → at ≡ 32 * i → m ≤ 32 → out ≡ take at (blocks mac key text i) ++ drop at out₀
-      → r ≡ block mac key text (i + 1) → out′ ≡ paste out at r m → out′ ≡ take (at + m) (blocks mac key text (i + 1)) ++ drop (at + m) out₀
-  next-out out out′ r i m at a hm e b p = p ∙ rw (b, add-one, a) (one-more out i m hm (rw a at e))
+      → r ≡ block mac key text (i + 1) → out′ ≡ paste out at (take m r) (length (take m r)) → out′ ≡ take (at + m) (blocks mac key text (i + 1)) ++ drop (at + m) out₀
+  next-out out out′ r i m at a hm e b p =
+      let e32 : length (block mac key text (suc i)) ≡ 32 = block-length mac mac-length key text i in
+      let whole-r : r ≡ block mac key text (suc i) = b ∙ ap (block mac key text) (add-one i) in
+      let size : length (take m r) ≡ m = length-take-le m r (omega (arith, ap length whole-r ∙ e32)) in
+      p ∙ (λ j. paste out at (take m r) (size j)) ∙ ap (λ (l : List ℕ). take at out ++ l ++ drop (at + m) out) (take-all m (take m r) (omega (arith, size)))
+      ∙ rw (b, add-one, a) (one-more out i m hm (rw a at e))

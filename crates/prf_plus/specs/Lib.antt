@@ -1,1 +1,2 @@
 pub mod PrfPlus
+pub mod Statements

@@ -2,14 +2,13 @@
 -- call that expands. A byte string is a list of numbers.
 -- Assumes nothing.
 use Prim.Native.Nat.{ℕ, zero, suc, _+_, _/_}
-use mathlib.Core.Path.{_≡_}
 use mathlib.Core.List.{List, [], _∷_, _++_}
 use lib.ListN.{take}
 use Rattle.refusal.specs.Checks.{Check, bare, unless, _andThen_, within, check6}
 
 -- the bytes handed to the MAC for block i, after the block `previous`: previous, then S, then the byte i.
 -- The paper has two cases, block 1 and the later blocks. Nothing stands before T1, so T0 is empty here and the two are one;
--- `TwoCases`, below, is the paper's text
+-- `TwoCases` of Statements.antt is the paper's text
 unfoldable pub inputAfter : List ℕ → List ℕ → ℕ → List ℕ
 inputAfter previous text i = previous ++ (text ++ (i ∷ []))
 
@@ -36,14 +35,6 @@ module _ (mac : List ℕ → List ℕ → List ℕ) where
   -- the first n bytes of T1, T2 and on
   unfoldable pub prfPlus : List ℕ → List ℕ → ℕ → List ℕ
   prfPlus key text n = take n (blocks key text (blockCount n))
-
--- document 01's two cases, word for word: T1 = HMAC(K, S then 01); each later Ti = HMAC(K, T(i-1) then S then the byte i).
--- `two-cases` of proofs/Laws.antt shows it of every MAC
-abbrev pub TwoCases : (List ℕ → List ℕ → List ℕ) → Type 0
-TwoCases mac =
-    (key text : List ℕ)
-    → (block mac key text 1 ≡ mac key (text ++ (1 ∷ [])))
-    × ((i : ℕ) → block mac key text (suc (suc i)) ≡ mac key (block mac key text (suc i) ++ (text ++ (suc (suc i) ∷ []))))
 
 -- 5: key length not 1 to 8,160
 abbrev pub check5 : ℕ → Check

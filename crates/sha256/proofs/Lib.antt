@@ -1,4 +1,4 @@
 pub mod Stream
-pub mod Resumed
-mod Closing
+pub mod Copies
+mod Digests
 mod Parts

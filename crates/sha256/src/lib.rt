@@ -1,13 +1,14 @@
-// SHA-256 of a message (FIPS 180-4): at once, in parts that are absorbed one after another, or by a hash in progress that is passed by
-// value. No branch and no index goes by the bytes absorbed, only by their count.
+// SHA-256 of a message (FIPS 180-4): at once, or by a hash in progress that is passed by value. No branch and no index goes by the bytes
+// absorbed, only by their count.
 ghost use mathlib.Core.Path.{_≡_};
 ghost use mathlib.Core.List.{_∷_, _++_};
-ghost use Prim.Native.Nat.{_+_, _-_, _*_, _/_, _<_, _≤_, _%_, _^_, min};
+ghost use Prim.Native.Nat.{_+_, _-_, _*_, _/_, _<_, _≤_, _%_, _^_};
 ghost use lib.ListN.{length, take, replicate};
 ghost use lib.Seq.{paste};
+ghost use Rattle.slices.specs.Numbers.{be64};
 ghost use Rattle.sha256_block.specs.Fips180 as Fips180;
-ghost use Rattle.sha256.specs.Steps as Steps;
-ghost use Rattle.sha256.specs.Stream as Stream;
+ghost use Rattle.sha256.specs.Stream.{progress, started, startedAfter, absorbed, finished};
+ghost use Rattle.sha256.specs.Internal.{parts, closing, partAt};
 use sha256_block::compress_blocks;
 
 // The first hash value (5.3.3).
@@ -22,34 +23,19 @@ const H0: [u32; 8] = [
     0x5be0cd19,
 ];
 
-// A hash in progress: the hash value of the whole blocks absorbed, the bytes after these, and the count of all bytes.
+// A hash in progress: the hash value after the whole blocks absorbed, the block that is being filled, and the count of all bytes.
 pub struct Sha256 {
     h: [u32; 8],
     block: [u8; 64],
     count: u64,
 }
 
-// A word as four bytes, high byte first.
-fn bytes(x: u32) -> [u8; 4]
-    ensures { λ r. ⌜ r ≡ Fips180.be32 x ⌝ }
+// Writes `part` into `bytes` from index `at` on.
+fn put(bytes: &mut [u8], at: usize, part: &[u8])
+    requires { ⌜ at + length (now part) ≤ length (now bytes) ⌝ }
+    ensures { λ _. ⌜ now (bytes .exit) ≡ paste (now (bytes .entry)) at (now (part .entry)) (length (now (part .entry))) ⌝ }
 {
-    [
-        (x / 0x1000000 % 256) as u8,
-        (x / 0x10000 % 256) as u8,
-        (x / 0x100 % 256) as u8,
-        (x % 256) as u8,
-    ]
-}
-
-// Writes a word to the digest from index `at` on: by a copy of four bytes, which is compiled to one store.
-fn put_word(out: &mut [u8; 32], at: usize, x: u32)
-    requires { ⌜ (at + 4 ≤ 32) × (length (now out) ≡ 32) ⌝ }
-    ensures { λ _. ⌜ now (out .exit) ≡ paste (now (out .entry)) at (Fips180.be32 x) 4 ⌝ }
-{
-    let b = bytes(x);
-    for j in 0..4 {
-        out[at + j] = b[j];
-    }
+    bytes::copy(part, &mut bytes[at..]);
 }
 
 // The digest, from the last hash value.
@@ -57,32 +43,11 @@ fn to_bytes(h: [u32; 8]) -> [u8; 32]
     ensures { λ r. ⌜ r ≡ Fips180.digest h ⌝ }
 {
     let mut r: [u8; 32] = [0; 32];
-    put_word(&mut r, 0, h[0]);
-    put_word(&mut r, 4, h[1]);
-    put_word(&mut r, 8, h[2]);
-    put_word(&mut r, 12, h[3]);
-    put_word(&mut r, 16, h[4]);
-    put_word(&mut r, 20, h[5]);
-    put_word(&mut r, 24, h[6]);
-    put_word(&mut r, 28, h[7]);
-    r
-}
-
-// The lesser of two numbers.
-fn least(x: usize, y: usize) -> usize
-    ensures { λ r. ⌜ r ≡ min x y ⌝ }
-{
-    if x < y { x } else { y }
-}
-
-// Writes `part` into the block from index `at` on: by a loop, which is compiled to a copy.
-fn fill(block: &mut [u8; 64], at: usize, part: &[u8])
-    requires { ⌜ (at + length (now part) ≤ 64) × (length (now block) ≡ 64) ⌝ }
-    ensures { λ _. ⌜ now (block .exit) ≡ paste (now (block .entry)) at (now (part .entry)) (length (now (part .entry))) ⌝ }
-{
-    for j in 0..part.len() {
-        block[at + j] = part[j];
+    for j in 0..8 {
+        let word = slices::be32(h[j]);
+        put(&mut r, 4 * j, &word);
     }
+    r
 }
 
 // Ends the message after the block's first `at` bytes: a bit 1, and zeros.
@@ -99,7 +64,7 @@ fn mark(block: &mut [u8; 64], at: usize)
 // Writes the message's length in bits, modulo 2^64, to the block's last eight bytes.
 fn put_length(block: &mut [u8; 64], count: u64)
     requires { ⌜ length (now block) ≡ 64 ⌝ }
-    ensures { λ _. ⌜ now (block .exit) ≡ take 56 (now (block .entry)) ++ Fips180.be64 (8 * count % 2 ^ 64) ⌝ }
+    ensures { λ _. ⌜ now (block .exit) ≡ take 56 (now (block .entry)) ++ be64 (8 * count % 2 ^ 64) ⌝ }
 {
     let bits = (count % 0x2000000000000000) * 8;
     block[56] = (bits / 0x100000000000000 % 256) as u8;
@@ -113,49 +78,49 @@ fn put_length(block: &mut [u8; 64], count: u64)
 }
 
 // The last hash value, from a last block that lacks only the length.
-fn last(h: [u32; 8], block: &mut [u8; 64], count: u64) -> [u32; 8]
+fn compress_last(h: [u32; 8], block: &mut [u8; 64], count: u64) -> [u32; 8]
     requires { ⌜ length (now block) ≡ 64 ⌝ }
-    ensures { λ r. ⌜ r ≡ Fips180.compress h (take 56 (now (block .entry)) ++ Fips180.be64 (8 * count % 2 ^ 64)) ⌝ }
+    ensures { λ r. ⌜ r ≡ Fips180.compress h (take 56 (now (block .entry)) ++ be64 (8 * count % 2 ^ 64)) ⌝ }
 {
     put_length(block, count);
     compress_blocks(h, block)
 }
 
 // The last hash value of a message of `count` bytes: one block more, or two where the length finds no room after the bit 1.
-fn closed(h: [u32; 8], block: &mut [u8; 64], count: u64) -> [u32; 8]
+fn last_value(h: [u32; 8], block: &mut [u8; 64], count: u64) -> [u32; 8]
     requires { ⌜ length (now block) ≡ 64 ⌝ }
-    ensures { λ r. ⌜ r ≡ Steps.closing h (take (count % 64) (now (block .entry))) count ⌝ }
+    ensures { λ r. ⌜ r ≡ closing h (take (count % 64) (now (block .entry))) count ⌝ }
 {
     let at = (count % 64) as usize;
     mark(block, at);
     if at < 56 {
-        return last(h, block, count);
+        return compress_last(h, block, count);
     }
     let g = compress_blocks(h, block);
     *block = [0; 64];
-    last(g, block, count)
+    compress_last(g, block, count)
 }
 
 // The digest of that message.
-fn sealed(h: [u32; 8], block: &mut [u8; 64], count: u64) -> [u8; 32]
+fn last_digest(h: [u32; 8], block: &mut [u8; 64], count: u64) -> [u8; 32]
     requires { ⌜ length (now block) ≡ 64 ⌝ }
-    ensures { λ r. ⌜ r ≡ Fips180.digest (Steps.closing h (take (count % 64) (now (block .entry))) count) ⌝ }
+    ensures { λ r. ⌜ r ≡ Fips180.digest (closing h (take (count % 64) (now (block .entry))) count) ⌝ }
 {
-    to_bytes(closed(h, block, count))
+    to_bytes(last_value(h, block, count))
 }
 
-// Absorbs the bytes of s into a hash in progress, whose parts are changed where they lie: by value it would be copied at each call. The
-// next count is returned. The bytes that the block has room for are copied before the branch, so that the compiler lays out one copy for
-// those that fill it and those that leave it short of full. The latter are only copied.
+// Absorbs the bytes of s into the parts of a hash in progress, which are changed where they lie: by value they would be copied at each
+// call. The next count is returned. The bytes that the block has room for are copied before the branch, so that the compiler lays out one
+// copy for those that fill it and those that leave it short of full. The latter are only copied.
 fn absorb_into(h: &mut [u32; 8], block: &mut [u8; 64], count: u64, s: &[u8]) -> u64
     requires { ⌜ length (now block) ≡ 64 ⌝ }
-    ensures { λ r. ⌜ Stream.inProgress (now (h .exit)) (now (block .exit)) r ≡ Stream.absorbed (Stream.inProgress (now (h .entry)) (now (block .entry)) count) (now (s .entry)) ⌝ }
+    ensures { λ r. ⌜ parts (now (h .exit)) (now (block .exit)) r ≡ absorbed (parts (now (h .entry)) (now (block .entry)) count) (now (s .entry)) ⌝ }
 {
     let at = (count % 64) as usize;
     let n = s.len();
     let next = std::num::wrapping_add_u64(count, n as u64);
-    let k = least(n, 64 - at);
-    fill(block, at, &s[..k]);
+    let k = slices::least(n, 64 - at);
+    put(block, at, &s[..k]);
     if n < 64 - at {
         return next;
     }
@@ -163,84 +128,8 @@ fn absorb_into(h: &mut [u32; 8], block: &mut [u8; 64], count: u64, s: &[u8]) -> 
     *h = compress_blocks(g, &s[k..]);
     let rest = n - (n - k) % 64;
     *block = [0; 64];
-    fill(block, 0, &s[rest..]);
+    put(block, 0, &s[rest..]);
     next
-}
-
-impl Sha256 {
-    pub const BLOCK: usize = 64;
-
-    pub const DIGEST: usize = 32;
-
-    // The hash of nothing yet.
-    pub fn new() -> Self
-        ensures { λ r. ⌜ r ≡ Stream.started ⌝ }
-    {
-        Sha256 {
-            h: H0,
-            block: [0; 64],
-            count: 0,
-        }
-    }
-
-    // The hash after the bytes of s.
-    pub fn absorb(self, s: &[u8]) -> Self
-        ensures { λ r. ⌜ r ≡ Stream.absorbed self (now (s .entry)) ⌝ }
-    {
-        let mut h = self.h;
-        let mut block = self.block;
-        let count = absorb_into(&mut h, &mut block, self.count, s);
-        Sha256 { h, block, count }
-    }
-
-    // The digest of all that was absorbed.
-    pub fn finish(self) -> [u8; 32]
-        ensures { λ r. ⌜ r ≡ Stream.finished self ⌝ }
-    {
-        let h = self.h;
-        let mut block = self.block;
-        let count = self.count;
-        sealed(h, &mut block, count)
-    }
-}
-
-// The hash of two parts, one after the other.
-pub fn digest_of_two(first: &[u8], second: &[u8]) -> [u8; 32]
-    ensures { λ r. ⌜ r ≡ Fips180.sha256 (now (first .entry) ++ now (second .entry)) ⌝ }
-{
-    let s = Sha256::new();
-    let mut h = s.h;
-    let mut block = s.block;
-    let one = absorb_into(&mut h, &mut block, s.count, first);
-    let both = absorb_into(&mut h, &mut block, one, second);
-    sealed(h, &mut block, both)
-}
-
-// The hash value after one block.
-pub fn value_of(block: [u8; 64]) -> [u32; 8]
-    ensures { λ r. ⌜ r ≡ Fips180.compress Fips180.H0 block ⌝ }
-{
-    compress_blocks(H0, &block)
-}
-
-// The hash of one block, of which only the hash value is given, and a message after it: what HMAC keeps of a key and starts each message
-// with.
-pub fn digest_after(value: [u32; 8], message: &[u8]) -> [u8; 32]
-    ensures { λ r. ⌜ r ≡ Stream.hashAfter value (now (message .entry)) ⌝ }
-{
-    let mut h = value;
-    let mut block = [0; 64];
-    let all = absorb_into(&mut h, &mut block, 64, message);
-    sealed(h, &mut block, all)
-}
-
-// The same for a message that is a digest: it needs no absorbing.
-pub fn digest_again(value: [u32; 8], digest: [u8; 32]) -> [u8; 32]
-    ensures { λ r. ⌜ r ≡ Stream.hashAfter value digest ⌝ }
-{
-    let mut block = [0; 64];
-    fill(&mut block, 0, &digest);
-    sealed(value, &mut block, 96)
 }
 
 // The part at place j.
@@ -253,7 +142,7 @@ fn part<'a>(
     e: &'a [u8],
     f: &'a [u8],
 ) -> &'a [u8]
-    ensures { λ r. ⌜ now r ≡ Steps.partAt j (now (a .entry)) (now (b .entry)) (now (c .entry)) (now (d .entry)) (now (e .entry)) (now (f .entry)) ⌝ }
+    ensures { λ r. ⌜ now r ≡ partAt j (now (a .entry)) (now (b .entry)) (now (c .entry)) (now (d .entry)) (now (e .entry)) (now (f .entry)) ⌝ }
 {
     match j {
         0 => a,
@@ -265,27 +154,90 @@ fn part<'a>(
     }
 }
 
-// The same for a message in six parts. They are absorbed in one loop, so that the compiler lays out the code for one.
-pub fn digest_after_parts<'a>(
-    value: [u32; 8],
-    a: &'a [u8],
-    b: &'a [u8],
-    c: &'a [u8],
-    d: &'a [u8],
-    e: &'a [u8],
-    f: &'a [u8],
-) -> [u8; 32]
-    ensures { λ r. ⌜ r ≡ Stream.hashAfter value (now (a .entry) ++ (now (b .entry) ++ (now (c .entry) ++ (now (d .entry) ++ (now (e .entry) ++ now (f .entry)))))) ⌝ }
-{
-    let mut h = value;
-    let mut block = [0; 64];
-    let mut count: u64 = 64;
-    for j in 0..6 {
-        let s = part(j, a, b, c, d, e, f);
-        let next = absorb_into(&mut h, &mut block, count, s);
-        count = next;
+impl Sha256 {
+    pub const BLOCK: usize = 64;
+
+    pub const DIGEST: usize = 32;
+
+    // The hash of nothing yet.
+    pub fn new() -> Self
+        ensures { λ r. ⌜ progress r ≡ started ⌝ }
+    {
+        Sha256 {
+            h: H0,
+            block: [0; 64],
+            count: 0,
+        }
     }
-    sealed(h, &mut block, count)
+
+    // The hash after one block, of which only the hash value is given: HMAC keeps that of a key and starts each message with it.
+    pub fn after(value: [u32; 8]) -> Self
+        ensures { λ r. ⌜ progress r ≡ startedAfter value ⌝ }
+    {
+        Sha256 {
+            h: value,
+            block: [0; 64],
+            count: 64,
+        }
+    }
+
+    // The hash after the bytes of s.
+    pub fn absorb(self, s: &[u8]) -> Self
+        ensures { λ r. ⌜ progress r ≡ absorbed (progress self) (now (s .entry)) ⌝ }
+    {
+        let mut h = self.h;
+        let mut block = self.block;
+        let count = absorb_into(&mut h, &mut block, self.count, s);
+        Sha256 { h, block, count }
+    }
+
+    // The digest of all that was absorbed.
+    pub fn finish(self) -> [u8; 32]
+        ensures { λ r. ⌜ r ≡ finished (progress self) ⌝ }
+    {
+        let h = self.h;
+        let mut block = self.block;
+        let count = self.count;
+        last_digest(h, &mut block, count)
+    }
+
+    // The digest of all that was absorbed and of six parts after it. They are absorbed in one loop, so that the compiler lays out the code
+    // for one.
+    pub fn finish_with<'a>(
+        self,
+        a: &'a [u8],
+        b: &'a [u8],
+        c: &'a [u8],
+        d: &'a [u8],
+        e: &'a [u8],
+        f: &'a [u8],
+    ) -> [u8; 32]
+        ensures { λ r. ⌜ r ≡ finished (absorbed (progress self) (now (a .entry) ++ (now (b .entry) ++ (now (c .entry) ++ (now (d .entry) ++ (now (e .entry) ++ now (f .entry))))))) ⌝ }
+    {
+        let mut h = self.h;
+        let mut block = self.block;
+        let mut count = self.count;
+        for j in 0..6 {
+            let s = part(j, a, b, c, d, e, f);
+            let next = absorb_into(&mut h, &mut block, count, s);
+            count = next;
+        }
+        last_digest(h, &mut block, count)
+    }
+}
+
+// The hash of two parts, one after the other.
+pub fn digest_of_two(first: &[u8], second: &[u8]) -> [u8; 32]
+    ensures { λ r. ⌜ r ≡ Fips180.sha256 (now (first .entry) ++ now (second .entry)) ⌝ }
+{
+    Sha256::new().absorb(first).absorb(second).finish()
+}
+
+// The hash value after one block.
+pub fn value_of(block: [u8; 64]) -> [u32; 8]
+    ensures { λ r. ⌜ r ≡ Fips180.compress Fips180.H0 block ⌝ }
+{
+    compress_blocks(H0, &block)
 }
 
 // The hash value after the message's whole blocks.
@@ -303,6 +255,6 @@ pub fn digest(message: &[u8]) -> [u8; 32]
     let n = message.len();
     let rest = n - n % 64;
     let mut block: [u8; 64] = [0; 64];
-    fill(&mut block, 0, &message[rest..]);
-    sealed(h, &mut block, n as u64)
+    put(&mut block, 0, &message[rest..]);
+    last_digest(h, &mut block, n as u64)
 }

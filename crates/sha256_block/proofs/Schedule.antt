@@ -1,8 +1,9 @@
 -- The schedule's words: what FIPS 180-4 says of W t, and the next sixteen from sixteen.
 -- Assumes nothing.
-use mathlib.Core.Path.{_≡_, refl, sym, ap, _∙_}
+use mathlib.Core.Path.{_≡_, refl, sym, ap, _∙_, subst}
+use mathlib.Core.Bool.{cond}
 use mathlib.Core.List.{List, [], _∷_, _++_}
-use Prim.Native.Nat.{ℕ, zero, suc, _+_, _-_, _<_}
+use Prim.Native.Nat.{ℕ, zero, suc, _+_, _-_, _<_, _≤_}
 use native.Mathlib.Nat.{add-assoc}
 use native.Mathlib.Decide.{decLt}
 use native.Mathlib.Omega.{arith}
@@ -10,8 +11,11 @@ use borrow.Author.Tests.{lt-ltb, le-ltb}
 use lib.ListN.{length, getD, set, length-append, List·getD-append}
 use lib.Seq.{getD-at}
 use lib.Dec.{ltb, lit<}
-use Rattle.sha256_block.specs.Fips180.{W, schedule, wordAt, word, nextW, pick}
-use Rattle.sha256_block.specs.Steps.{window}
+use Rattle.fips180.specs.Words.{word}
+use Rattle.sha256_round.specs.Functions.{nextW}
+use Rattle.sha256_block.specs.Fips180.{W, schedule, wordAt}
+use Rattle.sha256_block.specs.Statements.{ScheduleByCases}
+use Rattle.sha256_block.specs.Internal.{window}
 
 len : (b : List ℕ) (t : ℕ) → length (schedule b t) ≡ t
 unfolding schedule
@@ -34,11 +38,11 @@ stable b (suc t) k h = go (stable b t k) (decLt k t)
         let e : k ≡ t = omega arith in
         getD-at (schedule b t) (wordAt b (schedule b t) t) [] 0 k (len b t ∙ sym e) ∙ sym (is b t) ∙ ap (W b) (sym e)
 
-pub early : (b : List ℕ) (t : ℕ) → t < 16 → W b t ≡ word b t
+early : (b : List ℕ) (t : ℕ) → t < 16 → W b t ≡ word b t
 unfolding wordAt
 early b t h = is b t ∙ simp (lt-ltb t 16 h)
 
-pub late : (b : List ℕ) (t : ℕ) → W b (t + 16) ≡ nextW (W b (t + 14)) (W b (t + 9)) (W b (t + 1)) (W b t)
+late : (b : List ℕ) (t : ℕ) → W b (t + 16) ≡ nextW (W b (t + 14)) (W b (t + 9)) (W b (t + 1)) (W b t)
 unfolding wordAt
 late b t =
     is b (t + 16) ∙ simp (le-ltb (t + 16) 16 (omega arith))
@@ -46,6 +50,17 @@ late b t =
   where
     at : (j k : ℕ) → j ≡ k → k < t + 16 → getD (schedule b (t + 16)) j 0 ≡ W b k
     at j k e h = ap (λ (n : ℕ). getD (schedule b (t + 16)) n 0) e ∙ stable b (t + 16) k h
+
+pub schedule-by-cases : ScheduleByCases
+schedule-by-cases b t = (early b t, λ h. let e : t - 16 + 16 ≡ t = omega arith in subst (λ (n : ℕ). W b n ≡ nextW (W b (n - 2)) (W b (n - 7)) (W b (n - 15)) (W b (n - 16))) e (places (t - 16)))
+  where
+    places : (k : ℕ) → W b (k + 16) ≡ nextW (W b (k + 16 - 2)) (W b (k + 16 - 7)) (W b (k + 16 - 15)) (W b (k + 16 - 16))
+    places k =
+        let e2 : k + 14 ≡ k + 16 - 2 = omega arith in
+        let e7 : k + 9 ≡ k + 16 - 7 = omega arith in
+        let e15 : k + 1 ≡ k + 16 - 15 = omega arith in
+        let e16 : k ≡ k + 16 - 16 = omega arith in
+        late b k ∙ (λ i. nextW (W b (e2 i)) (W b (e7 i)) (W b (e15 i)) (W b (e16 i)))
 
 -- a block's own words are the first sixteen
 pub loaded : (b : List ℕ) (r0 r1 r2 r3 r4 r5 r6 r7 r8 r9 r10 r11 r12 r13 r14 r15 : ℕ)
@@ -78,7 +93,7 @@ fresh b t i e ep eq er es =
 
 -- the window while it is refilled: the first n places have the words from t + 16 on, the others still those from t on
 abbrev pub place : ℕ → ℕ → ℕ
-place n i = pick (ltb i n) (i + 16) i
+place n i = cond (ltb i n) (i + 16) i
 
 unfoldable pub mixed : List ℕ → ℕ → ℕ → List ℕ
 mixed b t n =

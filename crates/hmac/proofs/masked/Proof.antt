@@ -1,18 +1,18 @@
 -- `hmac::masked` meets its contract. The loop's invariant: the first j bytes are those of the masked block.
 -- Assumes nothing.
-use Prim.Native.Nat.{_-_, _≤_}
+use Prim.Native.Nat.{ℕ, _-_, _≤_}
 use mathlib.Core.Path.{_≡_, refl, ap, _∙_}
+use mathlib.Core.List.{_++_}
 use native.Mathlib.Omega.{arith}
 use borrow.Author.Needs.{needs}
-use lib.ListN.{length}
-use lib.Seq.{paste}
+use lib.ListN.{length, take, drop}
 use Rattle.hmac.specs.Rfc2104 as rfc
 use Rattle.hmac.proofs.Blocks.{mask-turn, masked-all}
 use Rattle.hmac.proofs.masked.Statement.{statement}
 use Rattle.hmac.proofs.masked.Tie as tie
 
 abbrev Inv-loop : tie.InvT-loop
-Inv-loop pad block r₀ j₀ r j = (j ≤ 64) × (length block ≡ 64) × (r ≡ paste block 0 (rfc.masked block pad) j)
+Inv-loop pad block r₀ j₀ r j = (j ≤ 64) × (length block ≡ 64) × (r ≡ take j (rfc.masked block pad) ++ drop j block)
 
 abbrev μ-loop : tie.MeasureT-loop
 μ-loop pad block r₀ j₀ r j = 64 - j
@@ -43,7 +43,7 @@ returns c =
     let a = c .before .before .args in
     let l = c .before .loop in
     let e : l .j ≡ 64 = omega arith in
-    l .inv .2 ∙ ap (paste (a .t1) 0 (rfc.masked (a .t1) (a .pad))) e ∙ masked-all (a .t1) (a .pad) (l .inv .1)
+    l .inv .2 ∙ ap (λ (n : ℕ). take n (rfc.masked (a .t1) (a .pad)) ++ drop n (a .t1)) e ∙ masked-all (a .t1) (a .pad) (l .inv .1)
 
 pub masked-spec : {M : Type 1} → statement M
 masked-spec =

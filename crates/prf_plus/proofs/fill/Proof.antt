@@ -2,57 +2,57 @@
 -- stood there; the last block starts at `from`, where the next finds it.
 -- Assumes nothing.
 use Prim.Native.Nat.{ℕ, min, _+_, _-_, _*_, _/_, _≤_, _<_}
-use mathlib.Core.Path.{_≡_, refl, _∙_}
+use mathlib.Core.Path.{_≡_, refl, sym, ap, _∙_}
 use mathlib.Core.List.{List, _++_}
+use native.Mathlib.Nat.{le-refl}
 use native.Mathlib.Omega.{arith}
 use borrow.Author.Needs.{needs}
 use denote.Ref.{now}
-use lib.ListN.{length, take, drop}
+use lib.ListN.{length, take, drop, length-take, length-drop}
+use lib.Seq.{length-paste, length-take-le}
 use Rattle.hmac.specs.Rfc2104.{hmacSha256}
 use Rattle.hmac.proofs.Laws.{hmacSha256-length}
 use Rattle.prf_plus.specs.PrfPlus.{blocks, prfPlus, blockCount}
+use Rattle.sha256.proofs.Copies.{copied-part}
 use Rattle.prf_plus.proofs.Parts.{next-under-key}
-use Rattle.prf_plus.proofs.Steps.{next-out}
+use Rattle.prf_plus.proofs.Steps.{next-out, closer}
 use Rattle.prf_plus.proofs.fill.Statement.{statement}
 use Rattle.prf_plus.proofs.fill.Tie as tie
 
 abbrev Inv-loop : tie.InvT-loop
-Inv-loop key a b c d n out₀ inner outer i₀ from₀ at₀ out i from at =
+Inv-loop key a b c d n out₀ k i₀ from₀ at₀ out i from at =
     (from ≡ 32 * (i - 1)) × (at ≡ min n (32 * i)) × (32 * i < n + 32)
     × (length out ≡ length out₀) × (out ≡ take at (blocks hmacSha256 key (a ++ (b ++ (c ++ d))) i) ++ drop at out₀)
 
 abbrev μ-loop : tie.MeasureT-loop
-μ-loop key a b c d n out₀ inner outer i₀ from₀ at₀ out i from at = n - at
+μ-loop key a b c d n out₀ k i₀ from₀ at₀ out i from at = n - at
 
-key-values-requires : tie.Need-key-values-requires Inv-loop μ-loop
-key-values-requires c κs = search needs
+new-requires : tie.Need-new-requires Inv-loop μ-loop
+new-requires c κs = search needs
 
 loop-holds : tie.Need-loop-holds Inv-loop μ-loop
 loop-holds c = (omega arith, omega arith, omega arith, refl, refl)
 
-add-i : tie.Need-add-i Inv-loop μ-loop
-add-i c = search needs
+add-next : tie.Need-add-next Inv-loop μ-loop
+add-next c = search needs
 
-cast-t19 : tie.Need-cast-t19 Inv-loop μ-loop
-cast-t19 c = search needs
+cast-byte : tie.Need-cast-byte Inv-loop μ-loop
+cast-byte c = search needs
 
-sub-digest-after-parts : tie.Need-sub-digest-after-parts Inv-loop μ-loop
-sub-digest-after-parts c = search needs
+sub-mac-of : tie.Need-sub-mac-of Inv-loop μ-loop
+sub-mac-of c = search needs
 
-part-digest-after-parts-start : tie.Need-part-digest-after-parts-start Inv-loop μ-loop
-part-digest-after-parts-start c = search needs
+part-mac-of-start : tie.Need-part-mac-of-start Inv-loop μ-loop
+part-mac-of-start c = search needs
 
-part-digest-after-parts-end : tie.Need-part-digest-after-parts-end Inv-loop μ-loop
-part-digest-after-parts-end c = search needs
+part-mac-of-end : tie.Need-part-mac-of-end Inv-loop μ-loop
+part-mac-of-end c = search needs
 
-slice-aggregate-digest-after-parts : tie.Need-slice-aggregate-digest-after-parts Inv-loop μ-loop
-slice-aggregate-digest-after-parts c = search needs
+slice-aggregate-mac-of : tie.Need-slice-aggregate-mac-of Inv-loop μ-loop
+slice-aggregate-mac-of c = search needs
 
-digest-after-parts-requires : tie.Need-digest-after-parts-requires Inv-loop μ-loop
-digest-after-parts-requires c κs = search needs
-
-digest-again-requires : tie.Need-digest-again-requires Inv-loop μ-loop
-digest-again-requires c κs = search needs
+mac-of-requires : tie.Need-mac-of-requires Inv-loop μ-loop
+mac-of-requires c κs = search needs
 
 sub-least : tie.Need-sub-least Inv-loop μ-loop
 sub-least c = search needs
@@ -60,46 +60,69 @@ sub-least c = search needs
 least-requires : tie.Need-least-requires Inv-loop μ-loop
 least-requires c κs = search needs
 
-slice-aggregate-copy-at : tie.Need-slice-aggregate-copy-at Inv-loop μ-loop
-slice-aggregate-copy-at c = search needs
+array-share-prefix-t : tie.Need-array-share-prefix-t Inv-loop μ-loop
+array-share-prefix-t c = search needs
 
-copy-at-requires : tie.Need-copy-at-requires Inv-loop μ-loop
-copy-at-requires c κs = search needs
+slice-aggregate-copy : tie.Need-slice-aggregate-copy Inv-loop μ-loop
+slice-aggregate-copy c =
+    let m = c .before .least .result in
+    let t = c .before .before .mac-of .result in
+    let l : length t ≡ 32 = search needs in
+    let h : m ≤ length t = omega arith in
+    sym (length-take-le m t h)
+
+sub-copy : tie.Need-sub-copy Inv-loop μ-loop
+sub-copy c = search needs
+
+part-copy-start : tie.Need-part-copy-start Inv-loop μ-loop
+part-copy-start c = search needs
+
+part-copy-end : tie.Need-part-copy-end Inv-loop μ-loop
+part-copy-end c = search needs
+
+copy-requires : tie.Need-copy-requires Inv-loop μ-loop
+copy-requires c κs =
+    let p = c .before .before .before .before .before .before .before .before in
+    let room : p .before .before .before .before .before .before .before .before .args .n ≤ length (now (p .before .before .before .before .before .before .before .before .args .out)) = p .before .before .before .before .before .before .before .before .pre .1 in
+    let size = c .before .before .least .ensures in
+    let kept = p .loop .inv .3 in
+    simp (length-take, length-drop) (omega arith)
 
 add-at : tie.Need-add-at Inv-loop μ-loop
 add-at c =
-    let l = c .before .before .before .before .before .before .before .before .before .before .before .before in
-    let start = l .before .before .before .before .before .before .before .before .before .before in
-    let most : start .args .n ≤ 8160 = start .pre .0 in
+    let l = c .before .before .before .before .before .before .before .before .before .before .before in
+    let most : l .before .before .before .before .before .before .before .before .args .n ≤ 8160 = l .before .before .before .before .before .before .before .before .pre .0 in
     let inv = l .loop .inv .1 in
     let size = c .before .before .before .before .before .least .ensures in
     search needs
 
 loop-less : tie.Need-loop-less Inv-loop μ-loop
-loop-less c = search needs
+loop-less c = closer _ _ _ (c .before .before .before .before .before .before .before .before .before .before .loop-test .taken) (c .before .before .before .before .before .least .ensures)
 
 loop-again : tie.Need-loop-again Inv-loop μ-loop
 loop-again c =
-    let g = c .before .before .before .before .before .before in
-    let p = g .before in
-    let at = p .before .before .before .before .before in
-    let l = at .loop in
-    let v = at .before .before .before in
-    let start = v .before .before .before .before .before .before .before in
+    let p = c .before .before .before .before .before .before in
+    let here = p .before .before .before .before .before in
+    let l = here .loop in
+    let start = here .before .before .before .before .before .before .before .before in
     let s = start .args in
     let room : s .n ≤ length (now (s .out)) = start .pre .1 in
     let key = now (s .key) in
     let text : List ℕ = now (s .a) ++ (now (s .b) ++ (now (s .c) ++ now (s .d))) in
     let m = c .before .before .before .before .before .least .result in
     let size : m ≡ min 32 (s .n - l .at) = c .before .before .before .before .before .least .ensures in
+    let t = p .mac-of .result in
     let left : l .at < s .n = p .before .before .before .before .loop-test .taken in
-    let here : l .at ≡ 32 * l .i = omega arith in
-    let b = next-under-key key (now (s .a)) (now (s .b)) (now (s .c)) (now (s .d)) (now (s .out)) (l .out) (l .i) (l .from) (l .at) (v .key-values .ensures .0) (v .key-values .ensures .1) (p .digest-after-parts .ensures) (g .digest-again .ensures) (l .inv .0) here (l .inv .4) in (
+    let full : l .at ≡ 32 * l .i = omega arith in
+    let b = next-under-key key (now (s .a)) (now (s .b)) (now (s .c)) (now (s .d)) (now (s .out)) (l .out) (l .i) (l .from) (l .at) (here .before .new .ensures .0) (here .before .new .ensures .1) (p .mac-of .ensures) (l .inv .0) full (l .inv .4) in
+    let copied = copied-part (l .out) (take m t) (l .at) (c .before .before .copy .ensures .1) in
+    let long : length (take m t) ≤ m = simp length-take (omega arith) in
+    let fits : l .at + length (take m t) ≤ length (l .out) = omega (arith, l .inv .3) in (
       omega arith,
       omega arith,
       omega arith,
-      c .before .before .copy-at .kept .1 .1 .0 ∙ l .inv .3,
-      next-out hmacSha256 hmacSha256-length key text (now (s .out)) (l .out) _ (g .digest-again .result) (l .i) m (l .at) here (omega arith) (l .inv .4) b (c .before .before .copy-at .ensures),
+      ap length copied ∙ length-paste (l .out) (l .at) (take m t) (length (take m t)) fits (le-refl (length (take m t))) ∙ l .inv .3,
+      next-out hmacSha256 hmacSha256-length key text (now (s .out)) (l .out) _ t (l .i) m (l .at) full (omega arith) (l .inv .4) b copied,
     )
 
 same-length : tie.Need-same-length Inv-loop μ-loop
@@ -109,7 +132,7 @@ returns : tie.Need-returns Inv-loop μ-loop
 unfolding prfPlus blockCount
 returns c =
     let l = c .before .loop in
-    let s = c .before .before .before .before .before .before .before .before .before .before .before .args in
+    let s = c .before .before .before .before .before .before .before .before .before .args in
     let e : l .i ≡ (s .n + 31) / 32 = omega arith in
     let f : l .at ≡ s .n = omega arith in
     rw (← e, ← f) (l .inv .4)
@@ -120,20 +143,23 @@ fill-spec =
     (tie.spec
     Inv-loop
     μ-loop
-    key-values-requires
+    new-requires
     loop-holds
-    add-i
-    cast-t19
-    sub-digest-after-parts
-    part-digest-after-parts-start
-    part-digest-after-parts-end
-    slice-aggregate-digest-after-parts
-    digest-after-parts-requires
-    digest-again-requires
+    add-next
+    cast-byte
+    sub-mac-of
+    part-mac-of-start
+    part-mac-of-end
+    slice-aggregate-mac-of
+    mac-of-requires
     sub-least
     least-requires
-    slice-aggregate-copy-at
-    copy-at-requires
+    array-share-prefix-t
+    slice-aggregate-copy
+    sub-copy
+    part-copy-start
+    part-copy-end
+    copy-requires
     add-at
     loop-less
     loop-again

@@ -1,4 +1,4 @@
--- `sha256::absorb_into` meets its contract: bytes that leave the block short of full (proofs/Stream.antt, `part-law`), or those that fill it, the whole
+-- `sha256::absorb_into` meets its contract: bytes that leave the block short of full (`part-law` of fips180), or those that put it, the whole
 -- blocks after them, and the rest (`over-law`).
 -- Assumes nothing.
 use mathlib.Core.Path.{_≡_, sym}
@@ -8,8 +8,9 @@ use borrow.Author.Needs.{needs}
 use denote.Ref.{now}
 use lib.ListN.{length, length-take}
 use lib.Seq.{take-all, length-take-le}
-use Rattle.sha256.specs.Stream.{inProgress}
-use Rattle.sha256.proofs.Stream.{part-law, over-law}
+use Rattle.fips180.proofs.Absorbing.{part-law, over-law}
+use Rattle.sha256_block.specs.Fips180.{compress}
+use Rattle.sha256.specs.Internal.{parts}
 use Rattle.sha256.proofs.absorb_into.Statement.{statement}
 use Rattle.sha256.proofs.absorb_into.Tie as tie
 
@@ -22,15 +23,15 @@ sub-least c = search needs
 least-requires : tie.Need-least-requires
 least-requires c κs = search needs
 
-slice-aggregate-fill : tie.Need-slice-aggregate-fill
-slice-aggregate-fill c =
+slice-aggregate-put : tie.Need-slice-aggregate-put
+slice-aggregate-put c =
     let m = c .before .before in
     let xs = now (m .before .before .before .args .s) in
     let h : m .least .result ≤ length xs = omega arith in
     sym (length-take-le (m .least .result) xs h)
 
-fill-requires : tie.Need-fill-requires
-fill-requires c κs = (simp length-take (omega arith), c .before .before .before .before .before .pre)
+put-requires : tie.Need-put-requires
+put-requires c κs = simp length-take (omega (arith, c .before .before .before .before .before .pre))
 
 sub-if1 : tie.Need-sub-if1
 sub-if1 c = search needs
@@ -44,7 +45,7 @@ returns c =
     let xs = now (a .s) in
     let f : a .count < 2 ^ 64 = search needs in
     let all : length xs ≤ m .least .result = omega arith in
-    part-law (inProgress (now (a .h)) (now (a .block)) (a .count)) xs f (st .pre) (c .if1 .taken) (rw (take-all (m .least .result) xs all) at (c .before .fill .ensures)) (w .wrapping-add-u64 .ensures)
+    part-law compress (parts (now (a .h)) (now (a .block)) (a .count)) xs f (st .pre) (c .if1 .taken) (rw (take-all (m .least .result) xs all) at (c .before .put .ensures)) (w .wrapping-add-u64 .ensures)
 
 compress-blocks-requires : tie.Need-compress-blocks-requires
 compress-blocks-requires c κs = search needs
@@ -67,17 +68,17 @@ sub-rest c = search needs
 sub-rest-2 : tie.Need-sub-rest-2
 sub-rest-2 c = search needs
 
-sub-fill : tie.Need-sub-fill
-sub-fill c = search needs
+sub-put : tie.Need-sub-put
+sub-put c = search needs
 
-part-fill-start : tie.Need-part-fill-start
-part-fill-start c = search needs
+part-put-start : tie.Need-part-put-start
+part-put-start c = search needs
 
-part-fill-end : tie.Need-part-fill-end
-part-fill-end c = search needs
+part-put-end : tie.Need-part-put-end
+part-put-end c = search needs
 
-fill-requires-2 : tie.Need-fill-requires-2
-fill-requires-2 c κs = search needs
+put-requires-2 : tie.Need-put-requires-2
+put-requires-2 c κs = search needs
 
 returns-2 : tie.Need-returns-2
 returns-2 c =
@@ -92,8 +93,8 @@ returns-2 c =
     let f : a .count < 2 ^ 64 = search needs in
     let ek : a .count % 64 + k ≡ 64 = omega arith in
     let hk : k ≤ length (now (a .s)) = omega arith in
-    over-law (inProgress (now (a .h)) (now (a .block)) (a .count)) (now (a .s)) k f (st .pre) ek hk
-    (e .before .fill .ensures) (b1 .compress-blocks .ensures) (b2 .compress-blocks2 .ensures) (c .fill2 .ensures) (w .wrapping-add-u64 .ensures)
+    over-law compress (parts (now (a .h)) (now (a .block)) (a .count)) (now (a .s)) k f (st .pre) ek hk
+    (e .before .put .ensures) (b1 .compress-blocks .ensures) (b2 .compress-blocks2 .ensures) (c .put2 .ensures) (w .wrapping-add-u64 .ensures)
 
 pub absorb-into-spec : {M : Type 1} → statement M
 absorb-into-spec =
@@ -102,8 +103,8 @@ absorb-into-spec =
     wrapping-add-u64-requires
     sub-least
     least-requires
-    slice-aggregate-fill
-    fill-requires
+    slice-aggregate-put
+    put-requires
     sub-if1
     returns
     compress-blocks-requires
@@ -113,8 +114,8 @@ absorb-into-spec =
     compress-blocks-requires-2
     sub-rest
     sub-rest-2
-    sub-fill
-    part-fill-start
-    part-fill-end
-    fill-requires-2
+    sub-put
+    part-put-start
+    part-put-end
+    put-requires-2
     returns-2)

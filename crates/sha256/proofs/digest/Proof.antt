@@ -1,10 +1,11 @@
--- `sha256::digest` meets its contract: the whole blocks from the message itself, the bytes after them from a block (proofs/Stream.antt, `at-once`).
+-- `sha256::digest` meets its contract: the whole blocks from the message itself, the bytes after them from a block (`at-once` of fips180).
 -- Assumes nothing.
 use Prim.Native.Nat.{_-_, _^_, _<_}
 use native.Mathlib.Omega.{arith}
 use denote.Ref.{now}
 use lib.ListN.{length}
-use Rattle.sha256.proofs.Stream.{tail-kept, at-once}
+use Rattle.fips180.proofs.Absorbing.{tail-kept, at-once}
+use Rattle.sha256_block.specs.Fips180.{compress, H0, digest, sha256}
 use borrow.Author.Needs.{needs}
 use Rattle.sha256.proofs.digest.Statement.{statement}
 use Rattle.sha256.proofs.digest.Tie as tie
@@ -15,26 +16,30 @@ whole-requires c κs = search needs
 sub-rest : tie.Need-sub-rest
 sub-rest c = search needs
 
-sub-fill : tie.Need-sub-fill
-sub-fill c = search needs
+sub-put : tie.Need-sub-put
+sub-put c = search needs
 
-part-fill-start : tie.Need-part-fill-start
-part-fill-start c = search needs
+part-put-start : tie.Need-part-put-start
+part-put-start c = search needs
 
-part-fill-end : tie.Need-part-fill-end
-part-fill-end c = search needs
+part-put-end : tie.Need-part-put-end
+part-put-end c = search needs
 
-fill-requires : tie.Need-fill-requires
-fill-requires c κs = search needs
+slice-aggregate-put : tie.Need-slice-aggregate-put
+slice-aggregate-put c = search needs
 
-sealed-requires : tie.Need-sealed-requires
-sealed-requires c κs = tail-kept (now (c .before .before .before .before .before .before .args .message)) (c .before .fill .ensures)
+put-requires : tie.Need-put-requires
+put-requires c κs = search needs
+
+last-digest-requires : tie.Need-last-digest-requires
+last-digest-requires c κs = tail-kept compress (now (c .before .before .before .before .before .before .before .args .message)) (c .before .before .put .ensures)
 
 returns : tie.Need-returns
+unfolding sha256
 returns c =
-    let m = now (c .before .before .before .before .before .before .before .args .message) in
+    let m = now (c .before .before .before .before .before .before .before .before .args .message) in
     let f : length m < 2 ^ 64 = omega arith in
-    at-once m (c .before .before .fill .ensures) f (c .before .before .before .before .before .whole .ensures) (c .sealed .ensures)
+    at-once compress m (c .before .before .before .put .ensures) H0 digest f (c .before .before .before .before .before .before .whole .ensures) (c .last-digest .ensures)
 
 pub digest-spec : {M : Type 1} → statement M
 digest-spec =
@@ -42,9 +47,10 @@ digest-spec =
     (tie.spec
     whole-requires
     sub-rest
-    sub-fill
-    part-fill-start
-    part-fill-end
-    fill-requires
-    sealed-requires
+    slice-aggregate-put
+    sub-put
+    part-put-start
+    part-put-end
+    put-requires
+    last-digest-requires
     returns)

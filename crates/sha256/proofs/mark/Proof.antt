@@ -6,7 +6,7 @@ use native.Mathlib.Omega.{arith}
 use denote.Ref.{now}
 use lib.ListN.{length, replicate, length-set}
 use lib.Seq.{paste}
-use Rattle.sha256.proofs.Closing.{mark-none, mark-turn, mark-done}
+use Rattle.fips180.proofs.Closing.{mark-none, mark-turn, mark-done}
 use Rattle.sha256.proofs.mark.Statement.{statement}
 use Rattle.sha256.proofs.mark.Tie as tie
 

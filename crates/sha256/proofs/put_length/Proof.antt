@@ -1,8 +1,7 @@
--- `sha256::put_length` meets its contract: eight stores, and the bytes of the count of bits (proofs/Closing.antt, `length-put`).
+-- `sha256::put_length` meets its contract: eight stores, and the bytes of the count of bits (`length-put` of fips180).
 -- Assumes nothing.
-use borrow.Author.Needs.{needs}
 use denote.Ref.{now}
-use Rattle.sha256.proofs.Closing.{length-put}
+use Rattle.fips180.proofs.Closing.{length-put}
 use borrow.Author.Needs.{needs}
 use Rattle.sha256.proofs.put_length.Statement.{statement}
 use Rattle.sha256.proofs.put_length.Tie as tie

@@ -2,8 +2,8 @@
 -- Assumes nothing.
 use mathlib.Core.Path.{_≡_, _∙_}
 use lib.ListN.{length}
-use Rattle.sha256_block.specs.Fips180.{H0}
-use Rattle.sha256_block.proofs.Blocks.{one-block}
+use Rattle.sha256_block.specs.Fips180.{H0, compress}
+use Rattle.fips180.proofs.Blocks.{one-block}
 use borrow.Author.Needs.{needs}
 use Rattle.sha256.proofs.value_of.Statement.{statement}
 use Rattle.sha256.proofs.value_of.Tie as tie
@@ -19,7 +19,7 @@ unfolding H0
 returns c =
     let b = c .before .before .args .t1 in
     let l : length b ≡ 64 = search needs in
-    c .compress-blocks .ensures ∙ one-block H0 b l
+    c .compress-blocks .ensures ∙ one-block compress H0 b l
 
 pub value-of-spec : {M : Type 1} → statement M
 value-of-spec =

@@ -5,7 +5,7 @@ use Prim.Native.Nat.{ℕ, _*_, _-_, _≤_}
 use native.Mathlib.Omega.{arith}
 use denote.Ref.{now}
 use Rattle.sha256_block.specs.Fips180.{rounds}
-use Rattle.sha256_block.specs.Steps.{window}
+use Rattle.sha256_block.specs.Internal.{window}
 use Rattle.sha256_block.proofs.Rounds.{group, kept, no-round, all-rounds}
 use borrow.Author.Needs.{needs}
 use Rattle.sha256_block.proofs.compress.Statement.{statement}

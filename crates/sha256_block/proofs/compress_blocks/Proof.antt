@@ -5,8 +5,9 @@ use Prim.Native.Nat.{ℕ, _/_, _-_, _≤_}
 use native.Mathlib.Omega.{arith}
 use denote.Ref.{now}
 use lib.ListN.{length, length-take, length-drop}
-use Rattle.sha256_block.specs.Fips180.{blocks}
-use Rattle.sha256_block.proofs.Blocks.{blocks-turn}
+use Rattle.fips180.specs.Hash.{blocksBy}
+use Rattle.fips180.proofs.Blocks.{blocks-turn}
+use Rattle.sha256_block.specs.Fips180.{blocks, compress}
 use Rattle.sha256_block.proofs.compress_blocks.Statement.{statement}
 use Rattle.sha256_block.proofs.compress_blocks.Tie as tie
 
@@ -17,7 +18,7 @@ abbrev μ-loop : tie.MeasureT-loop
 μ-loop message g₀ k₀ k-end g k = k-end - k
 
 loop-holds : tie.Need-loop-holds Inv-loop μ-loop
-unfolding blocks
+unfolding blocksBy
 loop-holds c = (omega arith, refl, refl)
 
 mul-start : tie.Need-mul-start Inv-loop μ-loop
@@ -48,7 +49,7 @@ loop-again : tie.Need-loop-again Inv-loop μ-loop
 loop-again c =
     let a = c .before .before .before .before .before .args in
     let l = c .before .before .before .loop in
-    (omega arith, omega arith, blocks-turn (l .k) (a .h) (now (a .message)) (l .inv .2) (c .compress .ensures))
+    (omega arith, omega arith, blocks-turn compress (l .k) (a .h) (now (a .message)) (l .inv .2) (c .compress .ensures))
 
 returns : tie.Need-returns Inv-loop μ-loop
 returns c =

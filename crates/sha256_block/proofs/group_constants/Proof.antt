@@ -4,7 +4,7 @@ use mathlib.Core.Path.{_≡_, refl, subst}
 use Prim.Native.Nat.{ℕ, _*_, _-_, _≤_}
 use native.Mathlib.Omega.{arith}
 use lib.ListN.{length}
-use Rattle.sha256_block.specs.Steps.{ConstantsFrom}
+use Rattle.sha256_block.specs.Internal.{ConstantsFrom}
 use Rattle.sha256_block.proofs.Rounds.{put-constant}
 use borrow.Author.Needs.{needs}
 use Rattle.sha256_block.proofs.group_constants.Statement.{statement}

@@ -3,7 +3,7 @@
 use mathlib.Core.Path.{_≡_, ap, _∙_}
 use Prim.Native.Nat.{_+_, _-_, _*_}
 use native.Mathlib.Omega.{arith}
-use Rattle.sha256_block.specs.Steps.{window}
+use Rattle.sha256_block.specs.Internal.{window}
 use borrow.Author.Needs.{needs}
 use Rattle.sha256_block.proofs.group_words.Statement.{statement}
 use Rattle.sha256_block.proofs.group_words.Tie as tie

@@ -1,0 +1,6 @@
+pub mod Bits
+pub mod Padding
+pub mod Blocks
+pub mod Stream
+pub mod Absorbing
+pub mod Closing

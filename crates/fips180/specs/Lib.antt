@@ -1,0 +1,5 @@
+pub mod Words
+pub mod Hash
+pub mod Stream
+pub mod Statements
+pub mod Internal

@@ -1,0 +1,27 @@
+-- What is proved of the definitions of FIPS 180-4, for any compression of blocks of 64 bytes. Assumes nothing.
+use mathlib.Core.Path.{_≡_}
+use mathlib.Core.List.{List, _++_}
+use Prim.Native.Nat.{ℕ, _+_, _%_, _≤_}
+use lib.ListN.{length}
+use Rattle.fips180.specs.Hash.{zeros, padded, hashBy}
+use Rattle.fips180.specs.Stream.{started, startedAfter, absorbedBy, finishedBy}
+
+-- 5.1.1: after n bytes and the byte of the bit 1, the zeros end 8 bytes before the end of a block, and no fewer zeros do.
+-- `fewest-zeros` of proofs/Padding.antt
+abbrev pub FewestZeros : Type 0
+FewestZeros = (n : ℕ) → ((n + 1 + zeros n) % 64 ≡ 56) × ((k : ℕ) → (n + 1 + k) % 64 ≡ 56 → zeros n ≤ k)
+
+-- 5.1: a padded message is whole blocks. `padded-whole` of proofs/Padding.antt
+abbrev pub PaddedIsBlocks : Type 0
+PaddedIsBlocks = (m : List ℕ) → length (padded m) % 64 ≡ 0
+
+module _ (compress : List ℕ → List ℕ → List ℕ) (first : List ℕ) (written : List ℕ → List ℕ) where
+  -- the digest of a hash in progress that has absorbed m is the hash of m. `stream-is-hash` of proofs/Stream.antt
+  abbrev pub StreamIsHash : Type 0
+  StreamIsHash = (m : List ℕ) → finishedBy compress written (absorbedBy compress (started first) m) ≡ hashBy compress first written m
+
+  -- a hash that is started after a block b, by the hash value after it, and absorbs m comes to the hash of b and m joined.
+  -- `after-block-is-hash` of proofs/Stream.antt
+  abbrev pub AfterBlockIsHash : Type 0
+  AfterBlockIsHash =
+      (b m : List ℕ) → length b ≡ 64 → finishedBy compress written (absorbedBy compress (startedAfter (compress first b)) m) ≡ hashBy compress first written (b ++ m)

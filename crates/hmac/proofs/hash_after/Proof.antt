@@ -1,0 +1,28 @@
+-- `hmac::hash_after` meets its contract: the message absorbed after the block.
+-- Assumes nothing.
+use mathlib.Core.Path.{ap, _∙_}
+use denote.Ref.{now}
+use Rattle.fips180.specs.Stream.{Progress}
+use Rattle.sha256.specs.Stream.{absorbed, finished}
+use Rattle.hmac.specs.Keyed.{hashAfter}
+use borrow.Author.Needs.{needs}
+use Rattle.hmac.proofs.hash_after.Statement.{statement}
+use Rattle.hmac.proofs.hash_after.Tie as tie
+
+after-requires : tie.Need-after-requires
+after-requires c κs = search needs
+
+absorb-requires : tie.Need-absorb-requires
+absorb-requires c κs = search needs
+
+finish-requires : tie.Need-finish-requires
+finish-requires c κs = search needs
+
+returns : tie.Need-returns
+unfolding hashAfter
+returns c =
+    let message = now (c .before .before .before .before .args .message) in
+    c .finish .ensures ∙ ap finished (c .before .absorb .ensures ∙ ap (λ (s : Progress). absorbed s message) (c .before .before .after .ensures))
+
+pub hash-after-spec : {M : Type 1} → statement M
+hash-after-spec = tie.close (tie.spec after-requires absorb-requires finish-requires returns)

@@ -1,0 +1,19 @@
+-- `sha256::last_digest` meets its contract: the last hash value's bytes.
+-- Assumes nothing.
+use mathlib.Core.Path.{ap, _∙_}
+use Rattle.sha256_block.specs.Fips180.{digest}
+use borrow.Author.Needs.{needs}
+use Rattle.sha256.proofs.last_digest.Statement.{statement}
+use Rattle.sha256.proofs.last_digest.Tie as tie
+
+last-value-requires : tie.Need-last-value-requires
+last-value-requires c κs = search needs
+
+to-bytes-requires : tie.Need-to-bytes-requires
+to-bytes-requires c κs = search needs
+
+returns : tie.Need-returns
+returns c = c .to-bytes .ensures ∙ ap digest (c .before .last-value .ensures)
+
+pub last-digest-spec : {M : Type 1} → statement M
+last-digest-spec = tie.close (tie.spec last-value-requires to-bytes-requires returns)

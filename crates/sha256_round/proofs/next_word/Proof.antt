@@ -1,0 +1,23 @@
+-- `sha256_round::next_word` meets its contract: the sum of four, from its callees' answers.
+-- Assumes nothing.
+use Rattle.sha256_round.specs.Functions.{nextW}
+use borrow.Author.Needs.{needs}
+use Rattle.sha256_round.proofs.next_word.Statement.{statement}
+use Rattle.sha256_round.proofs.next_word.Tie as tie
+
+small-sigma1-requires : tie.Need-small-sigma1-requires
+small-sigma1-requires c κs = search needs
+
+small-sigma0-requires : tie.Need-small-sigma0-requires
+small-sigma0-requires c κs = search needs
+
+add4-requires : tie.Need-add4-requires
+add4-requires c κs = search needs
+
+returns : tie.Need-returns
+unfolding nextW
+returns c = cc
+
+pub next-word-spec : {M : Type 1} → statement M
+next-word-spec =
+    tie.close (tie.spec small-sigma1-requires small-sigma0-requires add4-requires returns)
