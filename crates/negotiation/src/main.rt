@@ -86,7 +86,7 @@ fn play_sent(original: &[u16], choice: u16, sent: &[u16]) {
 // The server's step on a reply, and then the peer's.
 fn play_reply(offered: &[u16], reply: u16) {
     let mut renewed = [0u16; 17];
-    match offers::answer(offered, reply, &mut renewed) {
+    match offer_server::answer(offered, reply, &mut renewed) {
         Written::Refused(why) => {
             say(b"  server");
             say_refused(why);

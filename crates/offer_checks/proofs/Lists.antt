@@ -11,9 +11,8 @@ use borrow.Author.Tests.{eq-eqb, ne-eqb}
 use lib.Dec.{eqb}
 use lib.ListN.{length, getD, take, drop, drop-of-length-le}
 use lib.Seq.{drop-cons}
-use Rattle.slices.specs.Same.{sameList}
 use Rattle.slices.proofs.Lists.{rest-drop}
-use Rattle.offer_rules.specs.Rfc5448.{stands, repeats, firstSupported, isFirst}
+use Rattle.offer_rules.specs.Rfc5448.{stands, repeats, isFirst}
 
 module _ (value : ℕ) (s : List ℕ) (i : ℕ) (inv : stands value s ≡ stands value (drop i s)) where
   pub stands-hit : i < length s → getD s i 0 ≡ value → true ≡ stands value s
@@ -41,25 +40,6 @@ module _ (s : List ℕ) (i : ℕ) (inv : repeats s ≡ repeats (drop i s)) where
   unfolding repeats
   repeats-done h = sym (inv ∙ rw drop-of-length-le)
 
-module _ (s supported : List ℕ) (i : ℕ) (inv : firstSupported s supported ≡ i + firstSupported (drop i s) supported) where
-  pub supported-hit : i < length s → stands (getD s i 0) supported ≡ true → i ≡ firstSupported s supported
-  unfolding firstSupported
-  supported-hit h e =
-      let here : firstSupported (drop i s) supported ≡ 0 = rw (drop-cons s i 0, e) in
-      omega arith
-
-  pub supported-miss : i < length s → stands (getD s i 0) supported ≡ false → firstSupported s supported ≡ i + 1 + firstSupported (drop (i + 1) s) supported
-  unfolding firstSupported
-  supported-miss h e =
-      let later : firstSupported (drop i s) supported ≡ suc (firstSupported (drop (i + 1) s) supported) = rw (add-one, drop-cons s i 0, e) in
-      omega arith
-
-  pub supported-done : length s ≤ i → i ≡ firstSupported s supported
-  unfolding firstSupported
-  supported-done h =
-      let done : firstSupported (drop i s) supported ≡ 0 = rw drop-of-length-le in
-      omega arith
-
 -- a list is empty, or its first element decides
 pub first-none : (value : ℕ) (s : List ℕ) → length s ≡ 0 → false ≡ isFirst value s
 unfolding isFirst
@@ -70,19 +50,3 @@ pub first-head : (value : ℕ) (s : List ℕ) → (length s ≡ 0 → ⊥) → e
 unfolding isFirst
 first-head value [] e = elim (e refl) [ ]
 first-head value (x ∷ s) e = refl
-
-pub first-nonempty : (value : ℕ) (s : List ℕ) → isFirst value s ≡ true → 1 ≤ length s
-unfolding isFirst
-first-nonempty value [] e = let z : _≡_ {A = ℕ} 0 1 = cc in omega arith
-first-nonempty value (x ∷ s) e = omega arith
-
--- a list is a value followed by another where its first is the value and the others are that list
-pub other-first : (value : ℕ) (s t : List ℕ) → isFirst value s ≡ false → false ≡ sameList s (value ∷ t)
-unfolding isFirst sameList
-other-first value [] t e = refl
-other-first value (x ∷ s) t e = sym (rw e)
-
-pub after-first : (value : ℕ) (s t : List ℕ) → isFirst value s ≡ true → sameList (take (length s - 1) (drop 1 s)) t ≡ sameList s (value ∷ t)
-unfolding isFirst sameList
-after-first value [] t e = cc
-after-first value (x ∷ s) t e = rw (rest-drop 1 (x ∷ s), e)

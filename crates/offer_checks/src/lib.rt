@@ -1,20 +1,18 @@
-// The tests of the calls on offers, 10 to 15 (RFC 5448 section 3.2; document 01, "Offers"). A list of offers is in the server's order of preference.
+// The tests that several calls on offers make: 10, 11, 13 and 14 (RFC 5448 section 3.2; document 01, "Offers"). A list of offers is in the server's order of preference.
 // Lists of any length may be lent, and none is copied. The test for repeated values takes time that grows with the square of the list, so it is made
 // only on a list that 10 passes.
 ghost use mathlib.Core.Path.{_≡_};
 ghost use Rattle.refusal.specs.Checks.{_andThen_};
 ghost use Rattle.refusal.specs.Answers.{checkedAs};
-ghost use Rattle.slices.specs.Same.{sameList};
-ghost use Rattle.offer_rules.specs.Rfc5448.{stands, repeats, firstSupported, isFirst, renewedList, check10, check11, check13, check14};
+ghost use Rattle.offer_rules.specs.Rfc5448.{stands, repeats, isFirst, check10, check11, check13, check14};
 use refusal::Checked;
 use refusal::Refusal;
 use refusal::in_range;
 use refusal::then_check;
 use refusal::unless;
-use slices::same_values;
 
 // Whether the value stands in the list.
-fn contains(list: &[u16], value: u16) -> bool
+pub fn contains(list: &[u16], value: u16) -> bool
     ensures { λ r. ⌜ r ≡ stands value (now (list .entry)) ⌝ }
 {
     let mut i = 0;
@@ -42,20 +40,6 @@ fn repeated(list: &[u16]) -> bool
     false
 }
 
-// The position of the first offer that stands in the supported list; the count of the offers where none does.
-pub fn first_supported(offers: &[u16], supported: &[u16]) -> usize
-    ensures { λ r. ⌜ r ≡ firstSupported (now (offers .entry)) (now (supported .entry)) ⌝ }
-{
-    let mut i = 0;
-    while i < offers.len() {
-        if contains(supported, offers[i]) {
-            return i;
-        }
-        i += 1;
-    }
-    i
-}
-
 // Whether the value is the first of the list.
 fn is_first(value: u16, list: &[u16]) -> bool
     ensures { λ r. ⌜ r ≡ isFirst value (now (list .entry)) ⌝ }
@@ -64,16 +48,6 @@ fn is_first(value: u16, list: &[u16]) -> bool
         return false;
     }
     list[0] == value
-}
-
-// Whether the renewed list is the choice followed by the original.
-pub fn is_renewal(original: &[u16], choice: u16, renewed: &[u16]) -> bool
-    ensures { λ r. ⌜ r ≡ sameList (now (renewed .entry)) (renewedList (now (original .entry)) choice) ⌝ }
-{
-    if !is_first(choice, renewed) {
-        return false;
-    }
-    same_values(&renewed[1..], original)
 }
 
 // The tests of every list of offers: 10, then 11 where 10 passes.

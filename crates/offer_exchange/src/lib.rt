@@ -14,7 +14,7 @@ pub fn negotiate(offered: &[u16], supported: &[u16], renewed: &mut [u16]) -> Ren
     match offers::choose(offered, supported) {
         FirstRound::CarryOn(value) => Renewed::Accepted(value),
         FirstRound::Refused(why) => Renewed::Refused(why),
-        FirstRound::Ask(value, _) => match offers::answer(offered, value, renewed) {
+        FirstRound::Ask(value, _) => match offer_server::answer(offered, value, renewed) {
             Written::Refused(why) => Renewed::Refused(why),
             Written::Wrote(count) => offers::recheck(offered, value, &renewed[..count]),
         },

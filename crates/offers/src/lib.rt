@@ -1,26 +1,22 @@
-// The calls on offers: the peer's first round, the server's answer and the peer's check of the renewed list (RFC 5448 section 3.2; document 01,
-// "Offers"). A list of offers is in the server's order of preference. Lists of any length may be lent, and none is copied but to the server's buffer.
+// The peer's calls on offers: the first round, and the check of the renewed list (RFC 5448 section 3.2; document 01, "Offers"). A list of offers is
+// in the server's order of preference. Lists of any length may be lent, and none is copied.
 ghost use mathlib.Core.Path.{_≡_};
-ghost use mathlib.Core.List.{_∷_};
-ghost use Prim.Native.Nat.{_+_};
 ghost use lib.Dec.{ltb};
 ghost use lib.ListN.{length};
 ghost use Rattle.refusal.specs.Checks.{bare};
 ghost use Rattle.refusal.specs.Checks;
-ghost use Rattle.refusal.specs.Answers.{answerOf};
-ghost use Rattle.offer_rules.specs.Answers.{firstRoundTo, firstRound, serverAnswer, serverBuffer, renewedAnswer};
+ghost use Rattle.slices.specs.Same.{sameList};
+ghost use Rattle.offer_rules.specs.Rfc5448.{firstSupported, renewedList};
+ghost use Rattle.offer_rules.specs.Answers.{firstRoundTo, firstRound, renewedAnswer};
 ghost use Rattle.offers.specs.Answers.{firstRoundOf, renewedOf};
 use offer_checks::check_offers;
 use offer_checks::check_reply;
-use offer_checks::first_supported;
-use offer_checks::is_renewal;
+use offer_checks::contains;
 use refusal::Checked;
 use refusal::Refusal;
-use refusal::Written;
-use refusal::check_room;
 use refusal::then_check;
 use refusal::unless;
-use slices::copy_values;
+use slices::same_values;
 
 // The first round's answer. Carry On and Ask are document 01's terms: the first offer is taken into use with no further negotiation,
 // or a later one, with its position counted from 0, is asked of the server.
@@ -34,6 +30,20 @@ pub enum FirstRound {
 pub enum Renewed {
     Accepted(u16),
     Refused(Refusal),
+}
+
+// The position of the first offer that stands in the supported list; the count of the offers where none does.
+fn first_supported(offers: &[u16], supported: &[u16]) -> usize
+    ensures { λ r. ⌜ r ≡ firstSupported (now (offers .entry)) (now (supported .entry)) ⌝ }
+{
+    let mut i = 0;
+    while i < offers.len() {
+        if contains(supported, offers[i]) {
+            return i;
+        }
+        i += 1;
+    }
+    i
 }
 
 // The first round's answer by the position of the first supported offer: 12 where there is none.
@@ -61,28 +71,17 @@ pub fn choose(offers: &[u16], supported: &[u16]) -> FirstRound
     }
 }
 
-// Fills out with the value and then the list.
-fn put_list(value: u16, list: &[u16], out: &mut [u16])
-    requires { ⌜ length (now out) ≡ length (now list) + 1 ⌝ }
-    ensures { λ _. ⌜ now (out .exit) ≡ value ∷ now (list .entry) ⌝ }
+// Whether the renewed list is the choice followed by the original.
+fn is_renewal(original: &[u16], choice: u16, renewed: &[u16]) -> bool
+    ensures { λ r. ⌜ r ≡ sameList (now (renewed .entry)) (renewedList (now (original .entry)) choice) ⌝ }
 {
-    out[0] = value;
-    copy_values(list, &mut out[1..]);
-}
-
-// The server, on the peer's reply: writes the reply, then the entire list, and answers the new count. Order 10, 11, 13, 14, 6.
-pub fn answer(offers: &[u16], reply: u16, out: &mut [u16]) -> Written
-    ensures answer { λ r. ⌜ answerOf r ≡ serverAnswer (now (offers .entry)) reply (now (out .entry)) ⌝ }
-    ensures buffer { λ _. ⌜ now (out .exit) ≡ serverBuffer (now (offers .entry)) reply (now (out .entry)) ⌝ }
-{
-    let count = offers.len() + 1;
-    match then_check(check_reply(offers, reply), check_room(count, out.len())) {
-        Checked::Failed(why) => Written::Refused(why),
-        Checked::Passed => {
-            put_list(reply, offers, &mut out[..count]);
-            Written::Wrote(count)
-        }
+    if renewed.len() == 0 {
+        return false;
     }
+    if renewed[0] != choice {
+        return false;
+    }
+    same_values(&renewed[1..], original)
 }
 
 // The peer, on the renewed list: accepts its choice where the list is the choice followed by the original. Order 10, 11, 13, 14, 15.

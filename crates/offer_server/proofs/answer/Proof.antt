@@ -1,4 +1,4 @@
--- `offers::answer` meets its contract.
+-- `offer_server::answer` meets its contract.
 -- Assumes nothing.
 use Prim.Native.Nat.{_+_, _≤_}
 use mathlib.Core.Path.{_≡_, sym, ap, _∙_}
@@ -13,8 +13,8 @@ use Rattle.refusal.proofs.Passing.{last-passed, test-passed}
 use Rattle.refusal.proofs.Answering.{passed, refused-so, written-so}
 use Rattle.offer_rules.specs.Rfc5448.{renewedList, answerCheck}
 use Rattle.offer_rules.specs.Answers.{serverAnswer, serverBuffer}
-use Rattle.offers.proofs.answer.Statement.{statement}
-use Rattle.offers.proofs.answer.Tie as tie
+use Rattle.offer_server.proofs.answer.Statement.{statement}
+use Rattle.offer_server.proofs.answer.Tie as tie
 
 -- what the tests came to
 checked : (c : tie.After-then-check) → let a = c .before .before .before .before .before .args in checkedAs (c .then-check .result) ≡ answerCheck (now (a .offers)) (a .reply) (length (now (a .out)))

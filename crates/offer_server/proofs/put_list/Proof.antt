@@ -1,4 +1,4 @@
--- `offers::put_list` meets its contract: the value at the start of the buffer, and the list copied to the part behind it.
+-- `offer_server::put_list` meets its contract: the value at the start of the buffer, and the list copied to the part behind it.
 -- Assumes nothing.
 use Prim.Native.Nat.{ℕ, suc, _+_, _-_, _≤_}
 use mathlib.Core.Path.{_≡_, ap, _∙_}
@@ -9,8 +9,8 @@ use borrow.Rule.Slice.PartMut.{putMid, same-len-mid}
 use denote.Ref.{now}
 use lib.ListN.{length, take, drop, set, length-set, drop-of-length-le}
 use lib.Seq.{take-all, drop-length}
-use Rattle.offers.proofs.put_list.Statement.{statement}
-use Rattle.offers.proofs.put_list.Tie as tie
+use Rattle.offer_server.proofs.put_list.Statement.{statement}
+use Rattle.offer_server.proofs.put_list.Tie as tie
 
 -- what the copy left in the part behind the value
 copied : (s rest : List ℕ) {z : List ℕ} → length rest ≡ length s → z ≡ take (length (take (length rest) rest)) s ++ drop (length s) (take (length rest) rest) → z ≡ s
