@@ -57,7 +57,7 @@ pub fn answer_offer(offers: &[u16], reply: u16, out: &mut [u16]) -> Outcome
     ensures answer { λ r. ⌜ r ≡ outcomeOf (serverAnswer (now (offers .entry)) reply (now (out .entry))) ⌝ }
     ensures buffer { λ _. ⌜ now (out .exit) ≡ serverBuffer (now (offers .entry)) reply (now (out .entry)) ⌝ }
 {
-    outcome::returned(offers::answer(offers, reply, out))
+    outcome::returned(offer_server::answer(offers, reply, out))
 }
 
 // The answer to a renewed list, for C: the choice, or a refusal.
