@@ -10,7 +10,7 @@ ghost use Rattle.outcome.specs.Outcomes.{outcomeOf};
 ghost use Rattle.requests.specs.Requests.{forUsage, forVrk, requestAnswer, requestBuffer};
 ghost use Rattle.visited.specs.Visited.{vmskCheck, vmskKey, reauthCheck, reauthKey};
 ghost use Rattle.key_name.specs.Ndf64.{nameCheck, nameOf};
-ghost use Rattle.offers.specs.Answers.{firstRound, serverAnswer, serverBuffer, renewedAnswer};
+ghost use Rattle.offer_peer.specs.Answers.{firstRound, serverAnswer, serverBuffer, renewedAnswer};
 ghost use Rattle.offers_c.specs.Outcomes.{firstRoundOutcome, renewedOutcome};
 ghost use Rattle.area.specs.Area.{areaAnswer, areaBuffer};
 ghost use Rattle.area_c.specs.Outcomes.{areaOutcome};

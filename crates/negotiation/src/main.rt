@@ -1,8 +1,8 @@
 // Plays negotiations of the key derivation function between a peer and a server and prints each step: the checked cases P6 to P13 of
 // document 01, longer lists, and a list that was altered on the way.
 use libc::STDOUT_FILENO;
-use offers::FirstRound;
-use offers::Renewed;
+use offer_peer::FirstRound;
+use offer_peer::Renewed;
 use refusal::Refusal;
 use refusal::Written;
 
@@ -80,7 +80,7 @@ fn play_sent(original: &[u16], choice: u16, sent: &[u16]) {
     say(b"  server sends");
     say_list(sent);
     say(b"\n");
-    say_renewed(offers::recheck(original, choice, sent));
+    say_renewed(offer_peer::recheck(original, choice, sent));
 }
 
 // The server's step on a reply, and then the peer's.
@@ -97,7 +97,7 @@ fn play_reply(offered: &[u16], reply: u16) {
 
 // The steps of a negotiation: where the first round ends in an Ask, the server's step and the peer's on the renewed list follow.
 fn play_steps(offered: &[u16], supported: &[u16]) {
-    let first = offers::choose(offered, supported);
+    let first = offer_peer::choose(offered, supported);
     say_first(first);
     let FirstRound::Ask(value, _) = first else {
         return;
@@ -147,7 +147,7 @@ fn play_other_list(original: &[u16], choice: u16, renewed: &[u16]) {
     say(b"; renewed");
     say_list(renewed);
     say(b"\n");
-    say_renewed(offers::recheck(original, choice, renewed));
+    say_renewed(offer_peer::recheck(original, choice, renewed));
 }
 
 fn main() {

@@ -1,23 +1,29 @@
 -- A negotiation step by step: what it comes to by each step's answer.
 -- Assumes nothing.
 use Prim.Native.Nat.{ℕ}
-use mathlib.Core.Path.{_≡_}
+use mathlib.Core.Path.{_≡_, refl}
+use mathlib.Core.Logic.{_⊎_, ⊎-elim}
+use native.Mathlib.Omega.{arith}
+use denote.Enum.Declared.{tagOf}
 use mathlib.Core.List.{List}
 use lib.ListN.{take}
 use Rattle.refusal.specs.Checks.{Reason}
 use Rattle.refusal.specs.Answers.{Answer, wrote}
-use Rattle.offer_rules.specs.Answers.{FirstAnswer, carryOn, ask, firstRound, serverAnswer, serverBuffer, RenewedAnswer, accepted, renewedAnswer}
-use Rattle.offer_rules.specs.Negotiation.{negotiated, negotiatedBuffer}
+use Rattle.offer_rules.specs.Answers.{ask, firstRound, serverAnswer, serverBuffer, RenewedAnswer, renewedAnswer}
+use Rattle.offer_rules.specs.Negotiation.{afterFirst, bufferAfterFirst, negotiated, negotiatedBuffer}
+use Rattle.offer_peer.specs.Answers.{firstRoundOf}
+use Rattle.offer_peer.specs.declared.FirstRound.{FirstRound}
+use Rattle.offer_peer.specs.declared.FirstRound.the-variants.{CarryOn, Ask, Refused}
+use Rattle.offer_peer.proofs.FirstRound.{the-type}
+use Rattle.offer_exchange.specs.Internal.{valueNamed}
 
 -- an answer that is not an Ask ends the negotiation, and nothing is written
-module _ (offers supported buffer : List ℕ) where
-  pub carried-on : {value : ℕ} → firstRound offers supported ≡ carryOn value → (accepted value ≡ negotiated offers supported buffer) × (buffer ≡ negotiatedBuffer offers supported buffer)
-  unfolding negotiated negotiatedBuffer
-  carried-on e = (rw e, rw e)
-
-  pub first-refused : {x : Reason} → firstRound offers supported ≡ FirstAnswer.refused x → (RenewedAnswer.refused x ≡ negotiated offers supported buffer) × (buffer ≡ negotiatedBuffer offers supported buffer)
-  unfolding negotiated negotiatedBuffer
-  first-refused e = (rw e, rw e)
+pub unasked : (first : FirstRound) → (tagOf the-type first ≡ 0) ⊎ (tagOf the-type first ≡ 2) → (offers buffer : List ℕ) → (valueNamed (firstRoundOf first) ≡ afterFirst offers buffer (firstRoundOf first)) × (buffer ≡ bufferAfterFirst offers buffer (firstRoundOf first))
+unasked (CarryOn value) h offers buffer = (refl, refl)
+unasked (Ask value position) h offers buffer =
+    let none : ⊥ = ⊎-elim (λ e. omega arith) (λ e. omega arith) h in
+    elim none [ ]
+unasked (Refused x) h offers buffer = (refl, refl)
 
 -- after an Ask, where the server refuses, and where it has written
 module _ (offers supported buffer sent : List ℕ) (value position : ℕ) (asks : firstRound offers supported ≡ ask value position) (left : sent ≡ serverBuffer offers value buffer) where

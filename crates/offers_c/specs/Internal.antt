@@ -2,7 +2,7 @@
 -- The position in a first round's answer, which has to fit 32 bits.
 -- Assumes nothing.
 use Prim.Native.Nat.{ℕ}
-use Rattle.offers.specs.Answers.{FirstAnswer, carryOn, ask}
+use Rattle.offer_peer.specs.Answers.{FirstAnswer, carryOn, ask}
 
 -- the position that a first round's answer holds, and 0 where it holds none
 abbrev pub positionIn : FirstAnswer → ℕ

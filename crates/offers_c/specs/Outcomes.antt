@@ -1,6 +1,6 @@
 -- What the calls on offers return to C, by what they answer: kv_first_round and kv_outcome of include/ketvaulo.h.
 -- Assumes nothing.
-use Rattle.offers.specs.Answers.{FirstAnswer, carryOn, ask, RenewedAnswer, accepted}
+use Rattle.offer_peer.specs.Answers.{FirstAnswer, carryOn, ask, RenewedAnswer, accepted}
 use Rattle.outcome.specs.Outcomes.{numberIn, acceptedOutcome, refusedOutcome}
 use Rattle.outcome.specs.declared.Outcome.{Outcome}
 use Rattle.offers_c.specs.declared.FirstRoundOutcome.{FirstRoundOutcome}

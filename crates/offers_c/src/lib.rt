@@ -1,12 +1,12 @@
 // The calls of the C interface on AT_KDF offers: kv_choose_offer, kv_answer_offer and kv_check_renewed.
 ghost use mathlib.Core.Path.{_≡_};
 ghost use Prim.Native.Nat.{_<_, _^_};
-ghost use Rattle.offers.specs.Answers.{firstRoundOf, firstRound, serverAnswer, serverBuffer, renewedOf, renewedAnswer};
+ghost use Rattle.offer_peer.specs.Answers.{firstRoundOf, firstRound, serverAnswer, serverBuffer, renewedOf, renewedAnswer};
 ghost use Rattle.outcome.specs.Outcomes.{outcomeOf};
 ghost use Rattle.offers_c.specs.Outcomes.{firstRoundOutcome, renewedOutcome};
 ghost use Rattle.offers_c.specs.Internal.{positionIn};
-use offers::FirstRound;
-use offers::Renewed;
+use offer_peer::FirstRound;
+use offer_peer::Renewed;
 use outcome::Outcome;
 
 // What the peer's first round returns to C. `ask` is 0 for Carry On and 1 for Ask; every field but the number is 0 on a refusal.
@@ -49,7 +49,7 @@ fn first_round_returned(answer: FirstRound) -> FirstRoundOutcome
 pub fn choose_offer(offers: &[u16], supported: &[u16]) -> FirstRoundOutcome
     ensures { λ r. ⌜ r ≡ firstRoundOutcome (firstRound (now (offers .entry)) (now (supported .entry))) ⌝ }
 {
-    first_round_returned(offers::choose(offers, supported))
+    first_round_returned(offer_peer::choose(offers, supported))
 }
 
 // RFC 5448, section 3.2: the server, on the peer's reply.
@@ -77,5 +77,5 @@ fn renewed_returned(answer: Renewed) -> Outcome
 pub fn check_renewed(original: &[u16], choice: u16, renewed: &[u16]) -> Outcome
     ensures { λ r. ⌜ r ≡ renewedOutcome (renewedAnswer (now (original .entry)) choice (now (renewed .entry))) ⌝ }
 {
-    renewed_returned(offers::recheck(original, choice, renewed))
+    renewed_returned(offer_peer::recheck(original, choice, renewed))
 }

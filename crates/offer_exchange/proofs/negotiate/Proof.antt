@@ -10,14 +10,15 @@ use lib.Seq.{length-take-le}
 use Rattle.refusal.specs.Answers.{answerOf}
 use Rattle.offer_rules.specs.Answers.{ask, firstRound}
 use Rattle.offer_rules.proofs.Rounds.{wrote-fits}
-use Rattle.offers.specs.Answers.{firstRoundOf}
-use Rattle.offer_exchange.proofs.Steps.{carried-on, first-refused, server-refused, server-wrote}
+use Rattle.offer_peer.specs.Answers.{firstRoundOf}
+use Rattle.offer_rules.specs.Negotiation.{negotiated, negotiatedBuffer}
+use Rattle.offer_exchange.proofs.Steps.{unasked, server-refused, server-wrote}
 use Rattle.offer_exchange.proofs.negotiate.Statement.{statement}
 use Rattle.offer_exchange.proofs.negotiate.Tie as tie
 
 -- what the first round and the server answered
-asks : (c : tie.After-answer) → let p = c .before .before .before .before .before in let a = p .before .before .before .before .args in firstRound (now (a .offered)) (now (a .supported)) ≡ ask (c .before .before .before .value2 .given .0 .0) (c .before .before .before .value2 .given .0 .1 .0)
-asks c = let p = c .before .before .before .before .before in sym (p .choose .ensures) ∙ ap firstRoundOf (c .before .before .before .value2 .given .1)
+asks : (c : tie.After-answer) → let p = c .before .before .before .before .before in let a = p .before .before .before .before .args in firstRound (now (a .offered)) (now (a .supported)) ≡ ask (c .before .before .before .first .given .0 .0) (c .before .before .before .first .given .0 .1 .0)
+asks c = let p = c .before .before .before .before .before in sym (p .choose .ensures) ∙ ap firstRoundOf (c .before .before .before .first .given .1)
 
 -- the count that the server answers lies within its buffer
 fits : (c : tie.After-count) → let q = c .before .before .before .before in c .count .given .0 .0 ≤ length (q .answer .last .1 .1 .0)
@@ -30,20 +31,25 @@ fits c =
 choose-requires : tie.Need-choose-requires
 choose-requires c κs = search needs
 
-enum-known-value : tie.Need-enum-known-value
-enum-known-value c = search needs
+enum-known-first : tie.Need-enum-known-first
+enum-known-first c = search needs
 
-enum-known-why : tie.Need-enum-known-why
-enum-known-why c = search needs
+value-named-requires : tie.Need-value-named-requires
+value-named-requires c κs = search needs
 
-enum-known-value-2 : tie.Need-enum-known-value-2
-enum-known-value-2 c = search needs
+returns : tie.Need-returns
+unfolding negotiated negotiatedBuffer
+returns c =
+    let p = c .before .before in
+    let a = p .before .before .before .before .args in
+    let u = unasked (p .choose .result) (c .before .match .keys2) (now (a .offered)) (now (a .renewed)) in
+    rw (← p .choose .ensures) (c .value-named .ensures ∙ u .0, u .1)
 
 answer-requires : tie.Need-answer-requires
 answer-requires c κs = search needs
 
-enum-known-why-2 : tie.Need-enum-known-why-2
-enum-known-why-2 c = search needs
+enum-known-why : tie.Need-enum-known-why
+enum-known-why c = search needs
 
 enum-known-count : tie.Need-enum-known-count
 enum-known-count c = search needs
@@ -57,32 +63,20 @@ slice-aggregate-recheck c = sym (length-take-le _ _ (fits (c .before .before)))
 recheck-requires : tie.Need-recheck-requires
 recheck-requires c κs = search needs
 
-returns : tie.Need-returns
-returns c =
-    let p = c .before .before .before in
-    let a = p .before .before .before .before .args in
-    carried-on (now (a .offered)) (now (a .supported)) (now (a .renewed)) (sym (p .choose .ensures) ∙ ap firstRoundOf (c .before .value .given .1))
-
-returns-2 : tie.Need-returns-2
-returns-2 c =
-    let p = c .before .before .before in
-    let a = p .before .before .before .before .args in
-    first-refused (now (a .offered)) (now (a .supported)) (now (a .renewed)) (sym (p .choose .ensures) ∙ ap firstRoundOf (c .before .why .given .1))
-
 same-length : tie.Need-same-length
 same-length c = search needs
 
-returns-3 : tie.Need-returns-3
-returns-3 c =
+returns-2 : tie.Need-returns-2
+returns-2 c =
     let q = c .before .before .before .before .before in
     let a = q .before .before .before .before .before .before .before .before .before .args in
-    server-refused (now (a .offered)) (now (a .supported)) (now (a .renewed)) _ _ _ (asks q) (q .answer .ensures .1) (sym (q .answer .ensures .0) ∙ ap answerOf (c .before .why2 .given .1))
+    server-refused (now (a .offered)) (now (a .supported)) (now (a .renewed)) _ _ _ (asks q) (q .answer .ensures .1) (sym (q .answer .ensures .0) ∙ ap answerOf (c .before .why .given .1))
 
 same-length-2 : tie.Need-same-length-2
 same-length-2 c = search needs
 
-returns-4 : tie.Need-returns-4
-returns-4 c =
+returns-3 : tie.Need-returns-3
+returns-3 c =
     let q = c .before .before .before .before .before .before .before in
     let a = q .before .before .before .before .before .before .before .before .before .args in
     let w = server-wrote (now (a .offered)) (now (a .supported)) (now (a .renewed)) _ _ _ (asks q) (q .answer .ensures .1) (sym (q .answer .ensures .0) ∙ ap answerOf (c .before .before .before .count .given .1)) in
@@ -93,18 +87,16 @@ negotiate-spec =
     tie.close
     (tie.spec
     choose-requires
-    enum-known-value
-    enum-known-why
-    enum-known-value-2
+    enum-known-first
+    value-named-requires
+    returns
     answer-requires
-    enum-known-why-2
+    enum-known-why
     enum-known-count
     slice-reshare-prefix-recheck
     slice-aggregate-recheck
     recheck-requires
-    returns
-    returns-2
     same-length
-    returns-3
+    returns-2
     same-length-2
-    returns-4)
+    returns-3)

@@ -8,7 +8,7 @@ ghost use Rattle.refusal.specs.Checks;
 ghost use Rattle.slices.specs.Same.{sameList};
 ghost use Rattle.offer_rules.specs.Rfc5448.{firstSupported, renewedList};
 ghost use Rattle.offer_rules.specs.Answers.{firstRoundTo, firstRound, renewedAnswer};
-ghost use Rattle.offers.specs.Answers.{firstRoundOf, renewedOf};
+ghost use Rattle.offer_peer.specs.Answers.{firstRoundOf, renewedOf};
 use offer_checks::check_offers;
 use offer_checks::check_reply;
 use offer_checks::contains;

@@ -1,11 +1,11 @@
--- `offers::is_renewal` meets its contract: the first value, then the others.
+-- `offer_peer::is_renewal` meets its contract: the first value, then the others.
 -- Assumes nothing.
 use mathlib.Core.Path.{_∙_}
 use borrow.Author.Needs.{needs}
 use denote.Ref.{now}
-use Rattle.offers.proofs.Lists.{nothing-renewed, other-choice, same-choice}
-use Rattle.offers.proofs.is_renewal.Statement.{statement}
-use Rattle.offers.proofs.is_renewal.Tie as tie
+use Rattle.offer_peer.proofs.Lists.{nothing-renewed, other-choice, same-choice}
+use Rattle.offer_peer.proofs.is_renewal.Statement.{statement}
+use Rattle.offer_peer.proofs.is_renewal.Tie as tie
 
 returns : tie.Need-returns
 returns c = nothing-renewed _ _ _ (c .if1 .taken)

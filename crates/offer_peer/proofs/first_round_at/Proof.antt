@@ -1,12 +1,12 @@
--- `offers::first_round_at` meets its contract.
+-- `offer_peer::first_round_at` meets its contract.
 -- Assumes nothing.
 use borrow.Author.Tests.{le-ltb, lt-ltb}
 use borrow.Author.Needs.{needs}
 use denote.Ref.{now}
 use Rattle.refusal.specs.Checks
 use Rattle.offer_rules.proofs.Rounds.{at-first, at-later}
-use Rattle.offers.proofs.first_round_at.Statement.{statement}
-use Rattle.offers.proofs.first_round_at.Tie as tie
+use Rattle.offer_peer.proofs.first_round_at.Statement.{statement}
+use Rattle.offer_peer.proofs.first_round_at.Tie as tie
 
 returns : tie.Need-returns
 unfolding Checks.unless

@@ -1,12 +1,12 @@
--- `offers::choose` meets its contract.
+-- `offer_peer::choose` meets its contract.
 -- Assumes nothing.
 use mathlib.Core.Path.{sym, ap, _∙_}
 use borrow.Author.Needs.{needs}
 use denote.Ref.{now}
 use Rattle.refusal.specs.Answers.{checkedAs}
 use Rattle.offer_rules.proofs.Rounds.{list-refused, list-passed}
-use Rattle.offers.proofs.choose.Statement.{statement}
-use Rattle.offers.proofs.choose.Tie as tie
+use Rattle.offer_peer.proofs.choose.Statement.{statement}
+use Rattle.offer_peer.proofs.choose.Tie as tie
 
 check-offers-requires : tie.Need-check-offers-requires
 check-offers-requires c κs = search needs

@@ -1,4 +1,4 @@
--- `offers::recheck` meets its contract.
+-- `offer_peer::recheck` meets its contract.
 -- Assumes nothing.
 use mathlib.Core.Path.{_≡_}
 use borrow.Author.Needs.{needs}
@@ -6,8 +6,8 @@ use denote.Ref.{now}
 use Rattle.refusal.specs.Answers.{checkedAs}
 use Rattle.offer_rules.specs.Rfc5448.{renewedCheck}
 use Rattle.offer_rules.specs.Answers.{renewedAnswer}
-use Rattle.offers.proofs.recheck.Statement.{statement}
-use Rattle.offers.proofs.recheck.Tie as tie
+use Rattle.offer_peer.proofs.recheck.Statement.{statement}
+use Rattle.offer_peer.proofs.recheck.Tie as tie
 
 -- what the tests came to
 checked : (c : tie.After-then-check) → let a = c .before .before .before .before .before .before .args in checkedAs (c .then-check .result) ≡ renewedCheck (now (a .original)) (a .choice) (now (a .renewed))

@@ -1,4 +1,4 @@
--- `offers::first_supported` meets its contract: where no offer before index i is supported, the position is counted on from i.
+-- `offer_peer::first_supported` meets its contract: where no offer before index i is supported, the position is counted on from i.
 -- Assumes nothing.
 use Prim.Native.Nat.{_+_, _≤_, _-_}
 use mathlib.Core.Path.{_≡_, sym, _∙_}
@@ -8,9 +8,9 @@ use borrow.Author.Needs.{needs}
 use denote.Ref.{now}
 use lib.ListN.{length, drop}
 use Rattle.offer_rules.specs.Rfc5448.{firstSupported}
-use Rattle.offers.proofs.Lists.{supported-hit, supported-miss, supported-done}
-use Rattle.offers.proofs.first_supported.Statement.{statement}
-use Rattle.offers.proofs.first_supported.Tie as tie
+use Rattle.offer_peer.proofs.Lists.{supported-hit, supported-miss, supported-done}
+use Rattle.offer_peer.proofs.first_supported.Statement.{statement}
+use Rattle.offer_peer.proofs.first_supported.Tie as tie
 
 abbrev Inv-loop : tie.InvT-loop
 Inv-loop offers supported i₀ i = (i ≤ length offers) × (firstSupported offers supported ≡ i + firstSupported (drop i offers) supported)

@@ -3,10 +3,10 @@
 use Rattle.refusal.specs.Answers.{reasonOf}
 unfoldable pub use Rattle.offer_rules.specs.Answers.{firstRound, serverAnswer, serverBuffer, renewedAnswer}
 pub use Rattle.offer_rules.specs.Answers.{FirstAnswer, carryOn, ask, RenewedAnswer, accepted}
-use Rattle.offers.specs.declared.FirstRound.{FirstRound}
-use Rattle.offers.specs.declared.FirstRound.the-variants as first
-use Rattle.offers.specs.declared.Renewed.{Renewed}
-use Rattle.offers.specs.declared.Renewed.the-variants as renewal
+use Rattle.offer_peer.specs.declared.FirstRound.{FirstRound}
+use Rattle.offer_peer.specs.declared.FirstRound.the-variants as first
+use Rattle.offer_peer.specs.declared.Renewed.{Renewed}
+use Rattle.offer_peer.specs.declared.Renewed.the-variants as renewal
 
 -- the first round's answer
 abbrev pub firstRoundOf : FirstRound → FirstAnswer
