@@ -1,17 +1,17 @@
 -- What the reader answers and leaves, by its tests: those before the unwrapping, and the unwrapping's own.
 -- Assumes nothing.
-use Prim.Native.Nat.{ℕ, _-_}
+use Prim.Native.Nat.{ℕ, _-_, _≤_}
 use mathlib.Core.Path.{_≡_, refl, sym, ap, _∙_}
 use mathlib.Core.List.{List}
 use native.Mathlib.Omega.{arith}
-use borrow.Author.Tests.{eq-eqb}
+use borrow.Author.Tests.{eqb-true, eq-eqb}
 use lib.ListN.{length, take, drop, length-drop}
 use Rattle.refusal.specs.Checks.{Reason, Check, pass, refuse, _andThen_, check6}
 use Rattle.refusal.specs.Answers.{reasonOf, Answer, wrote, answerOf, answerTo, bufferAfter}
 use Rattle.refusal.specs.declared.Refusal.{Refusal}
 use Rattle.refusal.specs.declared.Written.{Written}
 use Rattle.refusal.specs.declared.Written.the-variants.{Wrote, Refused}
-use Rattle.refusal.proofs.Passing.{test-holds, both-pass, first-refuses}
+use Rattle.refusal.proofs.Passing.{before-passed, last-passed, test-passed, test-holds, both-pass, first-refuses}
 use Rattle.slices.proofs.Lists.{rest-drop}
 use Rattle.keywrap.specs.Rfc3394.{unwrappedIv, unwrappedKey}
 use Rattle.keywrap.specs.Calls.{check23, check28, keyLength, unwrapCheck}
@@ -22,24 +22,33 @@ use Rattle.key_attribute.specs.KeyAttribute.{check22, keyIn, readCheck, 
 use Rattle.key_attribute.proofs.Told.{told-count, told-refusal}
 
 -- what the reader's contract says of what it returned and left
-pub record Read (kek a buffer : List ℕ) (answer : Answer) (fields : KeyFields) (after : List ℕ) : Type 0 where
-  pub answered : answer ≡ answerIn (reading kek a (length buffer))
-  pub returned : fields ≡ fieldsRead (reading kek a (length buffer))
-  pub left : after ≡ readBuffer kek a buffer
+abbrev pub Read : (kek a buffer : List ℕ) (answer : Answer) (fields : KeyFields) (after : List ℕ) → Type 0
+Read kek a buffer answer fields after =
+    (answer ≡ answerIn (reading kek a (length buffer))) × ((fields ≡ fieldsRead (reading kek a (length buffer))) × (after ≡ readBuffer kek a buffer))
 
 -- by what its tests came to
 by-check : (kek a buffer : List ℕ) (c : Check) {answer : Answer} {fields : KeyFields} {after : List ℕ} → readCheck kek a (length buffer) ≡ c
     → answer ≡ answerIn (readingTo c (fieldsIn a) (keyLengthIn a)) → fields ≡ fieldsRead (readingTo c (fieldsIn a) (keyLengthIn a)) → after ≡ bufferAfter c (keyLengthIn a) (keyIn kek a) buffer
     → Read kek a buffer answer fields after
 unfolding reading readBuffer
-by-check kek a buffer c e p q s =
+by-check kek a buffer c e p q s = (rw e p, (rw e q, rw e s))
+
+-- what the tests before the unwrapping say where they pass
+pub record Ready (kek a : List ℕ) : Type 0 where
+  pub kek-size : length kek ≡ 16
+  pub frame : frameCheck a ≡ pass
+  pub long : 76 ≤ length a
+
+pub ready : (kek a : List ℕ) → (check22 kek andThen frameCheck a) ≡ pass → Ready kek a
+ready kek a e =
+    let frame = last-passed _ _ e in
     record {
-      answered = rw e p;
-      returned = rw e q;
-      left = rw e s;
+      kek-size = eqb-true _ _ (test-passed _ _ (before-passed _ _ e));
+      frame = frame;
+      long = omega (arith, framed a frame .size .key .low);
     }
 
--- the tests before the unwrapping refuse
+-- they refuse
 pub refused-early : (kek a buffer : List ℕ) (x : Reason) {answer : Answer} {fields : KeyFields} → (check22 kek andThen frameCheck a) ≡ refuse x
     → answer ≡ Answer.refused x → fields ≡ noFields → Read kek a buffer answer fields buffer
 unfolding readCheck
@@ -56,12 +65,12 @@ rest-of kek a room hk hf =
     ∙ ap (λ (k : ℕ). check23 k andThen check6 k room andThen check28 (unwrappedIv kek (wrappedIn a))) (sym n)
 
 -- what the unwrapping of the attribute's part from byte 52 on answered and left, said of the attribute
-module _ (kek a buffer kek₁ : List ℕ) (hk : length kek ≡ 16) (hf : frameCheck a ≡ pass) (k : kek₁ ≡ kek) where
+module _ (kek a buffer kek₁ : List ℕ) (r : Ready kek a) (k : kek₁ ≡ kek) where
   abbrev part : List ℕ
   part = take (length a - 52) (drop 52 a)
 
   part-check : unwrapCheck kek₁ part (length buffer) ≡ readCheck kek a (length buffer)
-  part-check = rw (rest-drop 52 a, k) (sym (rest-of kek a (length buffer) hk hf))
+  part-check = rw (rest-drop 52 a, k) (sym (rest-of kek a (length buffer) (r .kek-size) (r .frame)))
 
   part-length : keyLength part ≡ keyLengthIn a
   part-length = rw (rest-drop 52 a) (simp length-drop (omega arith))

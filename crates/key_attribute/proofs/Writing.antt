@@ -75,7 +75,7 @@ same-fit n room start e =
     back (no h) fits = let s = long h in omega arith
 
 -- what is so where the wrap routine, lent the part from there on, answers a count
-pub record Accepted (f : KeyFields) (kek key buffer : List ℕ) (start n : ℕ) : Type 0 where
+record Accepted (f : KeyFields) (kek key buffer : List ℕ) (start n : ℕ) : Type 0 where
   pub tests : writeCheck f kek key (length buffer) ≡ pass
   pub count : n ≡ length key + 8
   pub size : KeyLength (length key)
@@ -105,7 +105,7 @@ module _ (f : KeyFields) (kek key buffer : List ℕ) (ok : named f kek ≡ pass)
       rw (rest-tests, c) (refl, put-from start buffer z ∙ rw same (take-append-drop start buffer))
 
   -- it accepts
-  pub accepted-wrap : (n : ℕ) → wrote n ≡ answerTo (wrapCheck (length key) (length part)) (length key + 8) → Accepted f kek key buffer start n
+  accepted-wrap : (n : ℕ) → wrote n ≡ answerTo (wrapCheck (length key) (length part)) (length key + 8) → Accepted f kek key buffer start n
   unfolding writeCheck
   accepted-wrap n a =
       let t = told-count _ _ n a in
@@ -120,23 +120,33 @@ module _ (f : KeyFields) (kek key buffer : List ℕ) (ok : named f kek ≡ pass)
         at-52 = at ∙ min-eq-left long;
       }
 
-  -- and there is room for the header before what it left
+  -- the attribute's length is at most 252
+  pub length-small : (n : ℕ) → wrote n ≡ answerTo (wrapCheck (length key) (length part)) (length key + 8) → 52 + n ≤ 252
+  length-small n a = let acc = accepted-wrap n a in omega (arith, acc .count, acc .size .high)
+
+  -- there is room for the header before what it left
   before-part : {n : ℕ} → Accepted f kek key buffer start n → length (take start buffer) ≡ 52
   before-part acc = length-take-le start buffer (omega (arith, acc .at-52, acc .fits)) ∙ acc .at-52
 
-  pub header-room : {n : ℕ} {z left : List ℕ} → Accepted f kek key buffer start n → z ≡ left → 52 ≤ length (putMid start (length buffer - start) buffer z)
-  header-room {z = z} acc e =
+  pub header-room : (kek₁ : List ℕ) (n : ℕ) {z : List ℕ} → wrote n ≡ answerTo (wrapCheck (length key) (length part)) (length key + 8)
+      → z ≡ bufferAfter (wrapCheck (length key) (length part)) (length key + 8) (wrapped kek₁ key) part
+      → (length (f .«kek_id») ≡ 16) × (length (f .«key_id») ≡ 16) × (52 ≤ length (putMid start (length buffer - start) buffer z))
+  header-room kek₁ n {z} a e =
+      let acc = accepted-wrap n a in
+      let l = lengths f kek ok in
       let size : length (take start buffer ++ z) ≡ 52 + length z = length-append (take start buffer) z ∙ ap (λ (k : ℕ). k + length z) (before-part acc) in
-      rw (put-from start buffer z) (omega arith)
+      let room : 52 ≤ length (putMid start (length buffer - start) buffer z) = rw (put-from start buffer z) (omega arith) in
+      (l .kek-id, l .key-id, room)
 
   -- which is put there
-  pub written-wrap : (kek₁ : List ℕ) (n all : ℕ) {z after : List ℕ} → Accepted f kek key buffer start n → kek₁ ≡ kek
+  pub written-wrap : (kek₁ : List ℕ) (n all : ℕ) {z after : List ℕ} → wrote n ≡ answerTo (wrapCheck (length key) (length part)) (length key + 8) → kek₁ ≡ kek
       → z ≡ bufferAfter (wrapCheck (length key) (length part)) (length key + 8) (wrapped kek₁ key) part
       → all ≡ 52 + n
       → after ≡ header f all ++ drop 52 (putMid start (length buffer - start) buffer z)
       → (wrote all ≡ writeAnswer f kek key (length buffer)) × (after ≡ writeBuffer f kek key buffer)
   unfolding writeAnswer writeBuffer attribute
-  written-wrap kek₁ n all {z} {after} acc k b s h =
+  written-wrap kek₁ n all {z} {after} a k b s h =
+      let acc = accepted-wrap n a in
       let size : all ≡ attributeLength key = omega (arith, acc .count) in
       let c : wrapCheck (length key) (length part) ≡ pass = sym rest-tests ∙ acc .tests in
       let far : start + (length key + 8) ≡ 60 + length key = omega (arith, acc .at-52) in

@@ -3,10 +3,10 @@ ghost use mathlib.Core.Path.{_≡_};
 ghost use mathlib.Core.List.{_++_};
 ghost use Prim.Native.Nat.{_+_, _≤_};
 ghost use lib.ListN.{length, take, drop};
-ghost use Rattle.refusal.specs.Checks.{pass, _andThen_};
+ghost use Rattle.refusal.specs.Checks.{_andThen_};
 ghost use Rattle.refusal.specs.Answers.{Answer, checkedAs, answerOf, reasonOf};
 ghost use Rattle.slices.specs.Numbers.{be32At};
-ghost use Rattle.key_frame.specs.KeyFrame.{header, fieldsIn, check20, frameCheck};
+ghost use Rattle.key_frame.specs.KeyFrame.{header, fieldsIn, check20};
 ghost use Rattle.key_attribute.specs.KeyAttribute.{fieldsOf, check21, check22, writeAnswer, writeBuffer, reading, readBuffer, answerIn, noFields, fieldsRead};
 use key_frame::KeyFields;
 use refusal::Checked;
@@ -95,43 +95,8 @@ fn check_named(attribute_type: u8, kek_id: &[u8], key_id: &[u8], kek: &[u8]) -> 
     then_check(c21, check_kek(kek))
 }
 
-// Writes an attribute whose tests before the wrapping pass. The part of out from byte 52 on is lent to the wrap routine, which tests the key and the room;
-// the bytes before it are written once it has accepted both.
-fn write_named(
-    attribute_type: u8,
-    app_id: u32,
-    kek_id: &[u8],
-    key_id: &[u8],
-    lifetime: u32,
-    kek: &[u8],
-    key: &[u8],
-    out: &mut [u8],
-) -> Written
-    requires { ⌜ (check20 «attribute_type» andThen check21 (now «kek_id») (now «key_id») andThen check22 (now kek)) ≡ pass ⌝ }
-    ensures answer { λ r. ⌜ answerOf r ≡ writeAnswer (fieldsOf «attribute_type» «app_id» (now («kek_id» .entry)) (now («key_id» .entry)) lifetime) (now (kek .entry)) (now (key .entry)) (length (now (out .entry))) ⌝ }
-    ensures buffer { λ _. ⌜ now (out .exit) ≡ writeBuffer (fieldsOf «attribute_type» «app_id» (now («kek_id» .entry)) (now («key_id» .entry)) lifetime) (now (kek .entry)) (now (key .entry)) (now (out .entry)) ⌝ }
-{
-    let start = least(52, out.len());
-    let wrapped = keywrap::wrap(sixteen(kek), key, &mut out[start..]);
-    match wrapped {
-        Written::Refused(why) => Written::Refused(why),
-        Written::Wrote(n) => {
-            let all = 52 + n;
-            put_header(
-                attribute_type,
-                all as u8,
-                app_id,
-                kek_id,
-                key_id,
-                lifetime,
-                out,
-            );
-            Written::Wrote(all)
-        }
-    }
-}
-
-// Writes the attribute that carries a key, wrapped under a KEK, and answers its length.
+// Writes the attribute that carries a key, wrapped under a KEK, and answers its length. The part of out from byte 52 on is lent to the wrap routine, which tests
+// the key's length and the room. The bytes before it are written once the wrap routine has accepted both.
 pub fn write(
     attribute_type: u8,
     app_id: u32,
@@ -148,16 +113,26 @@ pub fn write(
     let check = check_named(attribute_type, kek_id, key_id, kek);
     match check {
         Checked::Failed(why) => Written::Refused(why),
-        Checked::Passed => write_named(
-            attribute_type,
-            app_id,
-            kek_id,
-            key_id,
-            lifetime,
-            kek,
-            key,
-            out,
-        ),
+        Checked::Passed => {
+            let start = least(52, out.len());
+            let wrapped = keywrap::wrap(sixteen(kek), key, &mut out[start..]);
+            match wrapped {
+                Written::Refused(late) => Written::Refused(late),
+                Written::Wrote(n) => {
+                    let all = 52 + n;
+                    put_header(
+                        attribute_type,
+                        all as u8,
+                        app_id,
+                        kek_id,
+                        key_id,
+                        lifetime,
+                        out,
+                    );
+                    Written::Wrote(all)
+                }
+            }
+        }
     }
 }
 
@@ -194,24 +169,8 @@ fn not_read(why: Refusal) -> KeyRead
     }
 }
 
-// Reads an attribute whose frame passes: its key goes to out once the unwrapping has yielded the initial value.
-fn read_framed(kek: &[u8], attribute: &[u8], out: &mut [u8]) -> KeyRead
-    requires { ⌜ (length (now kek) ≡ 16) × (frameCheck (now attribute) ≡ pass) ⌝ }
-    ensures answer { λ r. ⌜ answerOf (r .answer) ≡ answerIn (reading (now (kek .entry)) (now (attribute .entry)) (length (now (out .entry)))) ⌝ }
-    ensures fields { λ r. ⌜ r .fields ≡ fieldsRead (reading (now (kek .entry)) (now (attribute .entry)) (length (now (out .entry)))) ⌝ }
-    ensures buffer { λ _. ⌜ now (out .exit) ≡ readBuffer (now (kek .entry)) (now (attribute .entry)) (now (out .entry)) ⌝ }
-{
-    let answer = keywrap::unwrap(sixteen(kek), &attribute[52..], out);
-    match answer {
-        Written::Refused(why) => not_read(why),
-        Written::Wrote(n) => KeyRead {
-            answer: Written::Wrote(n),
-            fields: fields(attribute),
-        },
-    }
-}
-
-// Reads an attribute: answers its fields and the key's length, and writes the key.
+// Reads an attribute: answers its fields and the key's length, and writes the key. The unwrapping tests the room, and writes nothing before it has yielded the
+// initial value.
 pub fn read(kek: &[u8], attribute: &[u8], out: &mut [u8]) -> KeyRead
     ensures answer { λ r. ⌜ answerOf (r .answer) ≡ answerIn (reading (now (kek .entry)) (now (attribute .entry)) (length (now (out .entry)))) ⌝ }
     ensures fields { λ r. ⌜ r .fields ≡ fieldsRead (reading (now (kek .entry)) (now (attribute .entry)) (length (now (out .entry)))) ⌝ }
@@ -220,6 +179,15 @@ pub fn read(kek: &[u8], attribute: &[u8], out: &mut [u8]) -> KeyRead
     let check = then_check(check_kek(kek), key_frame::check_frame(attribute));
     match check {
         Checked::Failed(why) => not_read(why),
-        Checked::Passed => read_framed(kek, attribute, out),
+        Checked::Passed => {
+            let answer = keywrap::unwrap(sixteen(kek), &attribute[52..], out);
+            match answer {
+                Written::Refused(late) => not_read(late),
+                Written::Wrote(n) => KeyRead {
+                    answer: Written::Wrote(n),
+                    fields: fields(attribute),
+                },
+            }
+        }
     }
 }

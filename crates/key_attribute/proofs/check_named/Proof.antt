@@ -1,5 +1,6 @@
 -- `key_attribute::check_named` meets its contract: each test answers its check, and the combinators join them in their order.
 -- Assumes nothing.
+use Rattle.key_frame.proofs.Frames.{joined}
 use borrow.Author.Needs.{needs}
 use Rattle.key_attribute.proofs.check_named.Statement.{statement}
 use Rattle.key_attribute.proofs.check_named.Tie as tie
@@ -25,7 +26,7 @@ returns c =
     let ids = kek .before in
     let two = ids .before in
     let one = two .before in
-    rw (c .then-check2 .ensures, ids .then-check .ensures, one .unless .ensures, two .unless2 .ensures, kek .check-kek .ensures)
+    joined (c .then-check2 .ensures) (joined (ids .then-check .ensures) (one .unless .ensures) (two .unless2 .ensures)) (kek .check-kek .ensures)
 
 pub check-named-spec : {M : Type 1} → statement M
 check-named-spec =
