@@ -69,6 +69,8 @@
 #ifndef KETVAULO_H
 #define KETVAULO_H
 
+#define KV_VERSION "1.1.0"
+
 #include <stddef.h>
 #include <stdint.h>
 
