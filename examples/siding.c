@@ -64,7 +64,7 @@ static void negotiate(void)
         printf(" %u", (unsigned)renewed[i]);
     printf("\n");
 
-    kv_outcome peer = kv_check_renewed(offers, 2, (uint16_t)first.value, renewed, server.value);
+    kv_outcome peer = kv_check_renewed(offers, 2, (uint16_t)first.value, renewed, (size_t)server.value);
     expect_accepted("kv_check_renewed", peer.refusal);
     printf("agreed on %u\n", (unsigned)peer.value);
 }
@@ -87,22 +87,22 @@ static void read_area(void)
 static void send_key(const uint8_t key[32])
 {
     static const uint8_t kek[16] = { 0, 1, 2, 3, 4, 5, 6, 7, 8, 9, 10, 11, 12, 13, 14, 15 };
-    static const uint8_t kek_id[16] = "yard kek 0000001", key_id[16] = "siding gate/0012";
+    static const uint8_t kek_id[] = "yard kek 0000001", key_id[] = "siding gate/0012";
     uint8_t attribute[252];
     kv_outcome sent = kv_write_key_attribute(26, 7, kek_id, 16, key_id, 16, 3600, kek, 16, key, 32, attribute,
                                              sizeof attribute);
     expect_accepted("kv_write_key_attribute", sent.refusal);
-    print_bytes("attribute", attribute, sent.value);
+    print_bytes("attribute", attribute, (size_t)sent.value);
 
     uint8_t opened[192];
-    kv_key_attribute got = kv_read_key_attribute(kek, 16, attribute, sent.value, opened, sizeof opened);
+    kv_key_attribute got = kv_read_key_attribute(kek, 16, attribute, (size_t)sent.value, opened, sizeof opened);
     expect_accepted("kv_read_key_attribute", got.refusal);
     printf("type %u, App ID %u, lifetime %u, Key ID %.16s\n", (unsigned)got.type, (unsigned)got.app_id,
            (unsigned)got.lifetime, (const char *)got.key_id);
     print_bytes("opened", opened, got.key_len);
 
     attribute[60] ^= 1;
-    got = kv_read_key_attribute(kek, 16, attribute, sent.value, opened, sizeof opened);
+    got = kv_read_key_attribute(kek, 16, attribute, (size_t)sent.value, opened, sizeof opened);
     printf("spoilt on the way: refused %u\n", (unsigned)got.refusal);
 }
 

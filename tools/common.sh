@@ -78,6 +78,23 @@ make_library() {
     log=$(build_library 2>&1) || { printf '%s\n' "$log" >&2; say 'cannot make libketvaulo.a'; return 1; }
 }
 
+# core_flags TARGET: the flags by which clang compiles for the core of a controller; status 1 where it is no target
+core_flags() {
+    # memcpy and its kin by their C names, and not as __aeabi_memcpy
+    local arm='-meabi gnu'
+    case $1 in
+    cortex-m0plus) echo "--target=thumbv6m-none-eabi -mcpu=cortex-m0plus -mfloat-abi=soft $arm" ;;
+    cortex-m3) echo "--target=thumbv7m-none-eabi -mcpu=cortex-m3 -mfloat-abi=soft $arm" ;;
+    cortex-m4) echo "--target=thumbv7em-none-eabi -mcpu=cortex-m4 -mfloat-abi=soft $arm" ;;
+    cortex-m4f) echo "--target=thumbv7em-none-eabihf -mcpu=cortex-m4 -mfloat-abi=hard -mfpu=fpv4-sp-d16 $arm" ;;
+    cortex-m7f) echo "--target=thumbv7em-none-eabihf -mcpu=cortex-m7 -mfloat-abi=hard -mfpu=fpv5-d16 $arm" ;;
+    cortex-m33) echo "--target=thumbv8m.main-none-eabi -mcpu=cortex-m33 -mfloat-abi=soft $arm" ;;
+    cortex-m33f) echo "--target=thumbv8m.main-none-eabihf -mcpu=cortex-m33 -mfloat-abi=hard -mfpu=fpv5-sp-d16 $arm" ;;
+    rv32imac) echo '--target=riscv32-unknown-elf -march=rv32imac -mabi=ilp32' ;;
+    *) return 1 ;;
+    esac
+}
+
 # The library's version, which the header states.
 version() { sed -n 's/^#define KV_VERSION "\(.*\)"$/\1/p' include/ketvaulo.h; }
 
