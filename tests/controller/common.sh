@@ -53,7 +53,7 @@ bare_objects() {
     for source in "${sources[@]}"; do
         # shellcheck disable=SC2086 # words
         "$bin/clang" --no-default-config $core -std=gnu11 -O2 -ffreestanding -fno-builtin -ffunction-sections -fdata-sections -nostdinc \
-            -isystem tools/freestanding -isystem tests/controller/include -I include -I fuzz -I tests/controller -I "$made" \
+            -Qunused-arguments -isystem tools/freestanding -isystem tests/controller/include -I include -I fuzz -I tests/controller -I "$made" \
             -Wall -Wextra -Werror "${flags[@]}" -c "$source" -o "$folder/$(basename "$source").o" || return 1
     done
 }
@@ -78,4 +78,26 @@ run_bare() {
     *) timeout 300 $(qemu_for "$target") "$@" -display none -serial none -monitor none -semihosting-config enable=on,target=native \
         -kernel "$program" </dev/null 2>&1 ;;
     esac
+}
+
+# make_watched: what the program that looks at the stack is made of besides its sources
+make_watched() {
+    make_seeds tests/controller/largest "$made/seeds.c"
+    awk -f tools/header.awk include/ketvaulo.h | sed -n 's/^\(kv_[a-z0-9_]*\) .*(.*/watched \1/p' >"$made/watched.inc"
+}
+
+# watch_program TARGET OUT ARCHIVE [FLAG]: the program that looks at the stack under the calls
+watch_program() {
+    local target=$1 out=$2 library=$3 machine wraps
+    shift 3
+    case $target in
+    x86-64) machine=x86 ;;
+    cortex-*) machine=arm ;;
+    rv32*) machine=riscv ;;
+    esac
+    bare_objects "$target" "$out.o" tests/controller/stack.c "tests/controller/watch_$machine.S" tests/controller/lent.c fuzz/calls.c \
+        fuzz/requests.c "$made/seeds.c" "$@" || return 1
+    wraps=$(sed 's/^watched /--wrap=/' "$made/watched.inc")
+    # shellcheck disable=SC2086 # words
+    bare_link "$target" "$out" "$out.o" "$library" $wraps
 }

@@ -1,0 +1,72 @@
+/* Makes each request of a file like fuzz/seeds, first as it is and then with the stack wiped after the call. Prints for each: the call,
+ * its refusal, the bytes of stack that it took, what the machine counted (watch.h), and how many bytes in a row of an input or of the
+ * output were left on the stack, without the wipe and with it. */
+#include "ketvaulo_wipe.h"
+#include "port.h"
+#include "requests.h"
+#include "seeds.h"
+#include "shift.h"
+#include "watch.h"
+
+#include <stdio.h>
+
+/* The wipe has to reach from right below the caller, as it does where the caller calls it. */
+void watch_wipe(void) { kv_wipe_stack(); }
+
+/* The bytes of stack from the caller down to the deepest word that is not paint. */
+static uint32_t depth(void)
+{
+    uint32_t lowest = 0;
+    while (lowest < WATCHED / 4 && watch_image[lowest] == PAINT)
+        lowest++;
+    return WATCHED - 4 * lowest;
+}
+
+/* How many bytes in a row of this text stand in the stack, of its first and its last 300; zeros at the start of a row do not count. */
+static uint32_t left_of(const uint8_t *bytes, size_t n)
+{
+    const uint8_t *image = (const uint8_t *)watch_image;
+    uint32_t most = 0;
+    for (size_t i = 0; i < n; i++) {
+        if (i == 300 && n > 600)
+            i = n - 300;
+        if (bytes[i] == 0)
+            continue;
+        for (uint32_t at = 0; at < WATCHED; at++) {
+            uint32_t row = 0;
+            while (i + row < n && at + row < WATCHED && image[at + row] == bytes[i + row])
+                row++;
+            if (row > most)
+                most = row;
+        }
+    }
+    return most;
+}
+
+static uint32_t left(const request *asked, const answer *given)
+{
+    const shape *form = &shapes[asked->call];
+    uint32_t most = left_of((const uint8_t *)given->out, given->written * form->out_width);
+    for (int i = 0; i < form->slices; i++) {
+        uint32_t row = left_of(asked->in[i].values, asked->in[i].count * form->width);
+        if (row > most)
+            most = row;
+    }
+    return most;
+}
+
+int program(void)
+{
+    static answer given;
+    for (size_t i = 0; i < seed_count; i++) {
+        request asked = read_request(seeds[i].bytes, seeds[i].size);
+        watch_wipes = 0;
+        perform(&asked, &given);
+        uint32_t bytes = depth(), count = watch_after - watch_before, before = left(&asked, &given);
+        watch_wipes = 1;
+        perform(&asked, &given);
+        printf("%s %u %u %u %u %u\n", shapes[asked.call].name, given.refusal, bytes, count, before, left(&asked, &given));
+        free_request(&asked);
+    }
+    return 0;
+}
