@@ -2,11 +2,13 @@
 # Builds the library for the cores of controllers (tools/controller) and compares what it answers there, under qemu, with x86-64: byte for
 # byte over every request of fuzz/seeds, over the accepted ones with each byte spoilt in turn, and over thousands of random requests, with
 # buffers at every address. A new call needs its lines in fuzz/calls.c and fuzz/seeds, and no edit here. Then looks that wrappers made wrong
-# on purpose are caught, and runs the example. The kit's clang and ld.lld compile and link everything; only qemu is installed. Takes about
-# a minute. Last line: 'N passed, M failed'.
+# on purpose are caught, and runs the example. The kit's clang and ld.lld compile and link everything; only qemu is installed. Takes half a
+# minute on an idle machine. Last line: 'N passed, M failed'. With names of targets as arguments it compares these and cortex-m4 instead of
+# the gate's three.
 set -u
 cd "$(dirname "$0")/.." && . tools/common.sh && . tests/controller/common.sh || exit 1
-targets='cortex-m4 cortex-m0plus rv32imac'
+targets=${*:-cortex-m4 cortex-m0plus rv32imac}
+case " $targets " in *' cortex-m4 '*) ;; *) targets="cortex-m4 $targets" ;; esac
 answers="tests/controller/answers.c tests/controller/lent.c fuzz/calls.c fuzz/requests.c $made/seeds.c"
 
 # build TARGET NAME [OPTION]: the library for a core, below NAME
@@ -45,7 +47,7 @@ on_x86_64() {
 # is_caught SED-SCRIPT: wrappers spoilt by it are built, and answer otherwise
 is_caught() {
     WRAPPERS_EDIT=$1 build cortex-m4 wrong || return 1
-    ! answers cortex-m4 wrong >/dev/null
+    ! answers cortex-m4 wrong >"$made/wrong/answers.diff" && ! grep -q FAULT "$made/wrong/answers.diff"
 }
 
 # trap_is_set: the library that is built without regard to the trap ends in it
@@ -59,13 +61,8 @@ refuses_widths() {
     grep -q ptrtoint "$made/wide.ll" && ! KETVAULO_MODULE=$made/wide.ll tools/controller cortex-m4 "$made/wide" >/dev/null 2>&1
 }
 
-example() {
-    bare_objects "$1" "$made/siding.o" tests/controller/main.c examples/siding.c -Wconversion &&
-        bare_link "$1" "$made/$1/siding" "$made/siding.o" "$made/$1/lib/libketvaulo.a" &&
-        run_bare "$1" "$made/$1/siding" | diff - examples/siding.expected
-}
-
-install_qemu || say 'qemu is missing'
+# shellcheck disable=SC2086 # words
+install_qemu $targets || say 'qemu is missing'
 check 'the archive' make_archive
 check 'the module' make_module
 make_seeds fuzz/seeds "$made/seeds.c"
@@ -75,7 +72,7 @@ for target in $targets; do
     check "$target: the program" compile "$target" "$target.o"
     check "$target: the same answers" answers "$target" "$target"
 done
-for target in x86-64 $targets; do check "$target: the example" example "$target"; done
+for target in x86-64 $targets; do check "$target: the example" run_example "$target" "$made/$target/lib/libketvaulo.a"; done
 check 'unaligned access trapped: the library' build cortex-m4 strict --trap-unaligned
 check 'unaligned access trapped: the program' compile cortex-m4 strict.o -DTRAP_UNALIGNED -mno-unaligned-access
 check 'unaligned access trapped: the same answers' answers cortex-m4 strict strict.o

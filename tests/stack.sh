@@ -10,7 +10,7 @@ targets='x86-64 cortex-m4 cortex-m0plus rv32imac'
 
 calls() { awk -f tools/header.awk include/ketvaulo.h | sed -n 's/^\(kv_[a-z0-9_]*\) .*(.*/\1/p'; }
 
-# measure TARGET: 'CALL REFUSAL STACK COUNT LEFT LEFT-AFTER-WIPE' for each call
+# measure TARGET: 'CALL REFUSAL STACK INSTRUCTIONS LEFT LEFT-AFTER-WIPE' for each call
 measure() {
     local library=$made/$1/lib/libketvaulo.a
     case $1 in
@@ -64,7 +64,8 @@ row() {
     printf '\n'
 }
 
-install_qemu || say 'qemu is missing'
+# shellcheck disable=SC2086 # words
+install_qemu $targets || say 'qemu is missing'
 check 'the archive' make_archive
 check 'the module' make_module
 make_watched

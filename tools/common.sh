@@ -7,7 +7,7 @@ archive=${KETVAULO_ARCHIVE:-target/staticlib/libketvaulo.a}
 # say TEXT..: a line on standard error, with the script's name in front
 say() { printf '%s: %s\n' "${0##*/}" "$*" >&2; }
 
-# install_for FILE PACKAGE ..: installs each package whose file is missing. A file without a slash is a command.
+# install_for FILE PACKAGE ..: installs each package whose file is missing, with apt_options. A file without a slash is a command.
 install_for() {
     local missing=() as_root=()
     while [ $# -gt 0 ]; do
@@ -20,7 +20,7 @@ install_for() {
     [ ${#missing[@]} -gt 0 ] || return 0
     [ "$(id -u)" -eq 0 ] || as_root=(sudo)
     say "installing ${missing[*]}"
-    { "${as_root[@]}" apt-get -q update && "${as_root[@]}" apt-get -q install -y "${missing[@]}"; } >&2 ||
+    { "${as_root[@]}" apt-get -q update && "${as_root[@]}" apt-get -q install -y ${apt_options:-} "${missing[@]}"; } >&2 ||
         { say "cannot install ${missing[*]}"; return 1; }
 }
 

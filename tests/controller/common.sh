@@ -10,12 +10,18 @@ qemu_for() {
     cortex-m0plus) echo qemu-system-arm -M microbit -global nrf51-soc.sram-size=1048576 ;;
     cortex-m3) echo qemu-system-arm -M mps2-an385 ;;
     cortex-m4*) echo qemu-system-arm -M mps2-an386 ;;
+    cortex-m7*) echo qemu-system-arm -M mps2-an500 ;;
+    cortex-m33*) echo qemu-system-arm -M mps2-an505 ;;
     rv32imac) echo qemu-system-riscv32 -M virt -bios none ;;
     esac
 }
 
-# Debian's packages with these, and no more than they need
-install_qemu() { install_for qemu-system-arm qemu-system-arm qemu-system-riscv32 qemu-system-misc; }
+# install_qemu TARGET..: Debian's packages with the machines of these targets, and no more than they need
+install_qemu() {
+    local words=$*
+    case $words in *cortex*) apt_options=--no-install-recommends install_for qemu-system-arm qemu-system-arm || return 1 ;; esac
+    case $words in *rv32*) apt_options=--no-install-recommends install_for qemu-system-riscv32 qemu-system-misc || return 1 ;; esac
+}
 
 # make_seeds FILE OUT.c: the requests of a file like fuzz/seeds, for a program
 make_seeds() {
@@ -63,6 +69,8 @@ bare_link() {
     local target=$1 out=$2 folder=$3 archive=$4 script=()
     shift 4
     case $target in
+    # flash and RAM of that board as they are without TrustZone
+    cortex-m33*) sed 's/ORIGIN = 0,/ORIGIN = 0x10000000,/; s/0x20000000/0x38000000/' tests/controller/arm.ld >"$made/m33.ld" && script=(-T "$made/m33.ld") ;;
     cortex-*) script=(-T tests/controller/arm.ld) ;;
     rv32*) script=(-T tests/controller/riscv.ld) ;;
     esac
@@ -78,6 +86,12 @@ run_bare() {
     *) timeout 300 $(qemu_for "$target") "$@" -display none -serial none -monitor none -semihosting-config enable=on,target=native \
         -kernel "$program" </dev/null 2>&1 ;;
     esac
+}
+
+# run_example TARGET LIBRARY: whether the example prints there what it must
+run_example() {
+    bare_objects "$1" "$made/siding.$1.o" tests/controller/main.c examples/siding.c -Wconversion &&
+        bare_link "$1" "$made/siding.$1" "$made/siding.$1.o" "$2" && run_bare "$1" "$made/siding.$1" | diff - examples/siding.expected
 }
 
 # make_watched: what the program that looks at the stack is made of besides its sources

@@ -1,14 +1,23 @@
-/* The functions of the C library that the programs and the library need. All of them go byte by byte, so that they work where unaligned
- * access is trapped. */
+/* The functions of the C library that the programs and the library need. None of them reads or writes a word at an address that 4 does not
+ * divide, so that they work where unaligned access is trapped. */
 #include "port.h"
 
+#include <stdint.h>
 #include <stdio.h>
 #include <stdlib.h>
 #include <string.h>
 
+typedef uint32_t __attribute__((may_alias)) word;
+
+static int aligned(const void *address) { return (uintptr_t)address % sizeof(word) == 0; }
+
 void *memcpy(void *restrict to, const void *restrict from, size_t n)
 {
-    for (size_t i = 0; i < n; i++)
+    size_t i = 0;
+    if (aligned(to) && aligned(from))
+        for (; n - i >= sizeof(word); i += sizeof(word))
+            *(word *)((char *)to + i) = *(const word *)((const char *)from + i);
+    for (; i < n; i++)
         ((char *)to)[i] = ((const char *)from)[i];
     return to;
 }
@@ -26,7 +35,11 @@ void *memmove(void *to, const void *from, size_t n)
 
 void *memset(void *to, int byte, size_t n)
 {
-    for (size_t i = 0; i < n; i++)
+    size_t i = 0;
+    if (aligned(to))
+        for (; n - i >= sizeof(word); i += sizeof(word))
+            *(word *)((char *)to + i) = 0x01010101u * (uint8_t)byte;
+    for (; i < n; i++)
         ((char *)to)[i] = (char)byte;
     return to;
 }

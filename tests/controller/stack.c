@@ -1,6 +1,6 @@
 /* Makes each request of a file like fuzz/seeds, first as it is and then with the stack wiped after the call. Prints for each: the call,
- * its refusal, the bytes of stack that it took, what the machine counted (watch.h), and how many bytes in a row of an input or of the
- * output were left on the stack, without the wipe and with it. */
+ * its refusal, the bytes of stack that it took, its instructions (where the machine counts them, watch.h), and how many bytes in a row of an
+ * input or of the output were left on the stack, without the wipe and with it. */
 #include "ketvaulo_wipe.h"
 #include "port.h"
 #include "requests.h"
@@ -20,6 +20,16 @@ static uint32_t depth(void)
     while (lowest < WATCHED / 4 && watch_image[lowest] == PAINT)
         lowest++;
     return WATCHED - 4 * lowest;
+}
+
+/* The instructions of the last call, and about a dozen of watching it. */
+static uint32_t instructions(void)
+{
+#ifdef __riscv
+    return (uint32_t)((watch_after - watch_before) >> 8);
+#else
+    return (uint32_t)((watch_before - watch_after) * 5 >> 5);
+#endif
 }
 
 /* How many bytes in a row of this text stand in the stack, of its first and its last 300; zeros at the start of a row do not count. */
@@ -62,7 +72,7 @@ int program(void)
         request asked = read_request(seeds[i].bytes, seeds[i].size);
         watch_wipes = 0;
         perform(&asked, &given);
-        uint32_t bytes = depth(), count = watch_after - watch_before, before = left(&asked, &given);
+        uint32_t bytes = depth(), count = instructions(), before = left(&asked, &given);
         watch_wipes = 1;
         perform(&asked, &given);
         printf("%s %u %u %u %u %u\n", shapes[asked.call].name, given.refusal, bytes, count, before, left(&asked, &given));

@@ -13,9 +13,9 @@ extern uint32_t watch_image[WATCHED / 4];
 /* Whether kv_wipe_stack is called after a call. */
 extern uint32_t watch_wipes;
 
-/* What the machine counts, before the last call and after it: on Arm the board's first timer, on RISC-V instructions retired, on x86-64
- * nothing. */
-extern uint32_t watch_before, watch_after;
+/* What the machine counts, before the last call and after it, where qemu runs with -icount shift=8: on Arm the board's first timer, which
+ * counts down by 6.4 an instruction; on RISC-V 256 an instruction; on x86-64 nothing. */
+extern uint64_t watch_before, watch_after;
 
 void watch_wipe(void);
 #endif

@@ -82,13 +82,13 @@ watch_end:
     .ltorg
 
     .bss
-    .p2align 2
+    .p2align 3
+watch_before: .space 8
+watch_after: .space 8
 watch_saved: .space 40   /* r1 to r7, r0, lr, the call */
 watch_result: .space 16  /* r1 to r3, r0 */
     .globl watch_image, watch_wipes, watch_before, watch_after
 watch_image: .space WATCHED
 watch_wipes: .space 4
-watch_before: .space 4
-watch_after: .space 4
 
 #include "watched.inc"

@@ -23,6 +23,8 @@ watch_start:
     bltu t0, sp, 1b
     la ra, watch_end
     la t0, watch_before
+    csrr t2, minstreth
+    sw t2, 4(t0)
     csrr t2, minstret
     sw t2, 0(t0)
     jr t1
@@ -32,6 +34,8 @@ watch_end:
     csrr t2, minstret
     la t0, watch_after
     sw t2, 0(t0)
+    csrr t2, minstreth
+    sw t2, 4(t0)
     la t0, watch_result
     sw a0, 0(t0)
     sw a1, 4(t0)
@@ -55,13 +59,13 @@ watch_end:
     ret
 
     .bss
-    .p2align 2
+    .p2align 3
+watch_before: .space 8
+watch_after: .space 8
 watch_saved: .space 4    /* ra */
 watch_result: .space 8   /* a0, a1 */
     .globl watch_image, watch_wipes, watch_before, watch_after
 watch_image: .space WATCHED
 watch_wipes: .space 4
-watch_before: .space 4
-watch_after: .space 4
 
 #include "watched.inc"

@@ -38,12 +38,12 @@ watch_end:
 
     .bss
     .p2align 3
+watch_before: .space 8
+watch_after: .space 8
 watch_saved: .space 8     /* the return address */
 watch_result: .space 16   /* rax, rdx */
     .globl watch_image, watch_wipes, watch_before, watch_after
 watch_image: .space WATCHED
 watch_wipes: .space 4
-watch_before: .space 4
-watch_after: .space 4
 
 #include "watched.inc"
