@@ -65,6 +65,8 @@ refuses_widths() {
 install_qemu $targets || say 'qemu is missing'
 check 'the archive' make_archive
 check 'the module' make_module
+check 'the program has every call of the header' \
+    diff <(declared_calls) <(sed -n 's/.*\.name = "\(kv_[a-z0-9_]*\)".*/\1/p' fuzz/calls.c)
 make_seeds fuzz/seeds "$made/seeds.c"
 check 'x86-64: every answer of every call' on_x86_64
 for target in $targets; do

@@ -8,8 +8,6 @@ cd "$(dirname "$0")/.." && . tools/common.sh && . tests/controller/common.sh || 
 table=tests/stack.txt
 targets='x86-64 cortex-m4 cortex-m0plus rv32imac'
 
-calls() { awk -f tools/header.awk include/ketvaulo.h | sed -n 's/^\(kv_[a-z0-9_]*\) .*(.*/\1/p'; }
-
 # measure TARGET: 'CALL REFUSAL STACK INSTRUCTIONS LEFT LEFT-AFTER-WIPE' for each call
 measure() {
     local library=$made/$1/lib/libketvaulo.a
@@ -39,6 +37,9 @@ within_table() {
 
 wiped() { [ "$(of "$1" "$2" 6)" -lt 8 ] || { echo "$(of "$1" "$2" 6) bytes in a row"; return 1; }; }
 
+# kv_wipe of a key in a function's frame: it was there, and is no more
+wipes_a_secret() { [ "$(of kv_wipe "$1" 5)" -ge 32 ] && wiped kv_wipe "$1"; }
+
 # Without the wipe something is found: so the test can see it.
 sees() { awk '$5 >= 32 { seen = 1 } END { exit !seen }' "$made/stack.$1.out"; }
 
@@ -50,7 +51,7 @@ update() {
         printf '# The bytes of stack that each call takes at its largest input, below the frame of its caller. On x86-64 the return address is\n'
         printf "# counted; elsewhere it is in a register. tests/stack.sh holds the library against this, and 'tests/stack.sh update' writes it.\n"
         row call $targets
-        for call in $(calls); do
+        for call in $(declared_calls); do
             # shellcheck disable=SC2046 # words
             row "$call" $(for target in $targets; do of "$call" "$target" 3; done)
         done
@@ -72,12 +73,14 @@ make_watched
 for target in $targets; do check "$target: the program" measure "$target"; done
 [ "${1:-}" != update ] || update
 for target in $targets; do
-    for call in $(calls); do
+    for call in $(declared_calls); do
         check "$target: $call at its largest" accepted "$call" "$target"
         check "$target: the stack of $call" within_table "$call" "$target"
         check "$target: what $call and the wipe leave" wiped "$call" "$target"
     done
     check "$target: something is left without the wipe" sees "$target"
+    check "$target: a secret that is wiped" wipes_a_secret "$target"
 done
+check 'the table has the calls of the header' diff <(declared_calls) <(awk '/^kv_/ { print $1 }' "$table")
 check 'the wipe is as large as any call' wipes_enough
 tell_counts

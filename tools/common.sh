@@ -29,7 +29,11 @@ module=${KETVAULO_MODULE:-target/staticlib/ketvaulo.bc}
 module_flags=target/staticlib/ketvaulo.flags
 
 # kit_folder: where the kit of rt is; its compiler, linker and archiver are in tools_folder
-kit_folder() { (cd "$(dirname "$(readlink -f "$(command -v rt)")")/.." && pwd -P); }
+kit_folder() {
+    local rt
+    rt=$(command -v rt) || { say 'there is no rt: the Rattle kit is missing'; return 1; }
+    (cd "$(dirname "$(readlink -f "$rt")")/.." && pwd -P)
+}
 tools_folder() { echo "$(kit_folder)/on/$(uname -m)/toolchain/bin"; }
 
 # Runs rt staticlib with a copy of the kit by links, in which clang is a script. The script keeps the module and the flags that rattle
@@ -94,6 +98,9 @@ core_flags() {
     *) return 1 ;;
     esac
 }
+
+# The calls that the header declares, in its order.
+declared_calls() { awk -f tools/header.awk include/ketvaulo.h | sed -n 's/^\(kv_[a-z0-9_]*\) .*(.*/\1/p'; }
 
 # The library's version, which the header states.
 version() { sed -n 's/^#define KV_VERSION "\(.*\)"$/\1/p' include/ketvaulo.h; }

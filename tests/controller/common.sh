@@ -25,7 +25,7 @@ install_qemu() {
 
 # make_seeds FILE OUT.c: the requests of a file like fuzz/seeds, for a program
 make_seeds() {
-    awk -f tools/header.awk include/ketvaulo.h | sed -n 's/^\(kv_[a-z0-9_]*\) .*(.*/\1/p' | awk -f fuzz/seeds.awk - "$1" | awk '
+    declared_calls | awk -f fuzz/seeds.awk - "$1" | awk '
         BEGIN { print "#include \"seeds.h\"" }
         {
             printf "static const uint8_t seed_%d[] = {", n++
@@ -97,7 +97,7 @@ run_example() {
 # make_watched: what the program that looks at the stack is made of besides its sources
 make_watched() {
     make_seeds tests/controller/largest "$made/seeds.c"
-    awk -f tools/header.awk include/ketvaulo.h | sed -n 's/^\(kv_[a-z0-9_]*\) .*(.*/watched \1/p' >"$made/watched.inc"
+    declared_calls | sed 's/^/watched /' >"$made/watched.inc"
 }
 
 # watch_program TARGET OUT ARCHIVE [FLAG]: the program that looks at the stack under the calls

@@ -1,6 +1,7 @@
 /* Makes each request of a file like fuzz/seeds, first as it is and then with the stack wiped after the call. Prints for each: the call,
  * its refusal, the bytes of stack that it took, its instructions (where the machine counts them, watch.h), and how many bytes in a row of an
- * input or of the output were left on the stack, without the wipe and with it. */
+ * input or of the output were left on the stack, without the wipe and with it. The first line is the same for a key that a function had in
+ * its frame, without kv_wipe and with it. */
 #include "ketvaulo_wipe.h"
 #include "port.h"
 #include "requests.h"
@@ -65,9 +66,34 @@ static uint32_t left(const request *asked, const answer *given)
     return most;
 }
 
+/* A function that has a key in its frame, and wipes it or not. */
+static const uint8_t key[] = "a key that stands in the frame of a function";
+
+static __attribute__((noinline)) void hold_key(int wipe)
+{
+    uint8_t held[sizeof key];
+    for (size_t i = 0; i < sizeof held; i++)
+        held[i] = key[i];
+    __asm__ volatile("" : : "r"(held) : "memory");
+    if (wipe)
+        kv_wipe(held, sizeof held);
+}
+
+/* How much of it is left. Copies the stack below this function as watching a call does. */
+static __attribute__((noinline)) uint32_t left_of_key(int wipe)
+{
+    hold_key(wipe);
+    const volatile uint32_t *from = (const uint32_t *)__builtin_frame_address(0) - WATCHED / 4;
+    for (size_t i = 0; i < WATCHED / 4; i++)
+        watch_image[i] = from[i];
+    return left_of(key, sizeof key);
+}
+
 int program(void)
 {
     static answer given;
+    uint32_t unwiped = left_of_key(0);
+    printf("kv_wipe 0 0 0 %u %u\n", unwiped, left_of_key(1));
     for (size_t i = 0; i < seed_count; i++) {
         request asked = read_request(seeds[i].bytes, seeds[i].size);
         watch_wipes = 0;
