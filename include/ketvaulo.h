@@ -48,7 +48,8 @@
  * proved:
  *
  * - The compiler's back end, which makes machine code of the proved program through LLVM, and the linker.
- * - The C code that calls the library, and the C library's memcpy and memset.
+ * - The C code that calls the library, and the C library's memcpy, memmove and memset.
+ * - On a core with 32 bits, the C functions by which the calls reach the proved program: they are compared with x86-64.
  * - How long a call takes, and what it leaves on the stack. AES looks up tables by secret bytes, which can show in the
  *   cache of a processor that has one. No call wipes its stack: ketvaulo_wipe.h has functions that do.
  * - That SHA-256, HMAC and AES are secure. The proofs say that the library computes them as the standards define them.
@@ -106,7 +107,7 @@
 #define KV_KEY_ATTRIBUTE_MORE 60  /* a Key attribute is so much longer than its key */
 #define KV_KEY_ATTRIBUTE_MAX 252
 
-/* The fixed labels, without a zero byte at the end where their length is taken as sizeof - 1. */
+/* The fixed labels, as texts of C: the length of one is its sizeof less 1. */
 #define KV_VRK_LABEL "EAP Visited domain Root Key"
 #define KV_V_RRK_LABEL "EAP Re-authentication Root Key"
 

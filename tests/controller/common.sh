@@ -3,11 +3,11 @@ made=target/controller
 mkdir -p "$made"
 bin=$(tools_folder)
 
-# The machine that qemu runs for a target. Cortex-M0+ code runs on a Cortex-M0, which has the same instructions, with more RAM than its
-# own.
+# The machine that qemu runs for a target. Cortex-M0+ code runs on a Cortex-M0, which has the same instructions, with more flash and RAM
+# than that board has.
 qemu_for() {
     case $1 in
-    cortex-m0plus) echo qemu-system-arm -M microbit -global nrf51-soc.sram-size=1048576 ;;
+    cortex-m0plus) echo qemu-system-arm -M microbit -global nrf51-soc.flash-size=1048576 -global nrf51-soc.sram-size=1048576 ;;
     cortex-m3) echo qemu-system-arm -M mps2-an385 ;;
     cortex-m4*) echo qemu-system-arm -M mps2-an386 ;;
     cortex-m7*) echo qemu-system-arm -M mps2-an500 ;;
