@@ -27,9 +27,10 @@
  * there have to be KV_STACK_BYTES and some 32 more. */
 KV_NOT_INLINED void kv_wipe_stack(void)
 {
-    volatile uint32_t room[KV_STACK_BYTES / 4];
+    uint32_t room[KV_STACK_BYTES / 4];
+    volatile uint32_t *words = room;
     for (size_t i = 0; i < KV_STACK_BYTES / 4; i++)
-        room[i] = 0;
+        words[i] = 0;
 }
 
 /* Zeroes a secret that is no longer wanted. The compiler may not leave this out. */

@@ -32,7 +32,9 @@ within_table() {
     local measured allowed
     measured=$(of "$1" "$2" 3)
     allowed=$(in_table "$1" "$2")
-    [ -n "$measured" ] && [ -n "$allowed" ] && [ "$measured" -le "$allowed" ] || { echo "$1 takes ${measured:-?} bytes, ${allowed:-none} in the table"; return 1; }
+    if [ -n "$measured" ] && [ -n "$allowed" ] && [ "$measured" -le "$allowed" ]; then return; fi
+    echo "$1 takes ${measured:-?} bytes, ${allowed:-none} in the table"
+    return 1
 }
 
 wiped() { [ "$(of "$1" "$2" 6)" -lt 8 ] || { echo "$(of "$1" "$2" 6) bytes in a row"; return 1; }; }
@@ -50,6 +52,7 @@ update() {
     {
         printf '# The bytes of stack that each call takes at its largest input, below the frame of its caller. On x86-64 the return address is\n'
         printf "# counted; elsewhere it is in a register. tests/stack.sh holds the library against this, and 'tests/stack.sh update' writes it.\n"
+        # shellcheck disable=SC2086 # words
         row call $targets
         for call in $(declared_calls); do
             # shellcheck disable=SC2046 # words
