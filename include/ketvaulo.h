@@ -39,8 +39,8 @@
  *   buffer that another uses. The same call with the same input gives the same answer.
  * - Every answer has to be looked at. A compiler that can do so warns where one is ignored.
  * - The stack that a call takes is bounded, and does not grow with its input. docs/CONTROLLER.md has the bytes of each call,
- *   which are measured and not proved. Its time grows with its input: the largest usage key holds a core of 120 MHz for a
- *   quarter of a second.
+ *   which are measured and not proved. Its time grows with its input: the largest usage key holds a core of 120 MHz for
+ *   about a quarter of a second, by an estimate from its instructions.
  *
  * What is proved
  *
