@@ -8,15 +8,8 @@ use native.Mathlib.Omega.{arith}
 use lib.ListN.{length, getD, set}
 use Rattle.tables.proofs.Filled.{filled-of}
 use Rattle.fips180.specs.Sha256.{K, W, round, rounds, sums, compress}
-use Rattle.sha256_block.specs.Internal.{window, runs, ConstantsFrom}
-
-pub none : (k w s : List ℕ) → s ≡ runs k w s 0
-unfolding runs
-none k w s = refl
-
-pub more : (k w s : List ℕ) (n : ℕ) {p q : List ℕ} → p ≡ runs k w s n → q ≡ round (getD k n 0) (getD w n 0) p → q ≡ runs k w s (suc n)
-unfolding runs
-more k w s n e f = f ∙ ap (round (getD k n 0) (getD w n 0)) e
+use Rattle.sha256_rounds.specs.Rounds.{runs}
+use Rattle.sha256_block.specs.Internal.{window, ConstantsFrom}
 
 -- a turn of the loop that looks up the constants of a group: the one at j is stored
 module _ (g j : ℕ) (k : List ℕ) (x : ℕ) (lt : j < 16) (few : g < 4) (len : length k ≡ 16) where

@@ -1,12 +1,9 @@
-// SHA-256's functions and constants (FIPS 180-4, 4.1.2 and 4.2.2), and the two steps of 6.2.2 that are made of them: a word of the schedule and
-// a round.
+// SHA-256's functions (FIPS 180-4, 4.1.2), and the two steps of 6.2.2 that are made of them: a word of the schedule and a round.
 ghost use mathlib.Core.Path.{_≡_};
 ghost use Prim.Native.Nat.{_+_, _<_, _%_, _^_};
 ghost use lib.ListN.{getD};
 ghost use Rattle.fips180.specs.Words as Words;
 ghost use Rattle.fips180.specs.Sha256 as Sha256;
-
-pub mod constants;
 
 // The rotation of a word to the right by n bits (3.2).
 fn rotr(x: u32, n: u32) -> u32

@@ -1,9 +1,9 @@
--- `sha256_block::sixteen` meets its contract: each round goes on from the one before (proofs/Rounds.antt, `more`).
+-- `sha256_rounds::sixteen` meets its contract: each round goes on from the one before (proofs/Rounds.antt, `more`).
 -- Assumes nothing.
-use Rattle.sha256_block.proofs.Rounds.{none, more}
+use Rattle.sha256_rounds.proofs.Rounds.{none, more}
 use borrow.Author.Needs.{needs}
-use Rattle.sha256_block.proofs.sixteen.Statement.{statement}
-use Rattle.sha256_block.proofs.sixteen.Tie as tie
+use Rattle.sha256_rounds.proofs.sixteen.Statement.{statement}
+use Rattle.sha256_rounds.proofs.sixteen.Tie as tie
 
 array-read-round : tie.Need-array-read-round
 array-read-round c = search needs
