@@ -4,14 +4,11 @@ use Prim.Native.Nat.{ℕ, _+_, _-_, _≤_}
 use mathlib.Core.Path.{_≡_, refl, sym, ap, _∙_}
 use mathlib.Core.List.{List, [], _∷_, _++_, append-nil, append-assoc}
 use native.Mathlib.Omega.{arith}
-use borrow.Author.Tests.{le-leb}
 use borrow.Rule.Slice.PartMut.{putMid}
 use lib.ListN.{length, take, drop, length-append, length-drop, drop-of-length-le}
 use lib.Seq.{take-at, drop-at, drop-drop}
-use Rattle.refusal.specs.Checks.{Check, pass, unless, _andThen_, check6}
-use Rattle.refusal.specs.Answers.{bufferAfter}
 use Rattle.slices.specs.Numbers.{be32}
-use Rattle.slices.proofs.Lists.{rest-drop}
+use Rattle.slices.proofs.Lists.{rest-drop, copied-front}
 use Rattle.keywrap.specs.Rfc3394.{initialValue}
 use Rattle.key_frame.specs.KeyFrame.{fieldsOf, header}
 
@@ -21,19 +18,12 @@ put-from at l z =
     let h : length (drop at l) ≤ length l - at = simp length-drop (omega arith) in
     ap (λ (r : List ℕ). take at l ++ (z ++ r)) (drop-of-length-le (drop at l) h) ∙ ap (λ (r : List ℕ). take at l ++ r) (append-nil z)
 
--- the part of a list from a place on, after a call that wrote n values to its start
-pub part-after : (at n : ℕ) (l values z : List ℕ) {c : Check} → c ≡ pass
-    → z ≡ bufferAfter c n values (take (length l - at) (drop at l)) → putMid at (length l - at) l z ≡ take at l ++ (values ++ drop (at + n) l)
-part-after at n l values z p e =
-    let w : z ≡ values ++ drop n (take (length l - at) (drop at l)) = rw p at e in
-    put-from at l z ∙ ap (λ (r : List ℕ). take at l ++ r) (w ∙ ap (λ (r : List ℕ). values ++ r) (ap (drop n) (rest-drop at l) ∙ drop-drop n at l))
-
--- there is room for them
-pub room-from : (at n : ℕ) (l : List ℕ) → at + n ≤ length l → (pass andThen check6 n (length (take (length l - at) (drop at l)))) ≡ pass
-unfolding unless _andThen_
-room-from at n l h =
-    let r : n ≤ length (drop at l) = simp length-drop (omega arith) in
-    rw (rest-drop at l, le-leb n (length (drop at l)) r)
+-- the part of a list from a place on, after values were copied to its start
+pub part-after : (at : ℕ) (l values : List ℕ) {z : List ℕ} → z ≡ take (length values) values ++ drop (length values) (take (length l - at) (drop at l))
+    → putMid at (length l - at) l z ≡ take at l ++ (values ++ drop (at + length values) l)
+part-after at l values {z} e =
+    let rest : drop (length values) (take (length l - at) (drop at l)) ≡ drop (at + length values) l = ap (drop (length values)) (rest-drop at l) ∙ drop-drop (length values) at l in
+    put-from at l z ∙ ap (λ (r : List ℕ). take at l ++ r) (copied-front values _ e ∙ ap (λ (r : List ℕ). values ++ r) rest)
 
 -- one part of n bytes more, where the parts before it are done
 pub next-part : (l₀ done part l after : List ℕ) (at n : ℕ) → length done ≡ at → l ≡ done ++ drop at l₀

@@ -19,7 +19,7 @@ use Rattle.slices.proofs.Truth.{and-left, and-right, same-truth}
 use Rattle.slices.proofs.Lists.{rest-drop}
 use Rattle.keywrap.specs.Rfc3394.{wrapped}
 use Rattle.keywrap.specs.Calls.{wrapCheck}
-use Rattle.key_frame.specs.KeyFrame.{header, check20, check22, sixteenOf}
+use Rattle.key_frame.specs.KeyFrame.{fieldsOf, header, check20, check22, sixteenOf}
 use Rattle.key_frame.specs.declared.KeyFields.{KeyFields}
 use Rattle.key_frame.proofs.Frames.{KeyLength, key-length}
 use Rattle.key_frame.proofs.ByValue.{sixteen-whole}
@@ -131,24 +131,26 @@ module _ (f : KeyFields) (kek key buffer : List ℕ) (ok : named f kek ≡ pass)
 
   pub header-room : (kek₁ : List ℕ) (n : ℕ) {z : List ℕ} → wrote n ≡ answerTo (wrapCheck (length key) (length part)) (length key + 8)
       → z ≡ bufferAfter (wrapCheck (length key) (length part)) (length key + 8) (wrapped kek₁ key) part
-      → (length (f .«kek_id») ≡ 16) × (length (f .«key_id») ≡ 16) × (52 ≤ length (putMid start (length buffer - start) buffer z))
+      → 52 ≤ length (putMid start (length buffer - start) buffer z)
   header-room kek₁ n {z} a e =
-      let acc = accepted-wrap n a in
-      let l = lengths f kek ok in
-      let size : length (take start buffer ++ z) ≡ 52 + length z = length-append (take start buffer) z ∙ ap (λ (k : ℕ). k + length z) (before-part acc) in
-      let room : 52 ≤ length (putMid start (length buffer - start) buffer z) = rw (put-from start buffer z) (omega arith) in
-      (l .kek-id, l .key-id, room)
+      let size : length (take start buffer ++ z) ≡ 52 + length z = length-append (take start buffer) z ∙ ap (λ (k : ℕ). k + length z) (before-part (accepted-wrap n a)) in
+      rw (put-from start buffer z) (omega arith)
 
   -- which is put there
-  pub written-wrap : (kek₁ : List ℕ) (n all : ℕ) {z after : List ℕ} → wrote n ≡ answerTo (wrapCheck (length key) (length part)) (length key + 8) → kek₁ ≡ sixteenOf kek
+  pub written-wrap : (kek₁ kek-id key-id : List ℕ) (n all : ℕ) {z after : List ℕ} → wrote n ≡ answerTo (wrapCheck (length key) (length part)) (length key + 8) → kek₁ ≡ sixteenOf kek
       → z ≡ bufferAfter (wrapCheck (length key) (length part)) (length key + 8) (wrapped kek₁ key) part
       → all ≡ 52 + n
-      → after ≡ header f all ++ drop 52 (putMid start (length buffer - start) buffer z)
+      → kek-id ≡ sixteenOf (f .«kek_id»)
+      → key-id ≡ sixteenOf (f .«key_id»)
+      → after ≡ header (fieldsOf (f .«attribute_type») (f .«app_id») kek-id key-id (f .lifetime)) all ++ drop 52 (putMid start (length buffer - start) buffer z)
       → (wrote all ≡ writeAnswer f kek key (length buffer)) × (after ≡ writeBuffer f kek key buffer)
   unfolding writeAnswer writeBuffer attribute
-  written-wrap kek₁ n all {z} {after} a k b s h =
+  written-wrap kek₁ kek-id key-id n all {z} {after} a k b s k₁ k₂ h =
       let acc = accepted-wrap n a in
-      let same : kek₁ ≡ kek = k ∙ sixteen-whole kek (lengths f kek ok .kek-size) in
+      let sizes = lengths f kek ok in
+      let same : kek₁ ≡ kek = k ∙ sixteen-whole kek (sizes .kek-size) in
+      let same₁ : kek-id ≡ f .«kek_id» = k₁ ∙ sixteen-whole (f .«kek_id») (sizes .kek-id) in
+      let same₂ : key-id ≡ f .«key_id» = k₂ ∙ sixteen-whole (f .«key_id») (sizes .key-id) in
       let size : all ≡ attributeLength key = omega (arith, acc .count) in
       let c : wrapCheck (length key) (length part) ≡ pass = sym rest-tests ∙ acc .tests in
       let far : start + (length key + 8) ≡ 60 + length key = omega (arith, acc .at-52) in
@@ -157,5 +159,5 @@ module _ (f : KeyFields) (kek key buffer : List ℕ) (ok : named f kek ≡ pass)
       ∙ ap (λ (l : List ℕ). wrapped kek key ++ l) (drop-drop (length key + 8) start buffer ∙ ap (λ (i : ℕ). drop i buffer) far) in
       let put : drop 52 (putMid start (length buffer - start) buffer z) ≡ z = ap (drop 52) (put-from start buffer z) ∙ drop-at (take start buffer) z 52 (before-part acc) in
       let whole : after ≡ (header f (attributeLength key) ++ wrapped kek key) ++ drop (60 + length key) buffer
-      = h ∙ (λ i. header f (size i) ++ (put ∙ left) i) ∙ sym (append-assoc (header f (attributeLength key)) (wrapped kek key) (drop (60 + length key) buffer)) in
+      = h ∙ (λ i. header (fieldsOf (f .«attribute_type») (f .«app_id») (same₁ i) (same₂ i) (f .lifetime)) (size i) ++ (put ∙ left) i) ∙ sym (append-assoc (header f (attributeLength key)) (wrapped kek key) (drop (60 + length key) buffer)) in
       rw (acc .tests) (ap wrote size, whole)

@@ -21,7 +21,7 @@ fn put_at(bytes: &[u8], at: usize, out: &mut [u8])
     requires { ⌜ at + length (now bytes) ≤ length (now out) ⌝ }
     ensures { λ _. ⌜ now (out .exit) ≡ take at (now (out .entry)) ++ (now (bytes .entry) ++ drop (at + length (now (bytes .entry))) (now (out .entry))) ⌝ }
 {
-    refusal::put(Checked::Passed, bytes, &mut out[at..]);
+    bytes::copy(bytes, &mut out[at..]);
 }
 
 // The bytes before the wrapped key: bytes 0 to 51 of an attribute that is `length_byte` bytes long.
@@ -29,18 +29,18 @@ fn put_header(
     attribute_type: u8,
     length_byte: u8,
     app_id: u32,
-    kek_id: &[u8],
-    key_id: &[u8],
+    kek_id: [u8; 16],
+    key_id: [u8; 16],
     lifetime: u32,
     out: &mut [u8],
 )
-    requires { ⌜ (length (now «kek_id») ≡ 16) × (length (now «key_id») ≡ 16) × (52 ≤ length (now out)) ⌝ }
-    ensures { λ _. ⌜ now (out .exit) ≡ header (fieldsOf «attribute_type» «app_id» (now («kek_id» .entry)) (now («key_id» .entry)) lifetime) «length_byte» ++ drop 52 (now (out .entry)) ⌝ }
+    requires { ⌜ 52 ≤ length (now out) ⌝ }
+    ensures { λ _. ⌜ now (out .exit) ≡ header (fieldsOf «attribute_type» «app_id» «kek_id» «key_id» lifetime) «length_byte» ++ drop 52 (now (out .entry)) ⌝ }
 {
     put_at(&[attribute_type, length_byte, 0, 0], 0, out);
     put_at(&be32(app_id), 4, out);
-    put_at(kek_id, 8, out);
-    put_at(key_id, 24, out);
+    put_at(&kek_id, 8, out);
+    put_at(&key_id, 24, out);
     put_at(&be32(lifetime), 40, out);
     put_at(&[0xa6; 8], 44, out);
 }
@@ -89,8 +89,8 @@ pub fn write(
                         attribute_type,
                         all as u8,
                         app_id,
-                        kek_id,
-                        key_id,
+                        sixteen(kek_id),
+                        sixteen(key_id),
                         lifetime,
                         out,
                     );

@@ -1,5 +1,6 @@
 -- `key_writer::put_header` meets its contract: six parts, one after the other, are the header.
 -- Assumes nothing.
+use mathlib.Core.Path.{sym}
 use denote.Ref.{now}
 use Rattle.key_writer.proofs.Parts.{header-parts}
 use borrow.Author.Needs.{needs}
@@ -21,8 +22,14 @@ slice-aggregate-put-at-2 c = search needs
 put-at-requires-2 : tie.Need-put-at-requires-2
 put-at-requires-2 c κs = search needs
 
+slice-aggregate-put-at-3 : tie.Need-slice-aggregate-put-at-3
+slice-aggregate-put-at-3 c = search needs
+
 put-at-requires-3 : tie.Need-put-at-requires-3
 put-at-requires-3 c κs = search needs
+
+slice-aggregate-put-at-4 : tie.Need-slice-aggregate-put-at-4
+slice-aggregate-put-at-4 c = search needs
 
 put-at-requires-4 : tie.Need-put-at-requires-4
 put-at-requires-4 c κs = search needs
@@ -30,14 +37,14 @@ put-at-requires-4 c κs = search needs
 be32-requires-2 : tie.Need-be32-requires-2
 be32-requires-2 c κs = search needs
 
-slice-aggregate-put-at-3 : tie.Need-slice-aggregate-put-at-3
-slice-aggregate-put-at-3 c = search needs
+slice-aggregate-put-at-5 : tie.Need-slice-aggregate-put-at-5
+slice-aggregate-put-at-5 c = search needs
 
 put-at-requires-5 : tie.Need-put-at-requires-5
 put-at-requires-5 c κs = search needs
 
-slice-aggregate-put-at-4 : tie.Need-slice-aggregate-put-at-4
-slice-aggregate-put-at-4 c = search needs
+slice-aggregate-put-at-6 : tie.Need-slice-aggregate-put-at-6
+slice-aggregate-put-at-6 c = search needs
 
 put-at-requires-6 : tie.Need-put-at-requires-6
 put-at-requires-6 c κs = search needs
@@ -51,12 +58,12 @@ returns c =
     let p5 = p6 .before .before .before .before .before in
     let b2 = p5 .before .before .before in
     let p4 = b2 .before .before .before in
-    let p3 = p4 .before .before .before .before in
-    let p2 = p3 .before .before .before .before in
+    let p3 = p4 .before .before .before .before .before in
+    let p2 = p3 .before .before .before .before .before in
     let b1 = p2 .before .before .before in
     let p1 = b1 .before .before .before in
-    let a = p1 .before .before .before .before .before .before in
-    header-parts _ _ _ _ _ _ _ _ (now (a .args .out)) _ _ _ _ _ _ (a .pre .0) (a .pre .1)
+    let x = p1 .before .before .before .before .args in
+    header-parts _ _ _ _ (x .t4) (x .t5) _ _ (now (x .out)) _ _ _ _ _ _ (sym (slice-aggregate-put-at-3 (p3 .before .before))) (sym (slice-aggregate-put-at-4 (p4 .before .before)))
     (b1 .be32 .ensures)
     (b2 .be322 .ensures)
     (p1 .put-at .ensures)
@@ -75,12 +82,14 @@ put-header-spec =
     be32-requires
     slice-aggregate-put-at-2
     put-at-requires-2
+    slice-aggregate-put-at-3
     put-at-requires-3
+    slice-aggregate-put-at-4
     put-at-requires-4
     be32-requires-2
-    slice-aggregate-put-at-3
+    slice-aggregate-put-at-5
     put-at-requires-5
-    slice-aggregate-put-at-4
+    slice-aggregate-put-at-6
     put-at-requires-6
     same-length
     returns)

@@ -66,9 +66,15 @@ cast-put-header c =
     let x = t .before .before .before .before .before .before .before .before .args in
     omega (arith, length-small (fieldsOf (x .attribute-type) (x .app-id) (now (x .kek-id)) (now (x .key-id)) (x .lifetime)) (now (x .kek)) (now (x .key)) (now (x .out)) (ok t) _ (l .least .ensures) _ (sym (ap answerOf (c .before .wrapped2 .given .1)) ∙ w .wrap .ensures .0))
 
+sixteen-requires-2 : tie.Need-sixteen-requires-2
+sixteen-requires-2 c κs = search needs
+
+sixteen-requires-3 : tie.Need-sixteen-requires-3
+sixteen-requires-3 c κs = search needs
+
 put-header-requires : tie.Need-put-header-requires
 put-header-requires c κs =
-    let told = c .before in
+    let told = c .before .before .before in
     let w = told .before .before .before .before .before in
     let l = w .before .before .before in
     let t = l .before in
@@ -95,12 +101,12 @@ same-length-2 c = search needs
 returns-3 : tie.Need-returns-3
 returns-3 c =
     let p = c .before .before in
-    let told = p .before .before in
+    let told = p .before .before .before .before in
     let w = told .before .before .before .before .before in
     let l = w .before .before .before in
     let t = l .before in
     let x = t .before .before .before .before .before .before .before .before .args in
-    written-wrap (fieldsOf (x .attribute-type) (x .app-id) (now (x .kek-id)) (now (x .key-id)) (x .lifetime)) (now (x .kek)) (now (x .key)) (now (x .out)) (ok t) _ (l .least .ensures) _ _ _ (sym (ap answerOf (told .before .wrapped2 .given .1)) ∙ w .wrap .ensures .0) (w .before .before .sixteen .ensures) (w .wrap .ensures .1) refl (p .put-header .ensures)
+    written-wrap (fieldsOf (x .attribute-type) (x .app-id) (now (x .kek-id)) (now (x .key-id)) (x .lifetime)) (now (x .kek)) (now (x .key)) (now (x .out)) (ok t) _ (l .least .ensures) _ _ _ _ _ (sym (ap answerOf (told .before .wrapped2 .given .1)) ∙ w .wrap .ensures .0) (w .before .before .sixteen .ensures) (w .wrap .ensures .1) refl (p .before .before .before .sixteen2 .ensures) (p .before .before .sixteen3 .ensures) (p .put-header .ensures)
 
 pub write-spec : {M : Type 1} → statement M
 write-spec =
@@ -119,6 +125,8 @@ write-spec =
     enum-known-wrapped-2
     add-all
     cast-put-header
+    sixteen-requires-2
+    sixteen-requires-3
     put-header-requires
     returns
     same-length
