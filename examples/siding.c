@@ -2,6 +2,7 @@
  * reads the attribute area that carried the offers, and sends the siding's key to a neighbour as a RADIUS Key attribute, which
  * the neighbour opens. Each step prints its result; examples/siding.expected has what must be printed. */
 #include "ketvaulo.h"
+#include "ketvaulo_text.h"
 
 #include <stdio.h>
 #include <stdlib.h>
@@ -19,7 +20,7 @@ static void print_bytes(const char *name, const uint8_t *bytes, size_t count)
 static void expect_accepted(const char *call, uint32_t refusal)
 {
     if (refusal != KV_ACCEPTED) {
-        printf("%s refused %u\n", call, (unsigned)refusal);
+        printf("%s refused %u: %s\n", call, (unsigned)refusal, kv_refusal_text(refusal));
         exit(1);
     }
 }
@@ -56,15 +57,15 @@ static void negotiate(void)
     }
     printf("ask %u at %u\n", (unsigned)first.value, (unsigned)first.position);
 
-    uint16_t renewed[17];
-    kv_outcome server = kv_answer_offer(offers, 2, (uint16_t)first.value, renewed, 17);
+    uint16_t renewed[KV_OFFERS_ROOM];
+    kv_outcome server = kv_answer_offer(offers, 2, (uint16_t)first.value, renewed, KV_OFFERS_ROOM);
     expect_accepted("kv_answer_offer", server.refusal);
     printf("server sends");
     for (size_t i = 0; i < server.value; i++)
         printf(" %u", (unsigned)renewed[i]);
     printf("\n");
 
-    kv_outcome peer = kv_check_renewed(offers, 2, (uint16_t)first.value, renewed, server.value);
+    kv_outcome peer = kv_check_renewed(offers, 2, (uint16_t)first.value, renewed, (size_t)server.value);
     expect_accepted("kv_check_renewed", peer.refusal);
     printf("agreed on %u\n", (unsigned)peer.value);
 }
@@ -73,8 +74,8 @@ static void negotiate(void)
 static void read_area(void)
 {
     static const uint8_t area[] = { 0x18, 1, 0, 2, 0x18, 1, 0, 1, 0x17, 2, 0, 3, 'W', 'L', 'N', 0 };
-    uint16_t offers[17];
-    kv_area r = kv_read_area(area, sizeof area, (const uint8_t *)"WLN", 3, offers, 17);
+    uint16_t offers[KV_OFFERS_ROOM];
+    kv_area r = kv_read_area(area, sizeof area, (const uint8_t *)"WLN", 3, offers, KV_OFFERS_ROOM);
     expect_accepted("kv_read_area", r.refusal);
     printf("offers");
     for (size_t i = 0; i < r.offers; i++)
@@ -86,23 +87,23 @@ static void read_area(void)
  * the receiver may rely on the other fields where the whole packet is authenticated. */
 static void send_key(const uint8_t key[32])
 {
-    static const uint8_t kek[16] = { 0, 1, 2, 3, 4, 5, 6, 7, 8, 9, 10, 11, 12, 13, 14, 15 };
-    static const uint8_t kek_id[16] = "yard kek 0000001", key_id[16] = "siding gate/0012";
-    uint8_t attribute[252];
-    kv_outcome sent = kv_write_key_attribute(26, 7, kek_id, 16, key_id, 16, 3600, kek, 16, key, 32, attribute,
-                                             sizeof attribute);
+    static const uint8_t kek[KV_KEK_LEN] = { 0, 1, 2, 3, 4, 5, 6, 7, 8, 9, 10, 11, 12, 13, 14, 15 };
+    static const uint8_t kek_id[] = "yard kek 0000001", key_id[] = "siding gate/0012";
+    uint8_t attribute[KV_KEY_ATTRIBUTE_MAX];
+    kv_outcome sent = kv_write_key_attribute(26, 7, kek_id, KV_ID_LEN, key_id, KV_ID_LEN, 3600, kek, sizeof kek, key, 32,
+                                             attribute, sizeof attribute);
     expect_accepted("kv_write_key_attribute", sent.refusal);
-    print_bytes("attribute", attribute, sent.value);
+    print_bytes("attribute", attribute, (size_t)sent.value);
 
-    uint8_t opened[192];
-    kv_key_attribute got = kv_read_key_attribute(kek, 16, attribute, sent.value, opened, sizeof opened);
+    uint8_t opened[KV_WRAPPED_KEY_MAX];
+    kv_key_attribute got = kv_read_key_attribute(kek, sizeof kek, attribute, (size_t)sent.value, opened, sizeof opened);
     expect_accepted("kv_read_key_attribute", got.refusal);
     printf("type %u, App ID %u, lifetime %u, Key ID %.16s\n", (unsigned)got.type, (unsigned)got.app_id,
            (unsigned)got.lifetime, (const char *)got.key_id);
     print_bytes("opened", opened, got.key_len);
 
     attribute[60] ^= 1;
-    got = kv_read_key_attribute(kek, 16, attribute, sent.value, opened, sizeof opened);
+    got = kv_read_key_attribute(kek, sizeof kek, attribute, (size_t)sent.value, opened, sizeof opened);
     printf("spoilt on the way: refused %u\n", (unsigned)got.refusal);
 }
 

@@ -38,12 +38,18 @@ static void append(text *to, const void *bytes, size_t length)
 
 static void append_slice(text *to, slice part) { append(to, part.values, part.count); }
 
+/* Checks that a digest or a MAC was given. */
+static void expect_digest(const request *asked, kv_outcome r)
+{
+    expect(r.refusal == KV_ACCEPTED && r.value == DIGEST, asked, "rests on a digest that was refused");
+}
+
 /* RFC 2104 over kv_sha256: H(K xor opad, H(K xor ipad, text)). */
 static void check_hmac(const request *asked, const answer *given)
 {
     uint8_t key[BLOCK] = { 0 }, inner_pad[BLOCK], outer_pad[BLOCK], digest[DIGEST];
     if (asked->in[0].count > BLOCK)
-        kv_sha256(asked->in[0].values, asked->in[0].count, key, DIGEST);
+        expect_digest(asked, kv_sha256(asked->in[0].values, asked->in[0].count, key, DIGEST));
     else if (asked->in[0].count > 0)
         memcpy(key, asked->in[0].values, asked->in[0].count);
     for (size_t i = 0; i < BLOCK; i++) {
@@ -53,10 +59,10 @@ static void check_hmac(const request *asked, const answer *given)
     text inner = { 0 }, outer = { 0 };
     append(&inner, inner_pad, BLOCK);
     append_slice(&inner, asked->in[1]);
-    kv_sha256(inner.bytes, inner.length, digest, DIGEST);
+    expect_digest(asked, kv_sha256(inner.bytes, inner.length, digest, DIGEST));
     append(&outer, outer_pad, BLOCK);
     append(&outer, digest, DIGEST);
-    kv_sha256(outer.bytes, outer.length, digest, DIGEST);
+    expect_digest(asked, kv_sha256(outer.bytes, outer.length, digest, DIGEST));
     expect(same(given->out, digest, DIGEST), asked, "is not RFC 2104 over kv_sha256");
     free(inner.bytes);
     free(outer.bytes);
@@ -73,7 +79,7 @@ static void check_expansion(const request *asked, const answer *given, const tex
         append(&message, block, counter == 1 ? 0 : DIGEST);
         append(&message, s->bytes, s->length);
         append(&message, &counter, 1);
-        kv_hmac_sha256(asked->in[0].values, asked->in[0].count, message.bytes, message.length, block, DIGEST);
+        expect_digest(asked, kv_hmac_sha256(asked->in[0].values, asked->in[0].count, message.bytes, message.length, block, DIGEST));
         free(message.bytes);
         size_t left = given->written - done;
         expect(same(out + done, block, left < DIGEST ? left : DIGEST), asked, "is not prf+ over kv_hmac_sha256");
@@ -137,7 +143,7 @@ static void check_key_name(const request *asked, const answer *given)
     text named = { 0 };
     append_slice(&named, asked->in[0]);
     append_slice(&named, asked->in[1]);
-    kv_sha256(named.bytes, named.length, digest, DIGEST);
+    expect_digest(asked, kv_sha256(named.bytes, named.length, digest, DIGEST));
     expect(given->written == 8 && same(given->out, digest, 8), asked, "is not the first 8 bytes of kv_sha256");
     free(named.bytes);
 }

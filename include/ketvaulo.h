@@ -1,6 +1,8 @@
 /* Ketvaulo: the key library of a yard radio controller.
  *
- * Link with libketvaulo.a, which is compiled for x86-64 Linux and needs nothing but memcpy and memset.
+ * Link with libketvaulo.a, which needs nothing but memcpy, memmove and memset. tools/install makes it for x86-64 Linux, and
+ * tools/controller for Cortex-M0+, M3, M4, M7 and M33 and for RISC-V (rv32imac); docs/CONTROLLER.md says how it is placed, and
+ * what each call costs there in stack and time. The header is the same everywhere.
  *
  * What it is for, and in which order the calls are made
  *
@@ -10,7 +12,9 @@
  * kv_visited_reauth_key under that one. kv_key_name makes a public name for a key. All of these are made of kv_sha256 and
  * kv_hmac_sha256.
  *
- * Offers. A login negotiates which key derivation function it uses.
+ * Offers. A login negotiates which key derivation function it uses. The peer is the side that logs in, and the server is the
+ * side that it logs in to. So a controller is the peer at its own login, and makes the calls of steps 2 and 4. The call of
+ * step 3 is the server's; a controller makes it only where it serves the logins of others.
  *   1. The server sends its offers.
  *   2. The peer reads them off the message (kv_read_area) and picks one (kv_choose_offer). If it picks the first offer,
  *      the negotiation is over. Otherwise it sends its pick as a reply.
@@ -33,7 +37,10 @@
  *   says it writes.
  * - No call keeps a pointer, allocates memory, blocks, or has a state. Calls may run at the same time where none writes a
  *   buffer that another uses. The same call with the same input gives the same answer.
- * - No call takes more than about 1.2 KiB of stack. This is measured and not proved; docs/PERFORMANCE.md has the figures.
+ * - Every answer has to be looked at. A compiler that can do so warns where one is ignored.
+ * - The stack that a call takes is bounded, and does not grow with its input. docs/CONTROLLER.md has the bytes of each call,
+ *   which are measured and not proved. Its time grows with its input: the largest usage key holds a core of 120 MHz for
+ *   about a quarter of a second, by an estimate from its instructions.
  *
  * What is proved
  *
@@ -41,9 +48,10 @@
  * proved:
  *
  * - The compiler's back end, which makes machine code of the proved program through LLVM, and the linker.
- * - The C code that calls the library, and the C library's memcpy and memset.
+ * - The C code that calls the library, and the C library's memcpy, memmove and memset.
+ * - On a core with 32 bits, the C functions by which the calls reach the proved program: they are compared with x86-64.
  * - How long a call takes, and what it leaves on the stack. AES looks up tables by secret bytes, which can show in the
- *   cache of a processor that has one. No call wipes its stack.
+ *   cache of a processor that has one. No call wipes its stack: ketvaulo_wipe.h has functions that do.
  * - That SHA-256, HMAC and AES are secure. The proofs say that the library computes them as the standards define them.
  *
  * The proofs were checked with the Rattle kit whose KIT-ID is "rattle-kit-5b-plain logic 097e4c862dff5811".
@@ -72,11 +80,60 @@
 #include <stddef.h>
 #include <stdint.h>
 
+/* The version of this interface. CHANGELOG.md says what changed for a caller. */
+#define KV_VERSION "1.1.0"
+#define KV_VERSION_MAJOR 1
+#define KV_VERSION_MINOR 1
+#define KV_VERSION_PATCH 0
+
+/* Sizes and limits. Lengths are in bytes, counts in values. */
+#define KV_DIGEST_LEN 32          /* what kv_sha256 and kv_hmac_sha256 write */
+#define KV_ROOT_KEY_MIN 64        /* an EMSK, VRK or VMSK that is lent */
+#define KV_ROOT_KEY_MAX 128
+#define KV_LABEL_MAX 255
+#define KV_DATA_MAX 2048          /* the optional data of a usage key */
+#define KV_USAGE_KEY_MAX 8160     /* the longest usage key */
+#define KV_VISITED_KEY_LEN 64     /* a VRK, VMSK or V-rRK that is written */
+#define KV_SERVER_ID_MAX 255
+#define KV_DOMAIN_MAX 253
+#define KV_SESSION_ID_MAX 255
+#define KV_KEY_NAME_LEN 8
+#define KV_OFFERS_MAX 16          /* offers of a server */
+#define KV_OFFERS_ROOM 17         /* room for the offers of any area, and for any renewed list */
+#define KV_KEK_LEN 16
+#define KV_ID_LEN 16              /* a KEK ID, a Key ID */
+#define KV_WRAPPED_KEY_MIN 16     /* a key to wrap, a multiple of 8 */
+#define KV_WRAPPED_KEY_MAX 192
+#define KV_KEY_ATTRIBUTE_MORE 60  /* a Key attribute is so much longer than its key */
+#define KV_KEY_ATTRIBUTE_MAX 252
+
+/* The fixed labels, as texts of C: the length of one is its sizeof less 1. */
+#define KV_VRK_LABEL "EAP Visited domain Root Key"
+#define KV_V_RRK_LABEL "EAP Re-authentication Root Key"
+
+/* For the declarations below: a warning where an answer is ignored, and an error where a struct is not laid out as in the
+ * library. */
+#if defined(__cplusplus) && __cplusplus >= 201703L
+#define KV_USE_RESULT [[nodiscard]]
+#elif defined(__GNUC__)
+#define KV_USE_RESULT __attribute__((warn_unused_result))
+#else
+#define KV_USE_RESULT
+#endif
+#if defined(__cplusplus) && __cplusplus >= 201103L
+#define KV_LAYOUT(condition) static_assert(condition, "not the library's layout")
+#elif !defined(__cplusplus) && defined(__STDC_VERSION__) && __STDC_VERSION__ >= 201112L
+#define KV_LAYOUT(condition) _Static_assert(condition, "not the library's layout")
+#else
+#define KV_LAYOUT(condition) extern char kv_layout[(condition) ? 1 : -1]
+#endif
+
 #ifdef __cplusplus
 extern "C" {
 #endif
 
-/* The refusals by name. The comment at each call says in which order they are tested there. */
+/* The refusals by name. The comment at each call says in which order they are tested there. ketvaulo_text.h has these words as
+ * texts. */
 enum {
     KV_ACCEPTED = 0,
 
@@ -142,16 +199,17 @@ typedef struct {
     uint32_t refusal;
     uint64_t value;
 } kv_outcome;
+KV_LAYOUT(sizeof(kv_outcome) == 16 && offsetof(kv_outcome, value) == 8);
 
 /* The SHA-256 digest of a message (FIPS 180-4). The message may have any length. Writes 32 bytes and returns 32.
  * Refusals: 6 `out` has fewer than 32 bytes. */
-kv_outcome kv_sha256(const uint8_t *message, size_t message_len, uint8_t *out, size_t out_len);
+KV_USE_RESULT kv_outcome kv_sha256(const uint8_t *message, size_t message_len, uint8_t *out, size_t out_len);
 
 /* The HMAC-SHA-256 of a message under a key (RFC 2104). Key and message may have any length. Writes 32 bytes and returns
  * 32.
  * Refusals: 6 `out` has fewer than 32 bytes. */
-kv_outcome kv_hmac_sha256(const uint8_t *key, size_t key_len, const uint8_t *message, size_t message_len, uint8_t *out,
-                          size_t out_len);
+KV_USE_RESULT kv_outcome kv_hmac_sha256(const uint8_t *key, size_t key_len, const uint8_t *message,
+                                        size_t message_len, uint8_t *out, size_t out_len);
 
 /* The keys below are made by prf+ (RFC 4306, section 2.13) with HMAC-SHA-256, from a key K and a text S. T1 is the MAC
  * under K of S and the byte 1. Each later Ti is the MAC under K of T(i-1), S and the byte i. The derived key is as many
@@ -162,34 +220,37 @@ kv_outcome kv_hmac_sha256(const uint8_t *key, size_t key_len, const uint8_t *mes
  * under one EMSK that differ in label, data or n never give the same bytes to HMAC. Writes n bytes and returns n.
  * Refusals, in this order: 1 EMSK not 64 to 128 bytes; 2 label not 1 to 255 bytes; 3 a label byte outside 32 to 126;
  * 4 data over 2,048 bytes; 5 n not 1 to 8,160; 6 `out` has fewer than n bytes. */
-kv_outcome kv_usage_key(const uint8_t *emsk, size_t emsk_len, const uint8_t *label, size_t label_len,
-                        const uint8_t *data, size_t data_len, uint64_t n, uint8_t *out, size_t out_len);
+KV_USE_RESULT kv_outcome kv_usage_key(const uint8_t *emsk, size_t emsk_len, const uint8_t *label, size_t label_len,
+                                      const uint8_t *data, size_t data_len, uint64_t n, uint8_t *out, size_t out_len);
 
 /* The visited-domain keys of a handheld (draft-dondeti-eap-vkh-00): the VRK under the EMSK, a VMSK for a server and its
  * domain under the VRK, and the V-rRK under a VMSK. Each call writes 64 bytes and returns 64. */
 
-/* The VRK: the usage key of the label "EAP Visited domain Root Key" with no data and n = 64.
+/* The VRK: the usage key of the label KV_VRK_LABEL, "EAP Visited domain Root Key", with no data and n = 64.
  * Refusals, in this order: 1 EMSK not 64 to 128 bytes; 6 `out` has fewer than 64 bytes. */
-kv_outcome kv_visited_root_key(const uint8_t *emsk, size_t emsk_len, uint8_t *out, size_t out_len);
+KV_USE_RESULT kv_outcome kv_visited_root_key(const uint8_t *emsk, size_t emsk_len, uint8_t *out, size_t out_len);
 
 /* The VMSK: prf+ where K is the VRK and S is the server ID and then the domain, with no length. Within one domain, each
  * server ID has an S of its own. Across domains, two pairs of server ID and domain that join to the same bytes have the
  * same VMSK. So give out no server ID that can run into a domain.
  * Refusals, in this order: 1 VRK not 64 to 128 bytes; 7 server ID not 1 to 255 bytes, or a byte of it outside 33 to 126;
  * 8 domain not 1 to 253 bytes, or a byte not an ASCII letter, digit, hyphen or dot; 6 `out` has fewer than 64 bytes. */
-kv_outcome kv_visited_master_key(const uint8_t *vrk, size_t vrk_len, const uint8_t *server_id, size_t server_id_len,
-                                 const uint8_t *domain, size_t domain_len, uint8_t *out, size_t out_len);
+KV_USE_RESULT kv_outcome kv_visited_master_key(const uint8_t *vrk, size_t vrk_len, const uint8_t *server_id,
+                                               size_t server_id_len, const uint8_t *domain, size_t domain_len,
+                                               uint8_t *out, size_t out_len);
 
-/* The V-rRK: prf+ where K is the VMSK and S is "EAP Re-authentication Root Key", with no length.
+/* The V-rRK: prf+ where K is the VMSK and S is KV_V_RRK_LABEL, "EAP Re-authentication Root Key", with no length.
  * Refusals, in this order: 1 VMSK not 64 to 128 bytes; 6 `out` has fewer than 64 bytes. */
-kv_outcome kv_visited_reauth_key(const uint8_t *vmsk, size_t vmsk_len, uint8_t *out, size_t out_len);
+KV_USE_RESULT kv_outcome kv_visited_reauth_key(const uint8_t *vmsk, size_t vmsk_len, uint8_t *out, size_t out_len);
 
 /* A name of a key, which is no secret (draft-dondeti-eap-vkh-00): the first 8 bytes of SHA-256 over the Session-ID and
- * then the label. Writes 8 bytes and returns 8.
+ * then the label. The Session-ID is that of the login whose EMSK the key is derived from. The label of a VRK's name is
+ * KV_VRK_LABEL, and that of a VMSK's name is its server ID and then its domain; the draft names no V-rRK. Writes 8 bytes and
+ * returns 8.
  * Refusals, in this order: 9 Session-ID not 1 to 255 bytes; 2 label not 1 to 255 bytes; 3 a label byte outside 32 to 126;
  * 6 `out` has fewer than 8 bytes. */
-kv_outcome kv_key_name(const uint8_t *session_id, size_t session_id_len, const uint8_t *label, size_t label_len,
-                       uint8_t *out, size_t out_len);
+KV_USE_RESULT kv_outcome kv_key_name(const uint8_t *session_id, size_t session_id_len, const uint8_t *label,
+                                     size_t label_len, uint8_t *out, size_t out_len);
 
 /* What the peer's first round returns. `value` is the offer that is picked. `ask` is 0 for Carry On: this is the first
  * offer, and it is used. `ask` is 1 for Ask: the offer stands at `position`, counted from 0, and the peer has to ask the
@@ -197,6 +258,7 @@ kv_outcome kv_key_name(const uint8_t *session_id, size_t session_id_len, const u
 typedef struct {
     uint32_t refusal, ask, value, position;
 } kv_first_round;
+KV_LAYOUT(sizeof(kv_first_round) == 16 && offsetof(kv_first_round, position) == 12);
 
 /* The offers below are AT_KDF values (RFC 5448, section 3.2) as numbers of the machine, in the server's order of
  * preference. Value 0 is a value like any other. A server has 1 to 16 offers, so a renewed list has at most 17. */
@@ -204,21 +266,22 @@ typedef struct {
 /* The peer's first round: picks the first offer, in the server's order, that is in `supported`. That list may have any
  * length and order, and values may repeat in it. Writes nothing.
  * Refusals, in this order: 10 not 1 to 16 offers; 11 an offer value occurs twice; 12 no offer is supported. */
-kv_first_round kv_choose_offer(const uint16_t *offers, size_t offers_len, const uint16_t *supported,
-                               size_t supported_len);
+KV_USE_RESULT kv_first_round kv_choose_offer(const uint16_t *offers, size_t offers_len, const uint16_t *supported,
+                                             size_t supported_len);
 
 /* The server, on the peer's reply: accepts exactly a reply that is an offer after the first. Writes the reply and then
  * the entire list. Returns the new count of values, which is one more than the offers. Room for 17 is always enough.
  * Refusals, in this order: 10 not 1 to 16 offers; 11 an offer value occurs twice; 13 the reply is the first offer; 14 the
  * reply is not among the offers; 6 `out` has no room for one value more than the offers. */
-kv_outcome kv_answer_offer(const uint16_t *offers, size_t offers_len, uint16_t reply, uint16_t *out, size_t out_len);
+KV_USE_RESULT kv_outcome kv_answer_offer(const uint16_t *offers, size_t offers_len, uint16_t reply, uint16_t *out,
+                                         size_t out_len);
 
 /* The peer, on the renewed list, which may have any length: accepts exactly the choice followed by the original list.
  * Writes nothing, and returns the choice as `value`.
  * Refusals, in this order: 10 the original has not 1 to 16 offers; 11 an offer value occurs twice in it; 13 the choice is
  * its first offer; 14 the choice is not among its offers; 15 the renewed list is not the choice followed by the original. */
-kv_outcome kv_check_renewed(const uint16_t *original, size_t original_len, uint16_t choice, const uint16_t *renewed,
-                            size_t renewed_len);
+KV_USE_RESULT kv_outcome kv_check_renewed(const uint16_t *original, size_t original_len, uint16_t choice,
+                                          const uint16_t *renewed, size_t renewed_len);
 
 /* What reading an attribute area returns: the count of the offers written, the name's offset from the area's first byte,
  * its length in bytes, and whether it is byte for byte the peer's own name (1) or not (0). `at` is for the place that a
@@ -228,6 +291,7 @@ typedef struct {
     uint64_t at, name_at, name_len;
     uint32_t same_name;
 } kv_area;
+KV_LAYOUT(sizeof(kv_area) == 40 && offsetof(kv_area, at) == 8 && offsetof(kv_area, same_name) == 32);
 
 /* Reads the offers and the network name of an attribute area (RFC 5448, sections 3.1 and 3.2), which may have any length.
  * AT_KDF is type 24, AT_KDF_INPUT is type 23, and an attribute's length counts words of four bytes. Writes the offers in
@@ -243,8 +307,8 @@ typedef struct {
  * Refusals: first 6 `out` has no room for 17 values. Then attribute by attribute: 16 no length byte, length 0, or past the
  * area's end; 17 an AT_KDF whose length is not 1; 18 an AT_KDF_INPUT whose length disagrees with its name length, or whose
  * padding is not zero; 19 a second AT_KDF_INPUT; 10 an eighteenth AT_KDF. At the end: 19 no AT_KDF_INPUT; 10 no AT_KDF. */
-kv_area kv_read_area(const uint8_t *area, size_t area_len, const uint8_t *own_name, size_t own_name_len, uint16_t *out,
-                     size_t out_len);
+KV_USE_RESULT kv_area kv_read_area(const uint8_t *area, size_t area_len, const uint8_t *own_name, size_t own_name_len,
+                                   uint16_t *out, size_t out_len);
 
 /* The RADIUS Key attribute (draft-zorn-radius-keywrap-03, section 3.1). Its key is wrapped under a KEK by RFC 3394 with
  * AES-128 (FIPS 197). By byte: 0 type, 1 length, 2 reserved (0), 3 Enc Type (0), 4 App ID, 8 KEK ID, 24 Key ID,
@@ -261,9 +325,10 @@ kv_area kv_read_area(const uint8_t *area, size_t area_len, const uint8_t *own_na
 /* Writes the attribute that carries a key. Returns its length, which is 60 plus `key_len`.
  * Refusals, in this order: 20 type 0; 21 KEK ID or Key ID not 16 bytes; 22 KEK not 16 bytes; 23 key not a multiple of 8
  * from 16 to 192 bytes; 6 `out` has no room for the attribute. */
-kv_outcome kv_write_key_attribute(uint8_t type, uint32_t app_id, const uint8_t *kek_id, size_t kek_id_len,
-                                  const uint8_t *key_id, size_t key_id_len, uint32_t lifetime, const uint8_t *kek,
-                                  size_t kek_len, const uint8_t *key, size_t key_len, uint8_t *out, size_t out_len);
+KV_USE_RESULT kv_outcome kv_write_key_attribute(uint8_t type, uint32_t app_id, const uint8_t *kek_id,
+                                                size_t kek_id_len, const uint8_t *key_id, size_t key_id_len,
+                                                uint32_t lifetime, const uint8_t *kek, size_t kek_len,
+                                                const uint8_t *key, size_t key_len, uint8_t *out, size_t out_len);
 
 /* What reading a Key attribute returns: its fields, and the length of the key written to `out`. On a refusal every field
  * but `refusal` is 0. */
@@ -271,14 +336,15 @@ typedef struct {
     uint32_t refusal, app_id, lifetime, key_len;
     uint8_t type, kek_id[16], key_id[16];
 } kv_key_attribute;
+KV_LAYOUT(sizeof(kv_key_attribute) == 52 && offsetof(kv_key_attribute, type) == 16 && offsetof(kv_key_attribute, key_id) == 33);
 
 /* Reads an attribute of `attribute_len` bytes and writes its key, which is 60 bytes shorter. Writes no byte of the key
  * before the unwrapping has been found right.
  * Refusals, in this order: 22 KEK not 16 bytes; 24 fewer than 2 bytes, a length byte unequal to `attribute_len`, or a
  * length that is not 60 plus a multiple of 8 from 16 to 192; 20 type 0; 25 reserved byte not zero; 26 Enc Type not 0;
  * 27 IV field not eight bytes A6; 6 `out` has no room for the key; 28 the unwrapping does not yield the initial value. */
-kv_key_attribute kv_read_key_attribute(const uint8_t *kek, size_t kek_len, const uint8_t *attribute,
-                                       size_t attribute_len, uint8_t *out, size_t out_len);
+KV_USE_RESULT kv_key_attribute kv_read_key_attribute(const uint8_t *kek, size_t kek_len, const uint8_t *attribute,
+                                                     size_t attribute_len, uint8_t *out, size_t out_len);
 
 #ifdef __cplusplus
 }

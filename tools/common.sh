@@ -7,7 +7,7 @@ archive=${KETVAULO_ARCHIVE:-target/staticlib/libketvaulo.a}
 # say TEXT..: a line on standard error, with the script's name in front
 say() { printf '%s: %s\n' "${0##*/}" "$*" >&2; }
 
-# install_for FILE PACKAGE ..: installs each package whose file is missing. A file without a slash is a command.
+# install_for FILE PACKAGE ..: installs each package whose file is missing, with apt_options. A file without a slash is a command.
 install_for() {
     local missing=() as_root=()
     while [ $# -gt 0 ]; do
@@ -20,19 +20,132 @@ install_for() {
     [ ${#missing[@]} -gt 0 ] || return 0
     [ "$(id -u)" -eq 0 ] || as_root=(sudo)
     say "installing ${missing[*]}"
-    { "${as_root[@]}" apt-get -q update && "${as_root[@]}" apt-get -q install -y "${missing[@]}"; } >&2 ||
+    { "${as_root[@]}" apt-get -q update && "${as_root[@]}" apt-get -q install -y ${apt_options:-} "${missing[@]}"; } >&2 ||
         { say "cannot install ${missing[*]}"; return 1; }
 }
 
-# Whether the archive is there and no source is newer. A folder is newer when a file was taken out of it.
-archive_is_fresh() { [ -e "$archive" ] && [ -z "$(find crates crates.txt -newer "$archive" -print -quit)" ]; }
+# The module that the archive is compiled from, and the flags of that compilation. KETVAULO_MODULE names another module.
+module=${KETVAULO_MODULE:-target/staticlib/ketvaulo.bc}
+module_flags=target/staticlib/ketvaulo.flags
 
-# Makes the archive where it is not fresh. One that KETVAULO_ARCHIVE names is taken as it is.
+# kit_folder: where the kit of rt is; its compiler, linker and archiver are in tools_folder
+kit_folder() {
+    local rt
+    rt=$(command -v rt) || { say 'there is no rt: the Rattle kit is missing'; return 1; }
+    (cd "$(dirname "$(readlink -f "$rt")")/.." && pwd -P)
+}
+tools_folder() { echo "$(kit_folder)/on/$(uname -m)/toolchain/bin"; }
+
+# Runs rt staticlib with a copy of the kit by links, in which clang is a script. The script keeps the module and the flags that rattle
+# hands to clang, and calls clang. So the archive is what rt staticlib makes anyway.
+build_library() {
+    local kit copy at=. part file status
+    kit=$(kit_folder) || return 1
+    mkdir -p target/staticlib
+    copy=$(mktemp -d "$PWD/target/kit.XXXXXX") || return 1
+    for part in on "$(uname -m)" toolchain bin clang; do
+        for file in "$kit/$at"/*; do [ "${file##*/}" = "$part" ] || ln -s "$file" "$copy/$at/"; done
+        at=$at/$part
+        [ "$part" = clang ] || mkdir "$copy/$at"
+    done
+    cat >"$copy/$at" <<SCRIPT
+#!/bin/sh
+for word in "\$@"; do case \$word in *.bc) cp "\$word" "$PWD/target/staticlib/ketvaulo.bc" ;; esac; done
+printf '%s\n' "\$@" >"$PWD/$module_flags"
+exec "$kit/$at" "\$@"
+SCRIPT
+    chmod +x "$copy/$at"
+    RATTLE_HOME=$copy "$copy/bin/rt" staticlib ketvaulo
+    status=$?
+    rm -rf "$copy"
+    return $status
+}
+
+# is_fresh FILE: whether it is there and no source is newer. A folder is newer when a file was taken out of it.
+is_fresh() { [ -e "$1" ] && [ -z "$(find crates crates.txt -newer "$1" -print -quit)" ]; }
+
+# Makes the archive, and with it the module, where it is not fresh. One that KETVAULO_ARCHIVE names is taken as it is.
 make_archive() {
+    if [ -n "${KETVAULO_ARCHIVE:-}" ] || is_fresh "$archive"; then return 0; fi
+    make_library
+}
+
+# Makes the module where it is not fresh. One that KETVAULO_MODULE names is taken as it is, with the flags of this checkout's own.
+make_module() {
+    if is_fresh "$module_flags" && { [ -n "${KETVAULO_MODULE:-}" ] || is_fresh "$module"; }; then return 0; fi
+    make_library
+}
+
+make_library() {
     local log
-    if [ -n "${KETVAULO_ARCHIVE:-}" ] || archive_is_fresh; then return 0; fi
     say 'making libketvaulo.a, which takes minutes where the crates are not proved yet'
-    log=$(rt staticlib ketvaulo 2>&1) || { printf '%s\n' "$log" >&2; say 'cannot make libketvaulo.a'; return 1; }
+    log=$(build_library 2>&1) || { printf '%s\n' "$log" >&2; say 'cannot make libketvaulo.a'; return 1; }
+}
+
+# core_flags TARGET: the flags by which clang compiles for the core of a controller; status 1 where it is no target
+core_flags() {
+    # memcpy and its kin by their C names, and not as __aeabi_memcpy
+    local arm='-meabi gnu'
+    case $1 in
+    cortex-m0plus) echo "--target=thumbv6m-none-eabi -mcpu=cortex-m0plus -mfloat-abi=soft $arm" ;;
+    cortex-m3) echo "--target=thumbv7m-none-eabi -mcpu=cortex-m3 -mfloat-abi=soft $arm" ;;
+    cortex-m4) echo "--target=thumbv7em-none-eabi -mcpu=cortex-m4 -mfloat-abi=soft $arm" ;;
+    cortex-m4f) echo "--target=thumbv7em-none-eabihf -mcpu=cortex-m4 -mfloat-abi=hard -mfpu=fpv4-sp-d16 $arm" ;;
+    cortex-m7f) echo "--target=thumbv7em-none-eabihf -mcpu=cortex-m7 -mfloat-abi=hard -mfpu=fpv5-d16 $arm" ;;
+    cortex-m33) echo "--target=thumbv8m.main-none-eabi -mcpu=cortex-m33 -mfloat-abi=soft $arm" ;;
+    cortex-m33f) echo "--target=thumbv8m.main-none-eabihf -mcpu=cortex-m33 -mfloat-abi=hard -mfpu=fpv5-sp-d16 $arm" ;;
+    rv32imac) echo '--target=riscv32-unknown-elf -march=rv32imac -mabi=ilp32' ;;
+    *) return 1 ;;
+    esac
+}
+
+# The calls that the header declares, in its order.
+declared_calls() { awk -f tools/header.awk include/ketvaulo.h | sed -n 's/^\(kv_[a-z0-9_]*\) .*(.*/\1/p'; }
+
+# The library's version, which the header states.
+version() { sed -n 's/^#define KV_VERSION "\(.*\)"$/\1/p' include/ketvaulo.h; }
+
+# install_package PREFIX ARCHIVE TEXT: archive, headers, and the files by which pkg-config and CMake find them
+install_package() {
+    local prefix=$1 version header
+    version=$(version)
+    [ -n "$version" ] || { say 'the header has no KV_VERSION'; return 1; }
+    install -D -m 644 "$2" "$prefix/lib/libketvaulo.a"
+    for header in include/*.h; do install -D -m 644 "$header" "$prefix/$header"; done
+    mkdir -p "$prefix/lib/pkgconfig" "$prefix/lib/cmake/ketvaulo"
+    cat >"$prefix/lib/pkgconfig/ketvaulo.pc" <<PC
+prefix=$prefix
+libdir=\${prefix}/lib
+includedir=\${prefix}/include
+
+Name: ketvaulo
+Description: proved key library for yard radio controllers, $3
+Version: $version
+Libs: -L\${libdir} -lketvaulo
+Cflags: -I\${includedir}
+PC
+    cat >"$prefix/lib/cmake/ketvaulo/ketvaulo-config.cmake" <<'CMAKE'
+# find_package(ketvaulo CONFIG) gives the target ketvaulo::ketvaulo
+get_filename_component(ketvaulo_prefix "${CMAKE_CURRENT_LIST_DIR}/../../.." ABSOLUTE)
+if(NOT TARGET ketvaulo::ketvaulo)
+  add_library(ketvaulo::ketvaulo STATIC IMPORTED)
+  set_target_properties(ketvaulo::ketvaulo PROPERTIES
+    IMPORTED_LOCATION "${ketvaulo_prefix}/lib/libketvaulo.a"
+    IMPORTED_LINK_INTERFACE_LANGUAGES C
+    INTERFACE_INCLUDE_DIRECTORIES "${ketvaulo_prefix}/include")
+endif()
+CMAKE
+    cat >"$prefix/lib/cmake/ketvaulo/ketvaulo-config-version.cmake" <<CMAKE
+set(PACKAGE_VERSION "$version")
+if(PACKAGE_VERSION VERSION_LESS PACKAGE_FIND_VERSION)
+  set(PACKAGE_VERSION_COMPATIBLE FALSE)
+else()
+  set(PACKAGE_VERSION_COMPATIBLE TRUE)
+  if(PACKAGE_VERSION VERSION_EQUAL PACKAGE_FIND_VERSION)
+    set(PACKAGE_VERSION_EXACT TRUE)
+  endif()
+endif()
+CMAKE
 }
 
 # check NAME COMMAND..: counts the command as passed or failed

@@ -3,7 +3,8 @@
 #     kv_outcome struct uint32_t refusal; uint64_t value;
 #     kv_sha256 kv_outcome (const uint8_t *message, size_t message_len, uint8_t *out, size_t out_len)
 # The only reader of the header. tests/header.sh compares all of it with the crates; tests/build.rs and fuzz/run take the calls, which
-# are the lines with a parenthesis. Whatever else the header declares is printed as it stands.
+# are the lines with a parenthesis. KV_USE_RESULT before a call, and a line that checks a layout, declare nothing. Whatever else the header
+# declares is printed as it stands.
 
 function trim(text) {
     gsub(/[ \t\n]+/, " ", text)
@@ -37,6 +38,8 @@ function fields(text,    n, m, all, some, i, j, line, type) {
 
 function tell(text,    open, name) {
     text = trim(text)
+    sub(/^KV_USE_RESULT /, "", text)
+    if (text ~ /^KV_LAYOUT\(.*\)$/) return
     if (text ~ /^enum [{].*[}]$/) {
         tell_constants(substr(text, 7, length(text) - 7))
     } else if (text ~ /^typedef struct [{].*[}] kv_[a-z0-9_]*$/) {

@@ -1,25 +1,10 @@
-/* Measures the jobs on a bare Cortex-M4, which is qemu's mps2-an386 run with -icount shift=8: an instruction takes 256 ns of its clock.
-   Prints each job's whole answer, and for each 'cost NAME INSTRUCTIONS STACK', by semihosting. */
+/* Measures the jobs on a bare core under qemu with -icount shift=8, where an instruction takes 256 ns of its clock. Prints each job's whole
+   answer, and for each 'cost NAME INSTRUCTIONS STACK'. Start-up and output are those of tests/controller. */
 #include "jobs.h"
+#include "port.h"
 
-extern uint32_t ram_used[], stack_top[];
-
-static int semihosting(int operation, const void *argument)
-{
-    register int r0 __asm__("r0") = operation;
-    register const void *r1 __asm__("r1") = argument;
-    __asm__ volatile("bkpt 0xab" : "+r"(r0) : "r"(r1) : "memory");
-    return r0;
-}
-
-static void put(const char *text) { semihosting(4, text); }
-
-static void leave(uint32_t status)
-{
-    semihosting(0x20, (const uint32_t[2]){0x20026, status});
-    for (;;)
-        ;
-}
+#define PAINT 0xa5c3f00d
+#define PAINTED 16384 /* bytes of the stack */
 
 static void put_number(uint32_t n)
 {
@@ -31,6 +16,21 @@ static void put_number(uint32_t n)
     put(at);
 }
 
+#ifdef __riscv
+/* qemu counts in the nanoseconds of its clock here. */
+static uint64_t clock(void)
+{
+    uint32_t high, low;
+    __asm__ volatile(".option push\n.option arch, +zicsr\ncsrr %0, minstreth\ncsrr %1, minstret\n.option pop" : "=r"(high), "=r"(low) : : "memory");
+    return (uint64_t)high << 32 | low;
+}
+static uint32_t instructions(void (*call)(void))
+{
+    uint64_t before = clock();
+    call();
+    return (uint32_t)((clock() - before) >> 8);
+}
+#else
 /* The board's first timer counts down at 25 MHz: 6.4 ticks to an instruction. */
 static volatile uint32_t *const timer = (volatile uint32_t *)0x40000000; /* control, value, reload */
 
@@ -40,29 +40,30 @@ static uint32_t instructions(void (*call)(void))
     timer[2] = timer[1] = 0xffffffff;
     timer[0] = 1;
     call();
-    return (uint32_t)((uint64_t)(0xffffffff - timer[1]) * 10 / 64);
+    return (uint32_t)((uint64_t)(0xffffffff - timer[1]) * 5 >> 5);
 }
+#endif
 
-/* Paints what is free of the stack, all but the eight words below this function's own frame. */
+/* Paints the stack below this function, all but the eight words below its own frame. */
 static __attribute__((noinline)) void paint(void)
 {
     uint32_t *here = __builtin_frame_address(0);
-    for (uint32_t *p = ram_used; p < here - 8; p++)
-        *p = 0xa5c3f00d;
+    for (volatile uint32_t *p = here - PAINTED / 4; p < here - 8; p++)
+        *p = PAINT;
 }
 
-static uint32_t deepest(void (*call)(void))
+static __attribute__((noinline)) uint32_t deepest(void (*call)(void))
 {
-    uint32_t *here = __builtin_frame_address(0), *at = ram_used;
+    uint32_t *here = __builtin_frame_address(0);
+    volatile uint32_t *at = here - PAINTED / 4 + 256;
     paint();
     call();
-    while (*at == 0xa5c3f00d)
+    while (*at == PAINT)
         at++;
-    return (uint32_t)(here - at) * 4;
+    return (uint32_t)((uint8_t *)here - (uint8_t *)at);
 }
 
-int main(void);
-int main(void)
+int program(void)
 {
     prepare_jobs();
     for (int i = 0; i < JOBS; i++)
@@ -79,13 +80,3 @@ int main(void)
     }
     return 0;
 }
-
-static void reset(void) { leave((uint32_t)main()); }
-static void fault(void)
-{
-    put("FAULT\n");
-    leave(9);
-}
-
-__attribute__((section(".vectors"), used)) static void *const vectors[16] = {stack_top, (void *)reset, (void *)fault, (void *)fault,
-                                                                             (void *)fault, (void *)fault, (void *)fault};

@@ -12,7 +12,7 @@ use Rattle.offer_rules.specs.Rfc5448.{stands, repeats, firstSupported, isFirst,
 use Rattle.offer_rules.specs.Answers.{firstRound, serverAnswer, serverBuffer, renewedAnswer}
 use Rattle.keywrap.specs.Calls.{wrappable}
 use Rattle.key_frame.specs.KeyFrame.{header}
-use Rattle.key_attribute.specs.KeyAttribute.{attribute, writeCheck, writeAnswer, writeBuffer}
+use Rattle.key_writer.specs.KeyWriter.{attribute, writeCheck, writeAnswer, writeBuffer}
 use Rattle.checked_cases.specs.CheckedCases.{CheckedCases}
 
 pub checked-cases : CheckedCases

@@ -10,9 +10,9 @@ use Rattle.refusal.specs.Checks.{bare, pass, _andThen_}
 use Rattle.refusal.specs.Answers.{Answer, wrote}
 use Rattle.requests.specs.Requests.{forUsage, textOf, inputOf}
 use Rattle.offer_rules.specs.Answers.{FirstAnswer, carryOn, ask, firstRound, serverAnswer, serverBuffer, RenewedAnswer, renewedAnswer}
-use Rattle.key_frame.specs.KeyFrame.{check20}
+use Rattle.key_frame.specs.KeyFrame.{check20, check22}
 use Rattle.key_frame.specs.declared.KeyFields.{KeyFields}
-use Rattle.key_attribute.specs.KeyAttribute.{check21, check22, writeAnswer, writeBuffer}
+use Rattle.key_writer.specs.KeyWriter.{check21, writeAnswer, writeBuffer}
 
 pub record CheckedCases : Type 0 where
   -- label a, no data, n 64: S = 61 00 00 40

@@ -1,9 +1,11 @@
--- What is proved of the definitions of FIPS 180-4, for any compression of blocks of 64 bytes. Assumes nothing.
+-- What is proved of the definitions of FIPS 180-4. Assumes nothing.
 use mathlib.Core.Path.{_≡_}
 use mathlib.Core.List.{List, _++_}
-use Prim.Native.Nat.{ℕ, _+_, _%_, _≤_}
+use Prim.Native.Nat.{ℕ, _+_, _-_, _%_, _<_, _≤_}
 use lib.ListN.{length}
+use Rattle.fips180.specs.Words.{word}
 use Rattle.fips180.specs.Hash.{zeros, padded, hashBy}
+use Rattle.fips180.specs.Sha256.{nextW, W}
 use Rattle.fips180.specs.Stream.{started, startedAfter, absorbedBy, finishedBy}
 
 -- 5.1.1: after n bytes and the byte of the bit 1, the zeros end 8 bytes before the end of a block, and no fewer zeros do.
@@ -14,6 +16,14 @@ FewestZeros = (n : ℕ) → ((n + 1 + zeros n) % 64 ≡ 56) × ((k : ℕ) → (n
 -- 5.1: a padded message is whole blocks. `padded-whole` of proofs/Padding.antt
 abbrev pub PaddedIsBlocks : Type 0
 PaddedIsBlocks = (m : List ℕ) → length (padded m) % 64 ≡ 0
+
+-- 6.2.2, 1, word for word: W t is word t of the block for t from 0 to 15, and the sum over the words 2, 7, 15 and 16 before it for t from 16
+-- on. `schedule-by-cases` of proofs/Schedule.antt
+abbrev pub ScheduleByCases : Type 0
+ScheduleByCases =
+    (b : List ℕ) (t : ℕ)
+    → (t < 16 → W b t ≡ word b t)
+    × (16 ≤ t → W b t ≡ nextW (W b (t - 2)) (W b (t - 7)) (W b (t - 15)) (W b (t - 16)))
 
 module _ (compress : List ℕ → List ℕ → List ℕ) (first : List ℕ) (written : List ℕ → List ℕ) where
   -- the digest of a hash in progress that has absorbed m is the hash of m. `stream-is-hash` of proofs/Stream.antt

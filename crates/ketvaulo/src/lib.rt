@@ -14,7 +14,9 @@ ghost use Rattle.offer_peer.specs.Answers.{firstRound, serverAnswer, serverBuff
 ghost use Rattle.offers_c.specs.Outcomes.{firstRoundOutcome, renewedOutcome};
 ghost use Rattle.area.specs.Area.{areaAnswer, areaBuffer};
 ghost use Rattle.area_c.specs.Outcomes.{areaOutcome};
-ghost use Rattle.key_attribute.specs.KeyAttribute.{fieldsOf, writeAnswer, writeBuffer, reading, readBuffer};
+ghost use Rattle.key_frame.specs.KeyFrame.{fieldsOf};
+ghost use Rattle.key_writer.specs.KeyWriter.{writeAnswer, writeBuffer};
+ghost use Rattle.key_reader.specs.KeyReader.{reading, readBuffer};
 ghost use Rattle.key_attribute_c.specs.Outcomes.{keyOutcome};
 use area_c::AreaOutcome;
 use key_attribute_c::KeyAttributeOutcome;

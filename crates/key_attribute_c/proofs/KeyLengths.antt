@@ -14,7 +14,7 @@ use Rattle.keywrap.specs.Calls.{wrappable}
 use Rattle.key_frame.specs.KeyFrame.{keyLengthIn}
 use Rattle.key_frame.specs.declared.KeyFields.{KeyFields}
 use Rattle.key_frame.proofs.Frames.{framed}
-use Rattle.key_attribute.specs.KeyAttribute.{Reading, readCheck, readingTo, reading, answerIn, fieldsRead}
+use Rattle.key_reader.specs.KeyReader.{Reading, readCheck, readingTo, reading, answerIn, fieldsRead}
 use Rattle.key_attribute_c.specs.Outcomes.{keyOutcome}
 use Rattle.key_attribute_c.specs.Internal.{lengthIn, keyReturned}
 use Rattle.key_attribute_c.specs.declared.KeyAttributeOutcome.{KeyAttributeOutcome}

@@ -2,7 +2,7 @@
 -- Assumes nothing.
 use Prim.Native.Nat.{ℕ}
 use Rattle.key_frame.specs.declared.KeyFields.{KeyFields}
-use Rattle.key_attribute.specs.KeyAttribute.{Reading, accepted, refused, noFields}
+use Rattle.key_reader.specs.KeyReader.{Reading, accepted, refused, noFields}
 use Rattle.outcome.specs.Outcomes.{numberIn}
 use Rattle.key_attribute_c.specs.declared.KeyAttributeOutcome.{KeyAttributeOutcome}
 

@@ -3,11 +3,13 @@ ghost use mathlib.Core.Path.{_≡_};
 ghost use Prim.Native.Nat.{_<_, _^_};
 ghost use lib.ListN.{length};
 ghost use Rattle.refusal.specs.Answers.{answerOf};
-ghost use Rattle.key_attribute.specs.KeyAttribute.{fieldsOf, writeAnswer, writeBuffer, reading, readBuffer};
+ghost use Rattle.key_frame.specs.KeyFrame.{fieldsOf};
+ghost use Rattle.key_writer.specs.KeyWriter.{writeAnswer, writeBuffer};
+ghost use Rattle.key_reader.specs.KeyReader.{reading, readBuffer};
 ghost use Rattle.outcome.specs.Outcomes.{outcomeOf};
 ghost use Rattle.key_attribute_c.specs.Outcomes.{keyTold, keyOutcome};
 ghost use Rattle.key_attribute_c.specs.Internal.{lengthIn, keyReturned};
-use key_attribute::KeyRead;
+use key_reader::KeyRead;
 use key_frame::KeyFields;
 use outcome::Outcome;
 use refusal::Written;
@@ -38,7 +40,7 @@ pub fn write_key_attribute(
     ensures answer { λ r. ⌜ r ≡ outcomeOf (writeAnswer (fieldsOf «attribute_type» «app_id» (now («kek_id» .entry)) (now («key_id» .entry)) lifetime) (now (kek .entry)) (now (key .entry)) (length (now (out .entry)))) ⌝ }
     ensures buffer { λ _. ⌜ now (out .exit) ≡ writeBuffer (fieldsOf «attribute_type» «app_id» (now («kek_id» .entry)) (now («key_id» .entry)) lifetime) (now (kek .entry)) (now (key .entry)) (now (out .entry)) ⌝ }
 {
-    outcome::returned(key_attribute::write(
+    outcome::returned(key_writer::write(
         attribute_type,
         app_id,
         kek_id,
@@ -85,5 +87,5 @@ pub fn read_key_attribute(kek: &[u8], attribute: &[u8], out: &mut [u8]) -> KeyAt
     ensures answer { λ r. ⌜ r ≡ keyOutcome (reading (now (kek .entry)) (now (attribute .entry)) (length (now (out .entry)))) ⌝ }
     ensures buffer { λ _. ⌜ now (out .exit) ≡ readBuffer (now (kek .entry)) (now (attribute .entry)) (now (out .entry)) ⌝ }
 {
-    key_returned(key_attribute::read(kek, attribute, out))
+    key_returned(key_reader::read(kek, attribute, out))
 }

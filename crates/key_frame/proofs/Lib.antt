@@ -1,1 +1,3 @@
+pub mod Told
 pub mod Frames
+pub mod ByValue

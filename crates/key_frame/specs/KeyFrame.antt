@@ -1,17 +1,22 @@
--- The Key attribute's layout, and the tests of an attribute that need no KEK: source document 004, section 3.1, as document 01, "Key attribute", reads it.
+-- The Key attribute's layout, and the tests that its writer and its reader share: source document 004, section 3.1, as document 01, "Key attribute", reads it.
 -- Byte 0 type, 1 length, 2 reserved 0, 3 Enc Type 0, 4 App ID (4), 8 KEK ID (16), 24 Key ID (16), 40 Lifetime (4), 44 IV (8), 52 the wrapped key.
 -- Assumes nothing.
 use Prim.Native.Nat.{ℕ, _-_}
 use mathlib.Core.Bool.{Bool, not, _&&_}
 use mathlib.Core.List.{List, [], _∷_, _++_}
 use lib.Dec.{leb, eqb}
-use lib.ListN.{length, take, drop, getD}
+use lib.ListN.{length, take, drop, getD, replicate}
 use Rattle.refusal.specs.Checks.{Check, bare, unless, _andThen_}
 use Rattle.slices.specs.Numbers.{be32, be32At}
 use Rattle.slices.specs.Same.{sameList}
 use Rattle.keywrap.specs.Rfc3394.{initialValue}
 use Rattle.keywrap.specs.Calls.{wrappable}
 use Rattle.key_frame.specs.declared.KeyFields.{KeyFields}
+
+-- the fields by name
+abbrev pub fieldsOf : ℕ → ℕ → List ℕ → List ℕ → ℕ → KeyFields
+fieldsOf attributeType appId kekId keyId lifetime =
+    record { «attribute_type» = attributeType; «app_id» = appId; «kek_id» = kekId; «key_id» = keyId; lifetime = lifetime }
 
 -- bytes 0 to 51 of an attribute that is n bytes long
 unfoldable pub header : KeyFields → ℕ → List ℕ
@@ -44,6 +49,10 @@ keyLengthIn a = length a - 60
 abbrev pub check20 : ℕ → Check
 check20 t = unless (not (eqb t 0)) (bare 20)
 
+-- 22: KEK not 16 bytes
+abbrev pub check22 : List ℕ → Check
+check22 kek = unless (eqb (length kek) 16) (bare 22)
+
 -- the length byte is there and counts the bytes lent, and they are 60 plus a multiple of 8 from 16 to 192
 unfoldable pub lengthHolds : List ℕ → Bool
 lengthHolds a = leb 2 (length a) && (eqb (getD a 1 0) (length a) && wrappable (length a - 60))
@@ -67,3 +76,7 @@ check27 a = unless (sameList (ivIn a) initialValue) (bare 27)
 -- the tests of a lent attribute that need no KEK
 unfoldable pub frameCheck : List ℕ → Check
 frameCheck a = check24 a andThen check20 (getD a 0 0) andThen check25 a andThen check26 a andThen check27 a
+
+-- sixteen bytes of a list: its first, and zeros after them where it has fewer
+abbrev pub sixteenOf : List ℕ → List ℕ
+sixteenOf s = take 16 s ++ drop (length s) (replicate 16 0)

@@ -4,12 +4,13 @@ ghost use Prim.Native.Nat.{_≤_};
 ghost use lib.ListN.{length, getD};
 ghost use Rattle.refusal.specs.Checks.{_andThen_};
 ghost use Rattle.refusal.specs.Answers.{checkedAs};
-ghost use Rattle.key_frame.specs.KeyFrame.{check20, lengthHolds, check25, check26, check27, frameCheck};
+ghost use Rattle.key_frame.specs.KeyFrame.{check20, lengthHolds, check25, check26, check27, frameCheck, sixteenOf};
 use keywrap::is_wrappable;
 use refusal::Checked;
 use refusal::Refusal;
 use refusal::then_check;
 use refusal::unless;
+use slices::least;
 use slices::same_bytes;
 
 // The fields of a Key attribute besides the key.
@@ -62,4 +63,14 @@ pub fn check_frame(attribute: &[u8]) -> Checked
     } else {
         Checked::Failed(Refusal::KeyAttributeLength)
     }
+}
+
+// Sixteen bytes by value: the first of s, and zeros after them where s has fewer.
+pub fn sixteen(s: &[u8]) -> [u8; 16]
+    ensures { λ r. ⌜ r ≡ sixteenOf (now (s .entry)) ⌝ }
+{
+    let mut r = [0u8; 16];
+    let n = least(s.len(), 16);
+    bytes::copy(&s[..n], &mut r);
+    r
 }

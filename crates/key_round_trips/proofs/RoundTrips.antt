@@ -16,13 +16,14 @@ use Rattle.keywrap.specs.Calls.{Bytes, wrappable}
 use Rattle.keywrap.proofs.Bytes.{bytes-drop}
 use Rattle.keywrap.proofs.Laws.{length-wrapped, unwrap-initial, unwrap-key, length-unwrappedKey, wrap-again}
 use Rattle.slices.proofs.Same.{same-equal, equal-same}
-use Rattle.key_frame.specs.KeyFrame.{check20, fieldsIn, wrappedIn, keyLengthIn, frameCheck}
+use Rattle.key_frame.specs.KeyFrame.{check20, check22, fieldsIn, wrappedIn, keyLengthIn, frameCheck}
 use Rattle.key_frame.specs.declared.KeyFields.{KeyFields}
 use Rattle.key_frame.proofs.Frames.{framed}
-use Rattle.key_attribute.specs.KeyAttribute.{check21, check22, attribute, writeCheck, writeAnswer, writeBuffer, keyIn, readCheck, accepted, readingTo, reading, readBuffer}
+use Rattle.key_writer.specs.KeyWriter.{check21, attribute, writeCheck, writeAnswer, writeBuffer}
+use Rattle.key_reader.specs.KeyReader.{keyIn, readCheck, accepted, readingTo, reading, readBuffer}
 use Rattle.key_round_trips.specs.Statements.{ReadsBack, WritesAgain}
-use Rattle.key_attribute.proofs.Told.{told-count}
-use Rattle.key_attribute.proofs.Writing.{lengths}
+use Rattle.key_frame.proofs.Told.{told-count}
+use Rattle.key_writer.proofs.Writing.{lengths}
 use Rattle.key_round_trips.proofs.Fields.{Fitting, header-size, fields-written, wrapped-written, frame-written, header-back, kind-passes}
 
 -- a reading that is accepted comes of tests that passed

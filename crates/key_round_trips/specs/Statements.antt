@@ -7,7 +7,8 @@ use lib.ListN.{length, take, drop}
 use Rattle.refusal.specs.Answers.{wrote}
 use Rattle.keywrap.specs.Calls.{Bytes}
 use Rattle.key_frame.specs.declared.KeyFields.{KeyFields}
-use Rattle.key_attribute.specs.KeyAttribute.{writeAnswer, writeBuffer, accepted, reading, readBuffer}
+use Rattle.key_writer.specs.KeyWriter.{writeAnswer, writeBuffer}
+use Rattle.key_reader.specs.KeyReader.{accepted, reading, readBuffer}
 
 -- what is written reads back under the same KEK: of whatever a writer was lent, the n bytes that it answers it wrote are an attribute that the reader, lent
 -- an output buffer with room for the key, accepts with the same fields and the key's length; and what it writes is the key

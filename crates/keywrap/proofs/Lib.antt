@@ -1,4 +1,3 @@
 pub mod Bytes
 pub mod Laws
 mod Parts
-mod Steps

@@ -2,16 +2,13 @@
 -- Assumes nothing.
 use mathlib.Core.Bool.{Bool, _&&_}
 use mathlib.Core.List.{List}
-use Prim.Native.Nat.{ℕ, _+_, _-_, _%_, _<_}
+use Prim.Native.Nat.{ℕ, _+_, _-_, _%_}
 use lib.Dec.{eqb}
-use lib.ListN.{getD, length}
+use lib.ListN.{length}
 use Rattle.refusal.specs.Checks.{Check, bare, unless, _andThen_, within, check6}
 use Rattle.slices.specs.Same.{sameList}
-use Rattle.keywrap.specs.Rfc3394.{initialValue, unwrappedIv}
-
--- A list of bytes, as every lent slice of bytes is one.
-abbrev pub Bytes : List ℕ → Type 0
-Bytes l = (i : ℕ) → getD l i 0 < 256
+pub use Rattle.rfc3394.specs.Bytes.{Bytes}
+use Rattle.rfc3394.specs.Rfc3394.{initialValue, unwrappedIv}
 
 -- 23: key to wrap not a multiple of 8 from 16 to 192 bytes.
 unfoldable pub wrappable : ℕ → Bool

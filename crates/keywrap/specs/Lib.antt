@@ -1,3 +1,2 @@
 pub mod Calls
-pub mod Columns
 pub mod Rfc3394

@@ -8,6 +8,7 @@ ghost use lib.Seq.{paste};
 ghost use Rattle.slices.specs.Numbers.{be64};
 ghost use Rattle.sha256_block.specs.Fips180 as Fips180;
 ghost use Rattle.sha256.specs.Stream.{progress, started, startedAfter, absorbed, finished};
+ghost use Rattle.fips180.specs.Internal.{begunBlock};
 ghost use Rattle.sha256.specs.Internal.{parts, closing, partAt};
 use sha256_block::compress_blocks;
 
@@ -109,6 +110,27 @@ fn last_digest(h: [u32; 8], block: &mut [u8; 64], count: u64) -> [u8; 32]
     to_bytes(last_value(h, block, count))
 }
 
+// Begins a block with the bytes of s that come after its whole blocks.
+fn begin(block: &mut [u8; 64], s: &[u8])
+    ensures { λ _. ⌜ now (block .exit) ≡ begunBlock (now (s .entry)) ⌝ }
+{
+    let n = s.len();
+    let rest = n - n % 64;
+    *block = [0; 64];
+    put(block, 0, &s[rest..]);
+}
+
+// Compresses the full block and the whole blocks of s, and begins the next block with the bytes after these.
+fn absorb_blocks(h: &mut [u32; 8], block: &mut [u8; 64], s: &[u8])
+    requires { ⌜ length (now block) ≡ 64 ⌝ }
+    ensures { λ _. ⌜ now (h .exit) ≡ Fips180.blocks (length (now (s .entry)) / 64) (Fips180.compress (now (h .entry)) (now (block .entry))) (now (s .entry)) ⌝ }
+    ensures { λ _. ⌜ now (block .exit) ≡ begunBlock (now (s .entry)) ⌝ }
+{
+    let g = compress_blocks(*h, block);
+    *h = compress_blocks(g, s);
+    begin(block, s);
+}
+
 // Absorbs the bytes of s into the parts of a hash in progress, which are changed where they lie: by value they would be copied at each
 // call. The next count is returned. The bytes that the block has room for are copied before the branch, so that the compiler lays out one
 // copy for those that fill it and those that leave it short of full. The latter are only copied.
@@ -124,11 +146,7 @@ fn absorb_into(h: &mut [u32; 8], block: &mut [u8; 64], count: u64, s: &[u8]) -> 
     if n < 64 - at {
         return next;
     }
-    let g = compress_blocks(*h, block);
-    *h = compress_blocks(g, &s[k..]);
-    let rest = n - (n - k) % 64;
-    *block = [0; 64];
-    put(block, 0, &s[rest..]);
+    absorb_blocks(h, block, &s[k..]);
     next
 }
 
@@ -252,9 +270,7 @@ pub fn digest(message: &[u8]) -> [u8; 32]
     ensures { λ r. ⌜ r ≡ Fips180.sha256 (now (message .entry)) ⌝ }
 {
     let h = whole(message);
-    let n = message.len();
-    let rest = n - n % 64;
     let mut block: [u8; 64] = [0; 64];
-    put(&mut block, 0, &message[rest..]);
-    last_digest(h, &mut block, n as u64)
+    begin(&mut block, message);
+    last_digest(h, &mut block, message.len() as u64)
 }

@@ -7,8 +7,7 @@ use native.Mathlib.Nat.{add-zero, zero-add, add-suc, suc-add, le-of-suc-le-suc, 
 use native.Mathlib.Omega.{arith}
 use lib.ListN.{length, getD, set}
 use Rattle.tables.proofs.Filled.{filled-of}
-use Rattle.sha256_round.specs.Functions.{K, round}
-use Rattle.sha256_block.specs.Fips180.{W, rounds, sums, compress}
+use Rattle.fips180.specs.Sha256.{K, W, round, rounds, sums, compress}
 use Rattle.sha256_block.specs.Internal.{window, runs, ConstantsFrom}
 
 pub none : (k w s : List ℕ) → s ≡ runs k w s 0

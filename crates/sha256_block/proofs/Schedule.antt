@@ -1,66 +1,16 @@
--- The schedule's words: what FIPS 180-4 says of W t, and the next sixteen from sixteen.
+-- Sixteen words of the schedule: the block's own, and the next sixteen from sixteen.
 -- Assumes nothing.
-use mathlib.Core.Path.{_≡_, refl, sym, ap, _∙_, subst}
 use mathlib.Core.Bool.{cond}
-use mathlib.Core.List.{List, [], _∷_, _++_}
-use Prim.Native.Nat.{ℕ, zero, suc, _+_, _-_, _<_, _≤_}
+use mathlib.Core.List.{List, [], _∷_}
+use mathlib.Core.Path.{_≡_, refl, sym, ap, _∙_}
+use Prim.Native.Nat.{ℕ, suc, _+_}
 use native.Mathlib.Nat.{add-assoc}
-use native.Mathlib.Decide.{decLt}
-use native.Mathlib.Omega.{arith}
-use borrow.Author.Tests.{lt-ltb, le-ltb}
-use lib.ListN.{length, getD, set, length-append, List·getD-append}
-use lib.Seq.{getD-at}
+use lib.ListN.{getD, set}
 use lib.Dec.{ltb, lit<}
 use Rattle.fips180.specs.Words.{word}
-use Rattle.sha256_round.specs.Functions.{nextW}
-use Rattle.sha256_block.specs.Fips180.{W, schedule, wordAt}
-use Rattle.sha256_block.specs.Statements.{ScheduleByCases}
+use Rattle.fips180.specs.Sha256.{nextW, W}
+use Rattle.fips180.proofs.Schedule.{early, late}
 use Rattle.sha256_block.specs.Internal.{window}
-
-len : (b : List ℕ) (t : ℕ) → length (schedule b t) ≡ t
-unfolding schedule
-len b zero = refl
-len b (suc t) = simp length-append (omega (arith, len b t))
-
-is : (b : List ℕ) (t : ℕ) → W b t ≡ wordAt b (schedule b t) t
-unfolding W schedule
-is b t = getD-at (schedule b t) (wordAt b (schedule b t) t) [] 0 t (len b t)
-
--- words already there stay
-stable : (b : List ℕ) (t k : ℕ) → k < t → getD (schedule b t) k 0 ≡ W b k
-unfolding schedule
-stable b zero k h = absurd (omega arith)
-stable b (suc t) k h = go (stable b t k) (decLt k t)
-  where
-    go : (k < t → getD (schedule b t) k 0 ≡ W b k) → Dec (k < t) → getD (schedule b t ++ (wordAt b (schedule b t) t ∷ [])) k 0 ≡ W b k
-    go ih (yes l) = List·getD-append (schedule b t) (wordAt b (schedule b t) t ∷ []) 0 k (omega (arith, len b t)) ∙ ih l
-    go ih (no n) =
-        let e : k ≡ t = omega arith in
-        getD-at (schedule b t) (wordAt b (schedule b t) t) [] 0 k (len b t ∙ sym e) ∙ sym (is b t) ∙ ap (W b) (sym e)
-
-early : (b : List ℕ) (t : ℕ) → t < 16 → W b t ≡ word b t
-unfolding wordAt
-early b t h = is b t ∙ simp (lt-ltb t 16 h)
-
-late : (b : List ℕ) (t : ℕ) → W b (t + 16) ≡ nextW (W b (t + 14)) (W b (t + 9)) (W b (t + 1)) (W b t)
-unfolding wordAt
-late b t =
-    is b (t + 16) ∙ simp (le-ltb (t + 16) 16 (omega arith))
-    (λ i. nextW (at (t + 16 - 2) (t + 14) (omega arith) (omega arith) i) (at (t + 16 - 7) (t + 9) (omega arith) (omega arith) i) (at (t + 16 - 15) (t + 1) (omega arith) (omega arith) i) (at (t + 16 - 16) t (omega arith) (omega arith) i))
-  where
-    at : (j k : ℕ) → j ≡ k → k < t + 16 → getD (schedule b (t + 16)) j 0 ≡ W b k
-    at j k e h = ap (λ (n : ℕ). getD (schedule b (t + 16)) n 0) e ∙ stable b (t + 16) k h
-
-pub schedule-by-cases : ScheduleByCases
-schedule-by-cases b t = (early b t, λ h. let e : t - 16 + 16 ≡ t = omega arith in subst (λ (n : ℕ). W b n ≡ nextW (W b (n - 2)) (W b (n - 7)) (W b (n - 15)) (W b (n - 16))) e (places (t - 16)))
-  where
-    places : (k : ℕ) → W b (k + 16) ≡ nextW (W b (k + 16 - 2)) (W b (k + 16 - 7)) (W b (k + 16 - 15)) (W b (k + 16 - 16))
-    places k =
-        let e2 : k + 14 ≡ k + 16 - 2 = omega arith in
-        let e7 : k + 9 ≡ k + 16 - 7 = omega arith in
-        let e15 : k + 1 ≡ k + 16 - 15 = omega arith in
-        let e16 : k ≡ k + 16 - 16 = omega arith in
-        late b k ∙ (λ i. nextW (W b (e2 i)) (W b (e7 i)) (W b (e15 i)) (W b (e16 i)))
 
 -- a block's own words are the first sixteen
 pub loaded : (b : List ℕ) (r0 r1 r2 r3 r4 r5 r6 r7 r8 r9 r10 r11 r12 r13 r14 r15 : ℕ)

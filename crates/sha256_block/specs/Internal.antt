@@ -4,8 +4,7 @@ use mathlib.Core.Path.{_≡_}
 use mathlib.Core.List.{List, [], _∷_}
 use Prim.Native.Nat.{ℕ, zero, suc, _+_, _<_}
 use lib.ListN.{getD}
-use Rattle.sha256_round.specs.Functions.{K, round}
-use Rattle.sha256_block.specs.Fips180.{W}
+use Rattle.fips180.specs.Sha256.{K, W, round}
 
 -- sixteen words of the schedule, from word t on
 unfoldable pub window : List ℕ → ℕ → List ℕ

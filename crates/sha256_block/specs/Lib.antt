@@ -1,3 +1,2 @@
 pub mod Fips180
-pub mod Statements
 pub mod Internal

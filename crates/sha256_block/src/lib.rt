@@ -4,8 +4,7 @@ ghost use mathlib.Core.List.{List};
 ghost use Prim.Native.Nat.{ℕ, _+_, _-_, _*_, _/_, _<_, _≤_, _%_, _^_};
 ghost use lib.ListN.{getD, length, set};
 ghost use Rattle.fips180.specs.Words.{word};
-ghost use Rattle.sha256_round.specs.Functions.{nextW};
-ghost use Rattle.sha256_block.specs.Fips180 as Fips180;
+ghost use Rattle.fips180.specs.Sha256 as Sha256;
 ghost use Rattle.sha256_block.specs.Internal as Internal;
 use sha256_round::constants::constant;
 use sha256_round::next_word;
@@ -48,7 +47,7 @@ fn load(b: &[u8]) -> [u32; 16]
 // before it.
 fn put_next(w: &mut [u32; 16], i2: usize, i7: usize, i15: usize, i16: usize)
     requires { ⌜ (i2 < 16) × (i7 < 16) × (i15 < 16) × (i16 < 16) ⌝ }
-    ensures { λ _. ⌜ now (w .exit) ≡ set (now (w .entry)) i16 (nextW (getD (now (w .entry)) i2 0) (getD (now (w .entry)) i7 0) (getD (now (w .entry)) i15 0) (getD (now (w .entry)) i16 0)) ⌝ }
+    ensures { λ _. ⌜ now (w .exit) ≡ set (now (w .entry)) i16 (Sha256.nextW (getD (now (w .entry)) i2 0) (getD (now (w .entry)) i7 0) (getD (now (w .entry)) i15 0) (getD (now (w .entry)) i16 0)) ⌝ }
 {
     w[i16] = next_word(w[i2], w[i7], w[i15], w[i16]);
 }
@@ -125,7 +124,7 @@ fn group_words(w: &mut [u32; 16], g: u32)
 
 // The hash value and the working variables, word by word.
 fn sum(h: [u32; 8], s: [u32; 8]) -> [u32; 8]
-    ensures { λ r. ⌜ r ≡ Fips180.sums h s ⌝ }
+    ensures { λ r. ⌜ r ≡ Sha256.sums h s ⌝ }
 {
     [
         std::num::wrapping_add_u32(h[0], s[0]),
@@ -142,7 +141,7 @@ fn sum(h: [u32; 8], s: [u32; 8]) -> [u32; 8]
 // The next hash value, from the block that b begins with.
 fn compress(h: [u32; 8], b: &[u8]) -> [u32; 8]
     requires { ⌜ 64 ≤ length (now b) ⌝ }
-    ensures { λ r. ⌜ r ≡ Fips180.compress h (now (b .entry)) ⌝ }
+    ensures { λ r. ⌜ r ≡ Sha256.compress h (now (b .entry)) ⌝ }
 {
     let mut w = load(b);
     let mut s = h;
@@ -157,7 +156,7 @@ fn compress(h: [u32; 8], b: &[u8]) -> [u32; 8]
 
 // The hash value after the whole blocks of `message`, from h. A rest shorter than a block is not looked at.
 pub fn compress_blocks(h: [u32; 8], message: &[u8]) -> [u32; 8]
-    ensures { λ r. ⌜ r ≡ Fips180.blocks (length (now (message .entry)) / 64) h (now (message .entry)) ⌝ }
+    ensures { λ r. ⌜ r ≡ Sha256.blocks (length (now (message .entry)) / 64) h (now (message .entry)) ⌝ }
 {
     let mut g = h;
     for k in 0..message.len() / 64 {

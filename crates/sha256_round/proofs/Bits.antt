@@ -9,7 +9,7 @@ use lib.Pow.{pow-add, pow-pos, split, high, low, shl-lt, shr-lt, shr-le, mod-pow
 use lib.Bits.{bitOr, bitXor, xor-block, xor-lt, or-lt, or-shifted-r}
 use Rattle.fips180.specs.Words.{ROTR, SHR}
 use Rattle.fips180.proofs.Bits.{xor, xor-assoc}
-use Rattle.sha256_round.specs.Functions.{Σ0, Σ1, σ0, σ1}
+use Rattle.fips180.specs.Sha256.{Σ0, Σ1, σ0, σ1}
 
 -- the rotation, shut
 unfoldable rot : ℕ → ℕ → ℕ

@@ -3,7 +3,7 @@
 ghost use mathlib.Core.Path.{_≡_};
 ghost use lib.ListN.{getD};
 ghost use Rattle.tables.specs.Table.{NoneBelow};
-ghost use Rattle.sha256_round.specs.Functions.{K};
+ghost use Rattle.fips180.specs.Sha256.{K};
 
 // Past the last constant. No caller looks up there.
 fn beyond(t: u32) -> u32

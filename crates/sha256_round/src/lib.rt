@@ -4,7 +4,7 @@ ghost use mathlib.Core.Path.{_≡_};
 ghost use Prim.Native.Nat.{_+_, _<_, _%_, _^_};
 ghost use lib.ListN.{getD};
 ghost use Rattle.fips180.specs.Words as Words;
-ghost use Rattle.sha256_round.specs.Functions as Functions;
+ghost use Rattle.fips180.specs.Sha256 as Sha256;
 
 pub mod constants;
 
@@ -18,25 +18,25 @@ fn rotr(x: u32, n: u32) -> u32
 
 // The functions of 4.1.2, in the forms that take the fewest steps: a rotation of a rotation, and one `and`.
 fn big_sigma0(x: u32) -> u32
-    ensures { λ r. ⌜ r ≡ Functions.Σ0 x ⌝ }
+    ensures { λ r. ⌜ r ≡ Sha256.Σ0 x ⌝ }
 {
     rotr(x ^ rotr(x ^ rotr(x, 9), 11), 2)
 }
 
 fn big_sigma1(x: u32) -> u32
-    ensures { λ r. ⌜ r ≡ Functions.Σ1 x ⌝ }
+    ensures { λ r. ⌜ r ≡ Sha256.Σ1 x ⌝ }
 {
     rotr(x ^ rotr(x ^ rotr(x, 14), 5), 6)
 }
 
 fn small_sigma0(x: u32) -> u32
-    ensures { λ r. ⌜ r ≡ Functions.σ0 x ⌝ }
+    ensures { λ r. ⌜ r ≡ Sha256.σ0 x ⌝ }
 {
     rotr(x ^ rotr(x, 11), 7) ^ (x >> 3)
 }
 
 fn small_sigma1(x: u32) -> u32
-    ensures { λ r. ⌜ r ≡ Functions.σ1 x ⌝ }
+    ensures { λ r. ⌜ r ≡ Sha256.σ1 x ⌝ }
 {
     rotr(x ^ rotr(x, 2), 17) ^ (x >> 10)
 }
@@ -80,27 +80,27 @@ fn add5(a: u32, b: u32, c: u32, d: u32, e: u32) -> u32
 
 // A word of the schedule, from those 2, 7, 15 and 16 places before it.
 pub fn next_word(w2: u32, w7: u32, w15: u32, w16: u32) -> u32
-    ensures { λ r. ⌜ r ≡ Functions.nextW w2 w7 w15 w16 ⌝ }
+    ensures { λ r. ⌜ r ≡ Sha256.nextW w2 w7 w15 w16 ⌝ }
 {
     add4(small_sigma1(w2), w7, small_sigma0(w15), w16)
 }
 
 // The two sums of a round.
 fn t1(s: [u32; 8], k: u32, w: u32) -> u32
-    ensures { λ r. ⌜ r ≡ Functions.T1 (getD s 4 0) (getD s 5 0) (getD s 6 0) (getD s 7 0) k w ⌝ }
+    ensures { λ r. ⌜ r ≡ Sha256.T1 (getD s 4 0) (getD s 5 0) (getD s 6 0) (getD s 7 0) k w ⌝ }
 {
     add5(s[7], big_sigma1(s[4]), ch(s[4], s[5], s[6]), k, w)
 }
 
 fn t2(s: [u32; 8]) -> u32
-    ensures { λ r. ⌜ r ≡ Functions.T2 (getD s 0 0) (getD s 1 0) (getD s 2 0) ⌝ }
+    ensures { λ r. ⌜ r ≡ Sha256.T2 (getD s 0 0) (getD s 1 0) (getD s 2 0) ⌝ }
 {
     add(big_sigma0(s[0]), maj(s[0], s[1], s[2]))
 }
 
 // A round, with its constant and its word of the schedule.
 pub fn round(s: [u32; 8], k: u32, w: u32) -> [u32; 8]
-    ensures { λ r. ⌜ r ≡ Functions.round k w s ⌝ }
+    ensures { λ r. ⌜ r ≡ Sha256.round k w s ⌝ }
 {
     let x = t1(s, k, w);
     let y = t2(s);

@@ -2,8 +2,7 @@
 -- Assumes nothing.
 use mathlib.Core.Path.{refl}
 use Rattle.fips180.specs.Hash.{padding, padded, blocksBy, hashBy}
-use Rattle.sha256_round.specs.Functions.{nextW, T1, T2, round}
-use Rattle.sha256_block.specs.Fips180.{H0, wordAt, schedule, W, rounds, sums, compress, digest, sha256}
+use Rattle.fips180.specs.Sha256.{H0, nextW, wordAt, schedule, W, T1, T2, round, rounds, sums, compress, digest, sha256}
 use Rattle.vectors.specs.Fips180Examples.{OneBlock, TwoBlocks}
 
 pub one-block : OneBlock

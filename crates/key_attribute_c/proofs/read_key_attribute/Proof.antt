@@ -3,7 +3,7 @@
 use borrow.Author.Needs.{needs}
 use denote.Ref.{now}
 use lib.ListN.{length}
-use Rattle.key_attribute.specs.KeyAttribute.{reading}
+use Rattle.key_reader.specs.KeyReader.{reading}
 use Rattle.key_attribute_c.proofs.KeyLengths.{key-small, handed-key}
 use Rattle.key_attribute_c.proofs.read_key_attribute.Statement.{statement}
 use Rattle.key_attribute_c.proofs.read_key_attribute.Tie as tie

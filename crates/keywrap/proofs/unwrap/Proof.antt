@@ -1,6 +1,6 @@
 -- `keywrap::unwrap` meets its contract.
 -- Assumes nothing.
-use Rattle.keywrap.specs.Rfc3394.{unwrappedKey}
+use Rattle.rfc3394.specs.Rfc3394.{unwrappedKey}
 use Rattle.keywrap.specs.Calls.{keyLength}
 use Rattle.keywrap.proofs.Parts.{unwrap-bounds, unwrap-refused, unwrap-passed}
 use Rattle.refusal.specs.Answers.{checkedAs, answerTo, bufferAfter}

@@ -1,19 +1,16 @@
 -- `keywrap::unwrap_by` meets its contract, by the two outcomes of the integrity check: the buffer is written in one of them alone.
 -- Assumes nothing.
-use Rattle.slices.specs.Same.{sameList}
-use Rattle.keywrap.specs.Rfc3394.{initialValue, unwrappedKey}
-use Rattle.keywrap.specs.Calls.{keyLength}
-use Rattle.keywrap.proofs.Parts.{released}
-use lib.Seq.{length-take-le}
-use lib.ListN.{length}
-use mathlib.Core.List.{List}
+use mathlib.Core.Path.{refl, sym, ap, _∙_}
 use mathlib.Core.Bool.{Bool}
-use Prim.Native.Nat.{ℕ, _≤_}
+use mathlib.Core.List.{List}
+use Prim.Native.Nat.{ℕ}
+use denote.Ref.{now}
 use Rattle.refusal.specs.Answers.{checkedAs, wrote, answerTo, bufferAfter}
 use Rattle.refusal.specs.Checks.{Check, bare, unless}
-use denote.Ref.{now}
-use mathlib.Core.Path.{sym, ap, _∙_}
-use native.Mathlib.Omega.{arith}
+use Rattle.slices.specs.Same.{sameList}
+use Rattle.rfc3394.specs.Rfc3394.{initialValue, unwrappedKey}
+use Rattle.keywrap.specs.Calls.{keyLength}
+use Rattle.keywrap.proofs.Parts.{released}
 use borrow.Author.Needs.{needs}
 use Rattle.keywrap.proofs.unwrap_by.Statement.{statement}
 use Rattle.keywrap.proofs.unwrap_by.Tie as tie
@@ -33,24 +30,8 @@ enum-known-integrity c = search needs
 enum-told : tie.Need-enum-told
 enum-told c = search needs
 
-slice-relend-prefix-copy : tie.Need-slice-relend-prefix-copy
-slice-relend-prefix-copy c = search needs
-
-slice-aggregate-copy : tie.Need-slice-aggregate-copy
-slice-aggregate-copy c =
-    let u = c .before .before .before .before .before .before .before .before in
-    let s = u .before .before .before .before .before in
-    let e = u .unwrap-into .kept .1 .1 .0 in
-    let h : length (u .unwrap-into .last .1 .1 .0) ≤ length (now (s .args .out)) = omega (arith, s .pre .2, s .pre .3) in
-    sym (length-take-le _ _ h)
-
 copy-requires : tie.Need-copy-requires
-copy-requires c κs =
-    let u = c .before .before .before .before .before .before .before .before in
-    let s = u .before .before .before .before .before in
-    let e = u .unwrap-into .kept .1 .1 .0 in
-    let h : length (u .unwrap-into .last .1 .1 .0) ≤ length (now (s .args .out)) = omega (arith, s .pre .2, s .pre .3) in
-    length-take-le _ _ h
+copy-requires c κs = search needs
 
 same-length : tie.Need-same-length
 same-length c = search needs
@@ -61,8 +42,8 @@ returns c =
     let s = u .before .before .before .before .before .args in
     let e = sym (ap checkedAs (c .before .integrity .given .1)) ∙ c .before .before .before .unless .ensures
     ∙ ap (λ (b : Bool). unless b (bare 28)) (c .before .before .before .before .is-initial .ensures ∙ ap (λ (a : List ℕ). sameList a initialValue) (u .unwrap-into .ensures .0)) in (
-      ap (λ (x : Check). answerTo x (keyLength (now (s .bytes)))) e,
-      ap (λ (x : Check). bufferAfter x (keyLength (now (s .bytes))) (unwrappedKey (s .kek) (now (s .bytes))) (now (s .out))) e,
+      ap (λ (x : Check). answerTo x (keyLength (now (s .wrapped)))) e,
+      ap (λ (x : Check). bufferAfter x (keyLength (now (s .wrapped))) (unwrappedKey (s .kek) (now (s .wrapped))) (now (s .out))) e,
     )
 
 same-length-2 : tie.Need-same-length-2
@@ -78,8 +59,8 @@ returns-2 c =
     let e = sym (ap checkedAs (c .before .before .before .before .before .enum-told .given .1)) ∙ c .before .before .before .before .before .before .before .unless .ensures
     ∙ ap (λ (b : Bool). unless b (bare 28)) (c .before .before .before .before .before .before .before .before .is-initial .ensures ∙ ap (λ (a : List ℕ). sameList a initialValue) (u .unwrap-into .ensures .0)) in
     let n = u .unwrap-into .kept .1 .1 .0 ∙ s .pre .3 in (
-      ap wrote n ∙ ap (λ (x : Check). answerTo x (keyLength (now (s .args .bytes)))) e,
-      released _ _ _ _ _ (now (s .args .out)) _ (c .before .before .copy .ensures) (u .unwrap-into .ensures .1) n e,
+      ap wrote n ∙ ap (λ (x : Check). answerTo x (keyLength (now (s .args .wrapped)))) e,
+      released _ _ _ _ _ (now (s .args .out)) _ (c .before .before .copy .ensures .1) refl (u .unwrap-into .ensures .1 .0) n e,
     )
 
 pub unwrap-by-spec : {M : Type 1} → statement M
@@ -91,8 +72,6 @@ unwrap-by-spec =
     unless-requires
     enum-known-integrity
     enum-told
-    slice-relend-prefix-copy
-    slice-aggregate-copy
     copy-requires
     same-length
     returns

@@ -1,7 +1,7 @@
 -- `keywrap::unwrap_into` meets its contract.
 -- Assumes nothing.
-use Rattle.keywrap.proofs.Parts.{unwrapped-in-scratch}
 use denote.Ref.{now}
+use Rattle.keywrap.proofs.Parts.{copied-rest, unwrapped-in-scratch}
 use borrow.Author.Needs.{needs}
 use Rattle.keywrap.proofs.unwrap_into.Statement.{statement}
 use Rattle.keywrap.proofs.unwrap_into.Tie as tie
@@ -18,8 +18,8 @@ part-copy-end c = search needs
 copy-requires : tie.Need-copy-requires
 copy-requires c κs = search needs
 
-front-requires : tie.Need-front-requires
-front-requires c κs = search needs
+first-eight-requires : tie.Need-first-eight-requires
+first-eight-requires c κs = search needs
 
 passes-requires : tie.Need-passes-requires
 passes-requires c κs = search needs
@@ -29,9 +29,12 @@ same-length c = search needs
 
 returns : tie.Need-returns
 returns c =
-    let s = c .before .before .before .before .before .before .before .before .before .before .before .before .args in
-    unwrapped-in-scratch (s .kek) (now (s .bytes)) _ _ _ _ (c .before .before .before .before .before .before .before .copy .ensures) (c .before .before .before .before .front .ensures) (c .before .before .passes .ensures .0)
-    (c .before .before .passes .ensures .1)
+    let s = c .before .before .before .before .before .before .before .before .before .before .before .before in
+    let p = c .before .before .passes in
+    let d = unwrapped-in-scratch (s .args .kek) (now (s .args .wrapped)) _ _ _ _ (s .pre .0) (search needs)
+    (copied-rest (now (s .args .wrapped)) (now (s .args .scratch)) _ (s .pre .2) (c .before .before .before .before .before .before .before .copy .ensures .1)) (c .before .before .before .before .first-eight .ensures)
+    (p .ensures .0) (p .ensures .1 .0) in
+    (d .0, (d .1, p .ensures .1 .1))
 
 pub unwrap-into-spec : {M : Type 1} → statement M
 unwrap-into-spec =
@@ -41,7 +44,7 @@ unwrap-into-spec =
     part-copy-start
     part-copy-end
     copy-requires
-    front-requires
+    first-eight-requires
     passes-requires
     same-length
     returns)

@@ -1,6 +1,6 @@
 -- `keywrap::wrap` meets its contract.
 -- Assumes nothing.
-use Rattle.keywrap.specs.Rfc3394.{wrapped}
+use Rattle.rfc3394.specs.Rfc3394.{wrapped}
 use Rattle.keywrap.proofs.Parts.{wrap-bounds}
 use lib.ListN.{length}
 use Prim.Native.Nat.{_+_}

@@ -1,10 +1,10 @@
 -- `keywrap::wrap_into` meets its contract: the part from byte 8 on holds the key, then the wrapped blocks, and A comes before it.
 -- Assumes nothing.
-use Rattle.keywrap.proofs.Parts.{wrapped-in-place}
-use lib.ListN.{length}
-use denote.Ref.{now}
 use Prim.Native.Nat.{_+_, _-_}
 use native.Mathlib.Omega.{arith}
+use denote.Ref.{now}
+use lib.ListN.{length}
+use Rattle.keywrap.proofs.Parts.{wrapped-in-place}
 use borrow.Author.Needs.{needs}
 use Rattle.keywrap.proofs.wrap_into.Statement.{statement}
 use Rattle.keywrap.proofs.wrap_into.Tie as tie
@@ -36,17 +36,21 @@ part-passes-end c = search needs
 passes-requires : tie.Need-passes-requires
 passes-requires c κs = search needs
 
-put-front-requires : tie.Need-put-front-requires
-put-front-requires c κs = search needs
+slice-aggregate-copy : tie.Need-slice-aggregate-copy
+slice-aggregate-copy c = search needs
+
+copy-requires-2 : tie.Need-copy-requires-2
+copy-requires-2 c κs = search needs
 
 same-length : tie.Need-same-length
 same-length c = search needs
 
 returns : tie.Need-returns
 returns c =
-    let s = c .before .before .before .before .before .before .before .before .before .before .before .before .before .before .args in
-    wrapped-in-place (s .kek) (now (s .key)) (now (s .out)) (length (now (s .key)) + 8 - 8) _ (search needs) (omega arith)
-    (c .before .before .before .before .before .before .before .before .before .before .copy .ensures) _ _ _ (c .before .before .before .before .before .before .passes .ensures .0) (c .before .before .before .before .before .before .passes .ensures .1) (c .before .before .put-front .ensures)
+    let s = c .before .before .before .before .before .before .before .before .before .before .before .before .before .before .before .args in
+    let p = c .before .before .before .before .before .before .before .passes in
+    wrapped-in-place (s .kek) (now (s .key)) (now (s .out)) (length (now (s .key)) + 8 - 8) _ (search needs) (search needs) (omega arith)
+    (c .before .before .before .before .before .before .before .before .before .before .before .copy .ensures .1) _ _ _ (p .ensures .1 .1) (p .ensures .0) (p .ensures .1 .0) (c .before .before .copy2 .ensures .1)
 
 pub wrap-into-spec : {M : Type 1} → statement M
 wrap-into-spec =
@@ -61,6 +65,7 @@ wrap-into-spec =
     part-passes-start
     part-passes-end
     passes-requires
-    put-front-requires
+    slice-aggregate-copy
+    copy-requires-2
     same-length
     returns)

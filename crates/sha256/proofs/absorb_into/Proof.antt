@@ -8,7 +8,8 @@ use borrow.Author.Needs.{needs}
 use denote.Ref.{now}
 use lib.ListN.{length, length-take}
 use lib.Seq.{take-all, length-take-le}
-use Rattle.fips180.proofs.Absorbing.{part-law, over-law}
+use Rattle.fips180.proofs.Absorbing.{part-law, over-law, filled-length}
+use Rattle.slices.proofs.Lists.{rest-drop}
 use Rattle.sha256_block.specs.Fips180.{compress}
 use Rattle.sha256.specs.Internal.{parts}
 use Rattle.sha256.proofs.absorb_into.Statement.{statement}
@@ -47,45 +48,28 @@ returns c =
     let all : length xs ≤ m .least .result = omega arith in
     part-law compress (parts (now (a .h)) (now (a .block)) (a .count)) xs f (st .pre) (c .if1 .taken) (rw (take-all (m .least .result) xs all) at (c .before .put .ensures)) (w .wrapping-add-u64 .ensures)
 
-compress-blocks-requires : tie.Need-compress-blocks-requires
-compress-blocks-requires c κs = search needs
+sub-absorb-blocks : tie.Need-sub-absorb-blocks
+sub-absorb-blocks c = search needs
 
-sub-compress-blocks : tie.Need-sub-compress-blocks
-sub-compress-blocks c = search needs
+part-absorb-blocks-start : tie.Need-part-absorb-blocks-start
+part-absorb-blocks-start c = search needs
 
-part-compress-blocks-start : tie.Need-part-compress-blocks-start
-part-compress-blocks-start c = search needs
+part-absorb-blocks-end : tie.Need-part-absorb-blocks-end
+part-absorb-blocks-end c = search needs
 
-part-compress-blocks-end : tie.Need-part-compress-blocks-end
-part-compress-blocks-end c = search needs
-
-compress-blocks-requires-2 : tie.Need-compress-blocks-requires-2
-compress-blocks-requires-2 c κs = search needs
-
-sub-rest : tie.Need-sub-rest
-sub-rest c = search needs
-
-sub-rest-2 : tie.Need-sub-rest-2
-sub-rest-2 c = search needs
-
-sub-put : tie.Need-sub-put
-sub-put c = search needs
-
-part-put-start : tie.Need-part-put-start
-part-put-start c = search needs
-
-part-put-end : tie.Need-part-put-end
-part-put-end c = search needs
-
-put-requires-2 : tie.Need-put-requires-2
-put-requires-2 c κs = search needs
+absorb-blocks-requires : tie.Need-absorb-blocks-requires
+absorb-blocks-requires c κs =
+    let m = c .before .before .before .before .before .before .before in
+    let st = m .before .before .before in
+    let a = st .args in
+    let k = m .least .result in
+    let ek : a .count % 64 + k ≡ 64 = omega arith in
+    let hk : k ≤ length (now (a .s)) = omega arith in
+    filled-length compress (parts (now (a .h)) (now (a .block)) (a .count)) (now (a .s)) k (st .pre) ek hk (c .before .before .before .before .put .ensures)
 
 returns-2 : tie.Need-returns-2
 returns-2 c =
-    let b2 = c .before .before .before .before in
-    let b1 = b2 .before .before in
-    let e = b1 .before .before .before .before in
-    let m = e .before .before .before .before in
+    let m = c .before .before .before .before .before .before .before .before in
     let w = m .before in
     let st = w .before .before in
     let a = st .args in
@@ -94,7 +78,7 @@ returns-2 c =
     let ek : a .count % 64 + k ≡ 64 = omega arith in
     let hk : k ≤ length (now (a .s)) = omega arith in
     over-law compress (parts (now (a .h)) (now (a .block)) (a .count)) (now (a .s)) k f (st .pre) ek hk
-    (e .before .put .ensures) (b1 .compress-blocks .ensures) (b2 .compress-blocks2 .ensures) (c .put2 .ensures) (w .wrapping-add-u64 .ensures)
+    (c .before .before .before .before .before .put .ensures) (rest-drop k (now (a .s))) (c .absorb-blocks .ensures .0) (c .absorb-blocks .ensures .1) (w .wrapping-add-u64 .ensures)
 
 pub absorb-into-spec : {M : Type 1} → statement M
 absorb-into-spec =
@@ -107,15 +91,8 @@ absorb-into-spec =
     put-requires
     sub-if1
     returns
-    compress-blocks-requires
-    sub-compress-blocks
-    part-compress-blocks-start
-    part-compress-blocks-end
-    compress-blocks-requires-2
-    sub-rest
-    sub-rest-2
-    sub-put
-    part-put-start
-    part-put-end
-    put-requires-2
+    sub-absorb-blocks
+    part-absorb-blocks-start
+    part-absorb-blocks-end
+    absorb-blocks-requires
     returns-2)

@@ -7,7 +7,7 @@ use denote.Ref.{now}
 use lib.ListN.{length, length-take, length-drop}
 use Rattle.fips180.specs.Hash.{blocksBy}
 use Rattle.fips180.proofs.Blocks.{blocks-turn}
-use Rattle.sha256_block.specs.Fips180.{blocks, compress}
+use Rattle.fips180.specs.Sha256.{blocks, compress}
 use Rattle.sha256_block.proofs.compress_blocks.Statement.{statement}
 use Rattle.sha256_block.proofs.compress_blocks.Tie as tie
 

@@ -1,7 +1,7 @@
 -- `sha256_block::sum` meets its contract: word by word, from `add`'s answers.
 -- Assumes nothing.
 use mathlib.Core.List.{[], _∷_}
-use Rattle.sha256_block.specs.Fips180.{sums}
+use Rattle.fips180.specs.Sha256.{sums}
 use borrow.Author.Needs.{needs}
 use Rattle.sha256_block.proofs.sum.Statement.{statement}
 use Rattle.sha256_block.proofs.sum.Tie as tie

@@ -1,6 +1,6 @@
 -- `sha256_round::next_word` meets its contract: the sum of four, from its callees' answers.
 -- Assumes nothing.
-use Rattle.sha256_round.specs.Functions.{nextW}
+use Rattle.fips180.specs.Sha256.{nextW}
 use borrow.Author.Needs.{needs}
 use Rattle.sha256_round.proofs.next_word.Statement.{statement}
 use Rattle.sha256_round.proofs.next_word.Tie as tie

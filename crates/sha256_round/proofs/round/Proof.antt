@@ -1,6 +1,6 @@
 -- `sha256_round::round` meets its contract: the eight variables, from its callees' answers.
 -- Assumes nothing.
-use Rattle.sha256_round.specs.Functions.{round}
+use Rattle.fips180.specs.Sha256.{round}
 use borrow.Author.Needs.{needs}
 use Rattle.sha256_round.proofs.round.Statement.{statement}
 use Rattle.sha256_round.proofs.round.Tie as tie

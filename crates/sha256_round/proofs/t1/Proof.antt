@@ -1,6 +1,6 @@
 -- `sha256_round::t1` meets its contract: the sum of five, from its callees' answers.
 -- Assumes nothing.
-use Rattle.sha256_round.specs.Functions.{T1}
+use Rattle.fips180.specs.Sha256.{T1}
 use borrow.Author.Needs.{needs}
 use Rattle.sha256_round.proofs.t1.Statement.{statement}
 use Rattle.sha256_round.proofs.t1.Tie as tie

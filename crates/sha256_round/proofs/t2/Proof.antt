@@ -1,6 +1,6 @@
 -- `sha256_round::t2` meets its contract: the sum of two, from its callees' answers.
 -- Assumes nothing.
-use Rattle.sha256_round.specs.Functions.{T2}
+use Rattle.fips180.specs.Sha256.{T2}
 use borrow.Author.Needs.{needs}
 use Rattle.sha256_round.proofs.t2.Statement.{statement}
 use Rattle.sha256_round.proofs.t2.Tie as tie

@@ -2,7 +2,7 @@
 -- Assumes nothing.
 use native.Mathlib.Omega.{arith}
 use Rattle.tables.proofs.Table.{beyond-end}
-use Rattle.sha256_round.specs.Functions.{K}
+use Rattle.fips180.specs.Sha256.{K}
 use Rattle.sha256_round.proofs.constants.beyond.Statement.{statement}
 use Rattle.sha256_round.proofs.constants.beyond.Tie as tie
 

@@ -1,0 +1,29 @@
+-- `key_frame::sixteen` meets its contract: as many bytes as there are, up to sixteen, are copied over zeros.
+-- Assumes nothing.
+use denote.Ref.{now}
+use Rattle.key_frame.proofs.ByValue.{taken-count, taken-fits, sixteen-copied}
+use borrow.Author.Needs.{needs}
+use Rattle.key_frame.proofs.sixteen.Statement.{statement}
+use Rattle.key_frame.proofs.sixteen.Tie as tie
+
+least-requires : tie.Need-least-requires
+least-requires c κs = search needs
+
+slice-aggregate-copy : tie.Need-slice-aggregate-copy
+slice-aggregate-copy c = taken-count (now (c .before .before .before .args .s)) _ (c .before .least .ensures)
+
+slice-aggregate-copy-2 : tie.Need-slice-aggregate-copy-2
+slice-aggregate-copy-2 c = search needs
+
+copy-requires : tie.Need-copy-requires
+copy-requires c κs = taken-fits (now (c .before .before .before .before .args .s)) _ (c .before .before .least .ensures)
+
+returns : tie.Need-returns
+returns c =
+    let l = c .before .before .before .before in
+    sixteen-copied (now (l .before .before .args .s)) _ (l .least .ensures) (c .before .copy .ensures .1)
+
+pub sixteen-spec : {M : Type 1} → statement M
+sixteen-spec =
+    tie.close
+    (tie.spec least-requires slice-aggregate-copy slice-aggregate-copy-2 copy-requires returns)

@@ -1,0 +1,79 @@
+-- `key_reader::fields` meets its contract: field by field, from what each call answers.
+-- Assumes nothing.
+use denote.Ref.{now}
+use Prim.Native.Nat.{_+_, _≤_}
+use native.Mathlib.Omega.{arith}
+use lib.ListN.{length, getD}
+use Rattle.key_frame.specs.KeyFrame.{fieldsIn}
+use Rattle.key_reader.proofs.Reading.{id-at}
+use borrow.Author.Needs.{needs}
+use Rattle.key_reader.proofs.fields.Statement.{statement}
+use Rattle.key_reader.proofs.fields.Tie as tie
+
+sub-sixteen : tie.Need-sub-sixteen
+sub-sixteen c = search needs
+
+part-sixteen-start : tie.Need-part-sixteen-start
+part-sixteen-start c = search needs
+
+part-sixteen-end : tie.Need-part-sixteen-end
+part-sixteen-end c = search needs
+
+sixteen-requires : tie.Need-sixteen-requires
+sixteen-requires c κs = search needs
+
+sub-sixteen-2 : tie.Need-sub-sixteen-2
+sub-sixteen-2 c = search needs
+
+part-sixteen-start-2 : tie.Need-part-sixteen-start-2
+part-sixteen-start-2 c = search needs
+
+part-sixteen-end-2 : tie.Need-part-sixteen-end-2
+part-sixteen-end-2 c = search needs
+
+sixteen-requires-2 : tie.Need-sixteen-requires-2
+sixteen-requires-2 c κs = search needs
+
+shared-slice-read-t12 : tie.Need-shared-slice-read-t12
+shared-slice-read-t12 c = search needs
+
+number-at-requires : tie.Need-number-at-requires
+number-at-requires c κs = search needs
+
+number-at-requires-2 : tie.Need-number-at-requires-2
+number-at-requires-2 c κs = search needs
+
+returns : tie.Need-returns
+unfolding fieldsIn
+returns c =
+    let app = c .before in
+    let key = app .before .before in
+    let kek = key .before .before in
+    let a = now (kek .before .before .before .args .attribute) in
+    let long₁ : 8 + 16 ≤ length a = omega arith in
+    let long₂ : 24 + 16 ≤ length a = omega arith in
+    λ i.
+    record {
+      «attribute_type» = getD a 0 0;
+      «app_id» = app .number-at .ensures i;
+      «kek_id» = id-at a 8 long₁ (kek .sixteen .ensures) i;
+      «key_id» = id-at a 24 long₂ (key .sixteen2 .ensures) i;
+      lifetime = c .number-at2 .ensures i;
+    }
+
+pub fields-spec : {M : Type 1} → statement M
+fields-spec =
+    tie.close
+    (tie.spec
+    sub-sixteen
+    part-sixteen-start
+    part-sixteen-end
+    sixteen-requires
+    sub-sixteen-2
+    part-sixteen-start-2
+    part-sixteen-end-2
+    sixteen-requires-2
+    shared-slice-read-t12
+    number-at-requires
+    number-at-requires-2
+    returns)

@@ -1,0 +1,3 @@
+mod Parts
+pub mod Writing
+pub mod Cases

@@ -1,0 +1,3 @@
+pub mod Bytes
+pub mod Rfc3394
+pub mod Statements

@@ -1,0 +1,44 @@
+/* Wipes secrets from memory, beside ketvaulo.h.
+ *
+ * This is C and not proved. It is tested, on x86-64 and on the cores of controllers: after a call and kv_wipe_stack, no eight
+ * bytes of any input or output of the call stand on the stack below the caller (tests/stack.sh). Without it they do: after
+ * kv_usage_key the whole EMSK, after kv_read_key_attribute most of the key. Registers are not wiped, nor what an interrupt saved. */
+#ifndef KETVAULO_WIPE_H
+#define KETVAULO_WIPE_H
+
+#include <stddef.h>
+#include <stdint.h>
+
+#if defined(__GNUC__)
+#define KV_NOT_INLINED static __attribute__((noinline, unused))
+#elif defined(__ICCARM__) || defined(__ICCRISCV__)
+#define KV_NOT_INLINED _Pragma("inline=never") static
+#else
+#error "ketvaulo_wipe.h: say here how this compiler is told not to inline a function"
+#endif
+
+/* At least the stack that any call of the library takes on any core; tests/stack.sh holds it against the measured figures. A
+ * project may define it as less, by the figures of its own core and calls in docs/CONTROLLER.md. */
+#ifndef KV_STACK_BYTES
+#define KV_STACK_BYTES 1536
+#endif
+
+/* Zeroes the stack that a call may have used. To be called right after it, by the function that made it, on the same stack:
+ * there have to be KV_STACK_BYTES and some 32 more. */
+KV_NOT_INLINED void kv_wipe_stack(void)
+{
+    uint32_t room[KV_STACK_BYTES / 4];
+    volatile uint32_t *words = room;
+    for (size_t i = 0; i < KV_STACK_BYTES / 4; i++)
+        words[i] = 0;
+}
+
+/* Zeroes a secret that is no longer wanted. The compiler may not leave this out. */
+KV_NOT_INLINED void kv_wipe(void *secret, size_t len)
+{
+    volatile uint8_t *bytes = (volatile uint8_t *)secret;
+    for (size_t i = 0; i < len; i++)
+        bytes[i] = 0;
+}
+
+#endif
