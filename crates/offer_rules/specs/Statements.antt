@@ -63,8 +63,8 @@ OffersKept =
     → renewedAnswer seen choice (take count (serverBuffer offers reply buffer)) ≡ accepted held
     → (seen ≡ offers) × (reply ≡ choice) × (held ≡ reply) × FirstOffer offers supported held
 
--- Document 02, request 14. With nothing altered on the way, the server accepts what the peer asked for, and the peer what the server wrote. An Ask comes
--- of at most 16 offers, so a buffer of 17 values has room.
+-- Document 02, request 14. With nothing altered on the way, the server accepts what the peer asked for, and the peer what the server wrote. The
+-- peer asks only on a list of at most 16 offers, so a buffer of 17 values has room.
 abbrev pub OffersAgreed : Type 0
 OffersAgreed =
     (offers supported buffer : List ℕ) (choice position : ℕ)
