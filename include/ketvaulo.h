@@ -22,6 +22,14 @@
  *   4. The peer reads that list (kv_read_area) and checks that it is the one that its own choice asks for
  *      (kv_check_renewed). This is RFC 5448's protection against bidding down.
  *
+ * What a login may rely on. If the peer asked in step 2 and accepts in step 4, and the renewed list came from the server
+ * whole, then the peer had seen the server's own list, its own reply had arrived, and both sides hold the first offer of the
+ * server's list that the peer supports. So nobody on the way took an offer out, put one in, moved one, or swapped the reply.
+ * If nothing was altered, the peer does accept. This is proved for every list and reply. Three things are the caller's: to
+ * lend to kv_check_renewed the list and the choice of step 2, to check the MAC of the message that carries the renewed list
+ * (AT_MAC), and to end the login on a refusal. A login that ended in step 2 with the first offer is not covered: there only
+ * the MAC of the message protects the list. docs/NEGOTIATION.md has an example.
+ *
  * Key attributes. A key travels to a neighbour wrapped in a RADIUS Key attribute: the sender calls kv_write_key_attribute,
  * the receiver calls kv_read_key_attribute, and both hold the same KEK.
  *

@@ -66,6 +66,8 @@ fn main() -> ExitCode {
         ["kv_choose_offer"] "kv_choose_offer" => cases::offers::choose;
         ["kv_answer_offer"] "kv_answer_offer" => cases::offers::answer;
         ["kv_check_renewed"] "kv_check_renewed" => cases::offers::recheck;
+        ["kv_choose_offer", "kv_answer_offer", "kv_check_renewed"] "logins whose list or reply may be altered"
+            => cases::offers::logins;
         ["kv_read_area"] "kv_read_area" => cases::area::run;
         ["kv_write_key_attribute"] "kv_write_key_attribute" => cases::key_attribute::write;
         ["kv_read_key_attribute"] "kv_read_key_attribute" => cases::key_attribute::read;

@@ -1,5 +1,5 @@
 // Plays negotiations of the key derivation function between a peer and a server and prints each step: the checked cases P6 to P13 of
-// document 01, longer lists, and a list that was altered on the way.
+// document 01, longer lists, and negotiations in which a list or a reply was altered on the way (document 02, request 14).
 use libc::STDOUT_FILENO;
 use offer_peer::FirstRound;
 use offer_peer::Renewed;
@@ -83,26 +83,48 @@ fn play_sent(original: &[u16], choice: u16, sent: &[u16]) {
     say_renewed(offer_peer::recheck(original, choice, sent));
 }
 
-// The server's step on a reply, and then the peer's.
-fn play_reply(offered: &[u16], reply: u16) {
+// The server's step on the reply that arrives, and then the step of a peer that saw a list and asked for a choice.
+fn play_reply(offered: &[u16], reply: u16, seen: &[u16], choice: u16) {
     let mut renewed = [0u16; 17];
     match offer_server::answer(offered, reply, &mut renewed) {
         Written::Refused(why) => {
             say(b"  server");
             say_refused(why);
         }
-        Written::Wrote(count) => play_sent(offered, reply, &renewed[..count]),
+        Written::Wrote(count) => play_sent(seen, choice, &renewed[..count]),
     }
+}
+
+// The peer's first round on the list that it sees.
+fn play_first(seen: &[u16], supported: &[u16]) -> FirstRound {
+    let first = offer_peer::choose(seen, supported);
+    say_first(first);
+    first
 }
 
 // The steps of a negotiation: where the first round ends in an Ask, the server's step and the peer's on the renewed list follow.
 fn play_steps(offered: &[u16], supported: &[u16]) {
-    let first = offer_peer::choose(offered, supported);
-    say_first(first);
-    let FirstRound::Ask(value, _) = first else {
+    let FirstRound::Ask(value, _) = play_first(offered, supported) else {
         return;
     };
-    play_reply(offered, value);
+    play_reply(offered, value, offered, value);
+}
+
+// A negotiation in which the peer sees a list that may not be the server's, and the server gets a reply that may not be the peer's.
+fn play_altered(offered: &[u16], seen: &[u16], supported: &[u16], reply: u16) {
+    say(b"offers");
+    say_list(offered);
+    say(b"; peer sees");
+    say_list(seen);
+    say(b"; supported");
+    say_list(supported);
+    say(b"; server gets");
+    say_value(reply);
+    say(b"\n");
+    let FirstRound::Ask(choice, _) = play_first(seen, supported) else {
+        return;
+    };
+    play_reply(offered, reply, seen, choice);
 }
 
 // Prints the value that both sides hold after a negotiation.
@@ -135,7 +157,7 @@ fn play_other_reply(offered: &[u16], reply: u16) {
     say(b"; reply");
     say_value(reply);
     say(b"\n");
-    play_reply(offered, reply);
+    play_reply(offered, reply, offered, reply);
 }
 
 // A renewed list that is not the server's own.
@@ -148,6 +170,14 @@ fn play_other_list(original: &[u16], choice: u16, renewed: &[u16]) {
     say_list(renewed);
     say(b"\n");
     say_renewed(offer_peer::recheck(original, choice, renewed));
+}
+
+// A negotiation with nothing altered, and then the same with the list thinned, with it reordered, and with the reply swapped.
+fn play_request_14() {
+    play(&[3, 2, 1], &[1, 2]);
+    play_altered(&[3, 2, 1], &[3, 1], &[1, 2], 1);
+    play_altered(&[3, 2, 1], &[3, 1, 2], &[1, 2], 1);
+    play_altered(&[3, 2, 1], &[3, 2, 1], &[1, 2], 1);
 }
 
 fn main() {
@@ -174,4 +204,5 @@ fn main() {
     // the choice is the first offer; the peer saw another list than the server's
     play_other_list(&[2, 1], 2, &[2, 2, 1]);
     play_other_list(&[3, 1], 1, &[1, 2, 1]);
+    play_request_14();
 }

@@ -1,2 +1,5 @@
-pub mod Rounds
+pub mod Positions
+pub mod Accepted
+pub mod OffersKept
 pub mod Statements
+pub mod Rounds

@@ -7,10 +7,11 @@ use native.Mathlib.Omega.{arith}
 use borrow.Author.Tests.{leb-true}
 use lib.ListN.{length, getD}
 use Rattle.refusal.specs.Checks.{Reason, Check, pass, refuse, _andThen_}
-use Rattle.refusal.specs.Answers.{wrote, answerTo}
+use Rattle.refusal.specs.Answers.{wrote}
 use Rattle.refusal.proofs.Passing.{first-refuses, last-passed, test-passed}
 use Rattle.offer_rules.specs.Rfc5448.{firstSupported, check10, check11, check12, chooseCheck, answerCheck}
 use Rattle.offer_rules.specs.Answers.{FirstAnswer, carryOn, ask, firstRoundAt, firstRoundTo, firstRound, serverAnswer}
+use Rattle.offer_rules.proofs.Accepted.{answer-passed}
 
 pub at-first : (offers : List ℕ) (i : ℕ) → i ≡ 0 → carryOn (getD offers i 0) ≡ firstRoundAt offers i
 at-first offers i e = rw e
@@ -32,10 +33,6 @@ module _ (offers supported : List ℕ) where
   pub list-passed : (check10 offers andThen check11 offers) ≡ pass → firstRoundTo (check12 offers supported) offers (firstSupported offers supported) ≡ firstRound offers supported
   unfolding firstRound chooseCheck
   list-passed e = rw (← second-decides _ (check12 offers supported) e)
-
-answer-passed : (c : Check) (n : ℕ) {m : ℕ} → answerTo c n ≡ wrote m → (c ≡ pass) × (m ≡ n)
-answer-passed pass n e = (refl, cc)
-answer-passed (refuse x) n e = (cc, cc)
 
 -- the server writes no more than fits
 pub wrote-fits : (offers buffer : List ℕ) (value count : ℕ) → serverAnswer offers value buffer ≡ wrote count → count ≤ length buffer

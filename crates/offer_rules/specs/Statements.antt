@@ -1,15 +1,15 @@
--- What is proved of the definitions: that they say what RFC 5448 section 3.2 and document 01, "Offers", say in words, and what an accepted renewed list
--- tells. The proofs are in proofs/Statements.antt.
+-- What is proved of the definitions: that they say what RFC 5448 section 3.2 and document 01, "Offers", say in words, and what a login may rely on
+-- (document 02, request 14: OffersKept, OffersAgreed). The proofs are in proofs/OffersKept.antt and proofs/Statements.antt.
 -- Assumes nothing.
 use Prim.Native.Nat.{ℕ, _+_, _≤_, _<_}
 use mathlib.Core.Path.{_≡_}
 use mathlib.Core.Bool.{true, false}
 use mathlib.Core.Logic.{_↔_}
-use mathlib.Core.List.{List, _∷_, _++_}
-use lib.ListN.{length, getD, drop}
+use mathlib.Core.List.{List, _∷_}
+use lib.ListN.{length, getD, take}
 use Rattle.refusal.specs.Checks.{pass, _andThen_}
 use Rattle.refusal.specs.Answers.{wrote}
-use Rattle.offer_rules.specs.Rfc5448.{stands, repeats, firstSupported, renewedList, check13, check14}
+use Rattle.offer_rules.specs.Rfc5448.{stands, repeats, firstSupported, check13, check14}
 use Rattle.offer_rules.specs.Answers.{ask, firstRound, serverAnswer, serverBuffer, accepted, renewedAnswer}
 use Rattle.offer_rules.specs.Negotiation.{negotiated}
 
@@ -35,20 +35,41 @@ ReplyAfterFirst =
     → repeats (first ∷ others) ≡ false
     → ((check13 (first ∷ others) reply andThen check14 (first ∷ others) reply) ≡ pass) ↔ (stands reply others ≡ true)
 
--- with nothing altered on the way, a server with room answers the peer's Ask, and the peer accepts what the server wrote
+-- a negotiation in which each gets what the other sent, and the server's buffer has room for the list and the reply, ends with what the peer asked for
 abbrev pub UnalteredAccepted : Type 0
 UnalteredAccepted =
     (offers supported : List ℕ) (value position : ℕ) (buffer : List ℕ)
     → firstRound offers supported ≡ ask value position
     → length offers + 1 ≤ length buffer
-    → (serverAnswer offers value buffer ≡ wrote (length offers + 1))
-    × (serverBuffer offers value buffer ≡ renewedList offers value ++ drop (length offers + 1) buffer)
-    × (renewedAnswer offers value (renewedList offers value) ≡ accepted value)
-    × (negotiated offers supported buffer ≡ accepted value)
+    → negotiated offers supported buffer ≡ accepted value
 
--- the peer accepts a server's renewed list only if it had seen that server's own list and its own choice arrived
-abbrev pub RenewedDetermines : Type 0
-RenewedDetermines =
-    (seen offers : List ℕ) (choice reply value : ℕ)
-    → renewedAnswer seen choice (renewedList offers reply) ≡ accepted value
-    → (seen ≡ offers) × (choice ≡ reply) × (value ≡ choice)
+-- the value is the first of the offers that the peer supports
+abbrev pub FirstOffer : List ℕ → List ℕ → ℕ → Type 0
+FirstOffer offers supported value =
+    (position : ℕ)
+    × (position < length offers)
+    × (value ≡ getD offers position 0)
+    × (stands value supported ≡ true)
+    × ((j : ℕ) → j < position → stands (getD offers j 0) supported ≡ false)
+
+-- Document 02, request 14. The peer saw some list, perhaps not the server's, and asked for a choice; the server accepted some reply, perhaps not the
+-- peer's, and what it wrote came through whole. If the peer then accepts, it had seen the server's own list, its own reply arrived, and both hold the
+-- first offer of the server's list that the peer supports.
+abbrev pub OffersKept : Type 0
+OffersKept =
+    (seen offers supported buffer : List ℕ) (choice position reply count held : ℕ)
+    → firstRound seen supported ≡ ask choice position
+    → serverAnswer offers reply buffer ≡ wrote count
+    → renewedAnswer seen choice (take count (serverBuffer offers reply buffer)) ≡ accepted held
+    → (seen ≡ offers) × (reply ≡ choice) × (held ≡ reply) × FirstOffer offers supported held
+
+-- Document 02, request 14. With nothing altered on the way, the server accepts what the peer asked for, and the peer what the server wrote. The
+-- peer asks only on a list of at most 16 offers, so a buffer of 17 values has room.
+abbrev pub OffersAgreed : Type 0
+OffersAgreed =
+    (offers supported buffer : List ℕ) (choice position : ℕ)
+    → firstRound offers supported ≡ ask choice position
+    → 17 ≤ length buffer
+    → (count : ℕ)
+    × (serverAnswer offers choice buffer ≡ wrote count)
+    × (renewedAnswer offers choice (take count (serverBuffer offers choice buffer)) ≡ accepted choice)

@@ -1,9 +1,10 @@
-//! Offers: all short lists over a few values, lists around the bounds, random longer ones, the refusals.
+//! Offers: all short lists over a few values, lists around the bounds, random longer ones, the refusals; logins whose list or
+//! reply is altered on the way.
 
 use crate::call::{values_or_refusal, Call, Expected, Group, Ordered};
 use crate::ffi::{self, FirstRound, Outcome};
-use crate::guard::Lender;
-use crate::model::offers::{renewed, Answer, Choose, Recheck, Reply};
+use crate::guard::{machine_bytes, Lender};
+use crate::model::offers::{renewed, Answer, Choose, Login, Recheck, Reply};
 use crate::model::Order;
 use crate::pairs::{every_pair, mixed, Apart, Fault};
 use crate::rng::Rng;
@@ -81,6 +82,37 @@ impl Call for Recheck {
 impl Ordered for Recheck {
     fn order(&self) -> Order {
         self.tests()
+    }
+}
+
+/// A server's buffer that holds every renewed list.
+const ROOM: usize = 17;
+
+/// The three calls of a login that asks, each on what the one before answered.
+impl Call for Login {
+    /// what the peer holds at the end
+    type Answer = Option<u64>;
+
+    fn expected(&self) -> Expected<Option<u64>> {
+        let server = Reply { offers: self.offers.clone(), reply: self.reply, room: ROOM };
+        let written = machine_bytes(&server.list().unwrap_or_default());
+        Expected { answer: self.held().map(u64::from), written }
+    }
+
+    fn run(&self, lender: &mut Lender) -> Option<u64> {
+        let offers = lender.values("offers", &self.offers);
+        let seen = lender.values("seen", &self.seen);
+        let supported = lender.values("supported", &self.supported);
+        let out = lender.room_for_values(ROOM);
+        // SAFETY: all of it is lent.
+        let first = unsafe { ffi::kv_choose_offer(seen.pointer, seen.len, supported.pointer, supported.len) };
+        let choice = u16::try_from(first.value).ok().filter(|_| first.refusal == 0 && first.ask == 1)?;
+        // SAFETY: all of it is lent.
+        let sent = unsafe { ffi::kv_answer_offer(offers.pointer, offers.len, self.reply, out.pointer, out.len) };
+        let count = usize::try_from(sent.value).ok().filter(|&count| sent.refusal == 0 && count <= ROOM)?;
+        // SAFETY: all of it is lent, and the count is within the buffer.
+        let end = unsafe { ffi::kv_check_renewed(seen.pointer, seen.len, choice, out.pointer, count) };
+        (end.refusal == 0).then_some(end.value)
     }
 }
 
@@ -236,6 +268,82 @@ pub fn recheck(group: &mut Group) {
         group.compare(&call);
         mixed(group, &call, RECHECK_FAULTS);
     }
+}
+
+/// Request 14: lists thinned, reordered and lengthened, and replies swapped, are never accepted; unaltered logins are.
+pub fn logins(group: &mut Group) {
+    short_logins(group);
+    unaltered_logins(group);
+    for _ in 0..50_000 {
+        random_login(group);
+    }
+}
+
+/// Each pair of short lists without repeats, one for the server and one that the peer sees, with each set of supported values
+/// and each reply.
+fn short_logins(group: &mut Group) {
+    let short: Vec<Vec<u16>> = lists(4).into_iter().filter(|list| has_no_repeat(list)).collect();
+    for (offers, seen) in short.iter().flat_map(|offers| short.iter().map(move |seen| (offers, seen))) {
+        for set in 1..1 << VALUES.len() {
+            let supported = (0..VALUES.len()).filter(|at| set >> at & 1 == 1).map(|at| VALUES[at]).collect();
+            let login = Login { offers: offers.clone(), seen: seen.clone(), supported, reply: 0 };
+            if login.asked().is_some() {
+                for reply in VALUES {
+                    group.compare(&Login { reply, ..login.clone() });
+                }
+            }
+        }
+    }
+}
+
+/// Each count of offers with which a peer can ask, and each position that it can ask for.
+fn unaltered_logins(group: &mut Group) {
+    for count in 2..=16 {
+        for position in 1..count {
+            let offers = distinct(&mut group.rng, count);
+            let (seen, reply) = (offers.clone(), offers[position]);
+            let supported = [&[9], &offers[position..]].concat();
+            let login = Login { offers, seen, supported, reply };
+            group.check(login.held() == Some(reply), || format!("{login:?} is not accepted by the model"));
+            group.compare(&login);
+        }
+    }
+}
+
+/// A list of up to 16 offers, none or more of them altered on the way to the peer, and the peer's reply or another offer.
+fn random_login(group: &mut Group) {
+    let rng = &mut group.rng;
+    let count = rng.between(2, 16);
+    let offers = distinct(rng, count);
+    let mut seen = offers.clone();
+    for _ in 0..rng.below(4) {
+        alter(rng, &mut seen);
+    }
+    // not the first offer, so that the peer mostly asks
+    let supported = offers[1..].iter().copied().filter(|_| rng.once_in(3)).collect();
+    let login = Login { offers, seen, supported, reply: 0 };
+    let Some(asked) = login.asked() else { return };
+    let reply = if rng.once_in(2) { asked } else { rng.pick(&login.offers) };
+    group.compare(&Login { reply, ..login });
+}
+
+/// Takes a value out, puts two in each other's place, puts a new one in, or changes one.
+fn alter(rng: &mut Rng, list: &mut Vec<u16>) {
+    if list.is_empty() {
+        return;
+    }
+    let (at, other) = (rng.below(list.len()), rng.below(list.len()));
+    let value = rng.between(10, 65_535) as u16;
+    match rng.below(4) {
+        0 => drop(list.remove(at)),
+        1 => list.swap(at, other),
+        2 => list.insert(at, value),
+        _ => list[at] = value,
+    }
+}
+
+fn has_no_repeat(list: &[u16]) -> bool {
+    (1..list.len()).all(|at| !list[..at].contains(&list[at]))
 }
 
 /// The right renewed list, and it with a value changed at each place, cut short and made longer.

@@ -1,4 +1,4 @@
-//! Offers, RFC 5448 section 3.2 as document 01 reads it.
+//! Offers, RFC 5448 section 3.2 as document 01 reads it; a login over them, as request 14 of document 02 has it.
 
 use super::{accepted_by, Order, Refusal};
 
@@ -74,6 +74,34 @@ impl Recheck {
     pub fn choice(&self) -> Result<u16, Refusal> {
         accepted_by(&self.tests())?;
         Ok(self.choice)
+    }
+}
+
+/// Document 02, request 14: a login in which the peer sees a list that may not be the server's own, and the server gets a reply
+/// that may not be the peer's own. What the server writes reaches the peer whole.
+#[derive(Clone, Debug)]
+pub struct Login {
+    pub offers: Vec<u16>,
+    pub seen: Vec<u16>,
+    pub supported: Vec<u16>,
+    pub reply: u16,
+}
+
+impl Login {
+    /// What the peer asks for; nothing where its first round ends in Carry On or a refusal, which request 14 does not cover.
+    pub fn asked(&self) -> Option<u16> {
+        let first = Choose { offers: self.seen.clone(), supported: self.supported.clone() };
+        match first.answer() {
+            Ok(Answer::Ask { value, .. }) => Some(value),
+            _ => None,
+        }
+    }
+
+    /// What both hold after an Ask: the first offer of the server's list that the peer supports, and that only if the peer saw
+    /// the server's own list and its own reply arrived.
+    pub fn held(&self) -> Option<u16> {
+        let unaltered = self.seen == self.offers && self.asked() == Some(self.reply);
+        self.offers.iter().copied().find(|offer| unaltered && self.supported.contains(offer))
     }
 }
 
