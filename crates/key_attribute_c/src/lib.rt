@@ -9,8 +9,8 @@ ghost use Rattle.key_reader.specs.KeyReader.{reading, readBuffer};
 ghost use Rattle.outcome.specs.Outcomes.{outcomeOf};
 ghost use Rattle.key_attribute_c.specs.Outcomes.{keyTold, keyOutcome};
 ghost use Rattle.key_attribute_c.specs.Internal.{lengthIn, keyReturned};
-use key_reader::KeyRead;
 use key_frame::KeyFields;
+use key_reader::KeyRead;
 use outcome::Outcome;
 use refusal::Written;
 
