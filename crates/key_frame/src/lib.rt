@@ -1,4 +1,5 @@
-// The frame of the RADIUS Key attribute (source document 004, section 3.1): its fields, and the tests of an attribute that need no KEK.
+// The frame of the RADIUS Key attribute (source document 004, section 3.1): its fields, the tests of an attribute that need no KEK, and sixteen bytes by value,
+// as IDs and KEKs are.
 ghost use mathlib.Core.Path.{_≡_};
 ghost use Prim.Native.Nat.{_≤_};
 ghost use lib.ListN.{length, getD};

@@ -16,7 +16,7 @@ use refusal::unless;
 use slices::be32;
 use slices::least;
 
-// The bytes, to out from index `at` on.
+// Copies bytes to out, from index `at` on.
 fn put_at(bytes: &[u8], at: usize, out: &mut [u8])
     requires { ⌜ at + length (now bytes) ≤ length (now out) ⌝ }
     ensures { λ _. ⌜ now (out .exit) ≡ take at (now (out .entry)) ++ (now (bytes .entry) ++ drop (at + length (now (bytes .entry))) (now (out .entry))) ⌝ }
@@ -24,7 +24,7 @@ fn put_at(bytes: &[u8], at: usize, out: &mut [u8])
     bytes::copy(bytes, &mut out[at..]);
 }
 
-// The bytes before the wrapped key: bytes 0 to 51 of an attribute that is `length_byte` bytes long.
+// Writes bytes 0 to 51 of an attribute that is `length_byte` bytes long: all that stands before the wrapped key.
 fn put_header(
     attribute_type: u8,
     length_byte: u8,
