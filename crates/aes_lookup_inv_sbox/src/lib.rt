@@ -12,7 +12,7 @@ fn beyond(x: u32) -> u8
     requires { ⌜ NoneBelow 256 x ⌝ }
     ensures { λ r. ⌜ r ≡ getD invSbox x 0 ⌝ }
 {
-    0
+    0u8
 }
 
 // The entry at x, or 0 where x is no byte.
