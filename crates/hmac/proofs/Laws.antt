@@ -12,6 +12,11 @@ use Rattle.hmac.specs.Keyed.{keyValue, hashAfter, macByValues}
 use Rattle.hmac.specs.Statements.{KeptValuesGiveMac}
 use Rattle.hmac.proofs.Blocks.{masked-length, keyBlock-length}
 
+-- the hash value that the code computes from a key's block
+pub key-value : (key : List ℕ) (pad : ℕ) {block v : List ℕ} → block ≡ keyBlock sha256 key → v ≡ compress H0 (masked block pad) → v ≡ keyValue key pad
+unfolding keyValue
+key-value key pad eb ev = ev ∙ ap (λ (b : List ℕ). compress H0 (masked b pad)) eb
+
 -- the hash after a key's masked block
 after-pad : (key message : List ℕ) (pad : ℕ) → hashAfter (keyValue key pad) message ≡ sha256 (masked (keyBlock sha256 key) pad ++ message)
 unfolding keyValue hashAfter sha256

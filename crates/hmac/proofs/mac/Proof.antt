@@ -1,8 +1,12 @@
 -- `hmac::mac` meets its contract: the inner and the outer hash from the key's two hash values (proofs/Laws.antt, `kept-values-give-mac`).
 -- Assumes nothing.
+use mathlib.Core.Path.{ap, _∙_}
+use mathlib.Core.List.{List}
+use Prim.Native.Nat.{ℕ}
 use denote.Ref.{now}
-use Rattle.hmac.specs.Keyed.{keyValue, macByValues}
-use Rattle.hmac.proofs.Laws.{kept-values-give-mac}
+use Rattle.hmac.specs.Rfc2104.{ipad, opad}
+use Rattle.hmac.specs.Keyed.{hashAfter, macByValues}
+use Rattle.hmac.proofs.Laws.{key-value, kept-values-give-mac}
 use borrow.Author.Needs.{needs}
 use Rattle.hmac.proofs.mac.Statement.{statement}
 use Rattle.hmac.proofs.mac.Tie as tie
@@ -23,11 +27,17 @@ outer-hash-requires : tie.Need-outer-hash-requires
 outer-hash-requires c κs = search needs
 
 returns : tie.Need-returns
-unfolding keyValue macByValues
+unfolding macByValues
 returns c =
-    let a = c .before .before .before .before .before .before .before .args in
-    let law = kept-values-give-mac (now (a .key)) (now (a .message)) in
-    cc
+    let hashed = c .before .before in
+    let keyed = hashed .before in
+    let a = keyed .before .before .before .before .args in
+    let message = now (a .message) in
+    let block = keyed .before .key-block .ensures in
+    let inner = key-value (now (a .key)) ipad block (keyed .key-value .ensures) in
+    let outer = key-value (now (a .key)) opad block (c .before .key-value2 .ensures) in
+    c .outer-hash .ensures ∙ (λ i. hashAfter (outer i) ((hashed .hash-after .ensures ∙ ap (λ (v : List ℕ). hashAfter v message) inner) i))
+    ∙ kept-values-give-mac (now (a .key)) message
 
 pub mac-spec : {M : Type 1} → statement M
 mac-spec =

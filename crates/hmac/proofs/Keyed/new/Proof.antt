@@ -1,11 +1,8 @@
 -- `hmac::Keyed::new` meets its contract: the key's block, masked by each of the two pads.
 -- Assumes nothing.
-use mathlib.Core.Path.{ap, _∙_}
-use mathlib.Core.List.{List}
-use Prim.Native.Nat.{ℕ}
-use Rattle.sha256_block.specs.Fips180.{compress, H0}
-use Rattle.hmac.specs.Rfc2104.{masked, ipad, opad}
-use Rattle.hmac.specs.Keyed.{keyValue}
+use denote.Ref.{now}
+use Rattle.hmac.specs.Rfc2104.{ipad, opad}
+use Rattle.hmac.proofs.Laws.{key-value}
 use borrow.Author.Needs.{needs}
 use Rattle.hmac.proofs.Keyed.new.Statement.{statement}
 use Rattle.hmac.proofs.Keyed.new.Tie as tie
@@ -20,12 +17,10 @@ key-value-requires-2 : tie.Need-key-value-requires-2
 key-value-requires-2 c κs = search needs
 
 returns : tie.Need-returns
-unfolding keyValue
 returns c =
-    let block = c .before .before .key-block .ensures in (
-      c .before .key-value .ensures ∙ ap (λ (b : List ℕ). compress H0 (masked b ipad)) block,
-      c .key-value2 .ensures ∙ ap (λ (b : List ℕ). compress H0 (masked b opad)) block,
-    )
+    let key = now (c .before .before .before .before .args .key) in
+    let block = c .before .before .key-block .ensures in
+    (key-value key ipad block (c .before .key-value .ensures), key-value key opad block (c .key-value2 .ensures))
 
 pub new-spec : {M : Type 1} → statement M
 new-spec = tie.close (tie.spec key-block-requires key-value-requires key-value-requires-2 returns)
