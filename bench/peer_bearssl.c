@@ -1,12 +1,22 @@
-/* BearSSL. Its HMAC key holds the two states after the pads. It has no key wrap and no AES of a single block, so the wrap is over CBC
- * of one block with a zero IV. AES is big (tables of four-byte entries) or small (the S-box alone). */
+/* BearSSL. Its HMAC key holds the two states after the pads. It has no key wrap, so the wrap is over its functions for one block, which
+ * its archive has and its public header leaves out: over CBC of one block AES would take a fifth more. AES is big (tables of four-byte
+ * entries) or small (the S-box alone). */
 #include "peer.h"
 #include "rfc3394.h"
 #include <bearssl.h>
 
 #define JOIN2(a, b, c) a##b##c
 #define JOIN(a, b, c) JOIN2(a, b, c)
-#define CBC(name) JOIN(br_aes_, AES, _cbc##name)
+#define AES_OF(name) JOIN(br_aes_, AES, _##name)
+
+/* as in its src/inner.h: the round keys, those of the inverse cipher with tables, and one block in place */
+unsigned br_aes_keysched(uint32_t *skey, const void *key, size_t key_len);
+unsigned br_aes_big_keysched_inv(uint32_t *skey, const void *key, size_t key_len);
+void AES_OF(encrypt)(unsigned num_rounds, const uint32_t *skey, void *data);
+void AES_OF(decrypt)(unsigned num_rounds, const uint32_t *skey, void *data);
+#define KEYS_big br_aes_big_keysched_inv
+#define KEYS_small br_aes_keysched
+#define INVERSE_KEYS JOIN(KEYS_, AES, )
 
 void peer_sha256(const uint8_t *message, size_t len, uint8_t out[32])
 {
@@ -37,28 +47,31 @@ void peer_expand(const uint8_t *key, size_t key_len, const uint8_t *label, size_
     }
 }
 
+/* a key's schedule: ten rounds for a key of 16 bytes */
+typedef struct {
+    uint32_t words[44];
+} schedule;
+
 static void encrypt(void *aes, uint8_t *b)
 {
-    uint8_t iv[16] = {0};
-    CBC(enc_run)(aes, iv, b, 16);
+    AES_OF(encrypt)(10, ((schedule *)aes)->words, b);
 }
 
 static void decrypt(void *aes, uint8_t *b)
 {
-    uint8_t iv[16] = {0};
-    CBC(dec_run)(aes, iv, b, 16);
+    AES_OF(decrypt)(10, ((schedule *)aes)->words, b);
 }
 
 void peer_wrap(const uint8_t *kek, const uint8_t *key, size_t key_len, uint8_t *out)
 {
-    CBC(enc_keys) aes;
-    CBC(enc_init)(&aes, kek, 16);
+    schedule aes;
+    br_aes_keysched(aes.words, kek, 16);
     rfc3394_wrap(encrypt, &aes, key, key_len, out);
 }
 
 int peer_unwrap(const uint8_t *kek, const uint8_t *in, size_t key_len, uint8_t *out)
 {
-    CBC(dec_keys) aes;
-    CBC(dec_init)(&aes, kek, 16);
+    schedule aes;
+    INVERSE_KEYS(aes.words, kek, 16);
     return rfc3394_unwrap(decrypt, &aes, in, key_len, out);
 }
