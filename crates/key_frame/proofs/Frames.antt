@@ -1,7 +1,7 @@
 -- What the tests of an attribute's frame say where they pass.
 -- Assumes nothing.
 use Prim.Native.Nat.{ℕ, _-_, _%_, _≤_, _<_}
-use mathlib.Core.Path.{_≡_, _∙_}
+use mathlib.Core.Path.{_≡_}
 use mathlib.Core.Bool.{Bool, true, false, _&&_, and-false}
 use mathlib.Core.List.{List}
 use native.Mathlib.Omega.{arith}
@@ -15,10 +15,6 @@ use Rattle.slices.proofs.Same.{same-equal}
 use Rattle.keywrap.specs.Rfc3394.{initialValue}
 use Rattle.keywrap.specs.Calls.{wrappable}
 use Rattle.key_frame.specs.KeyFrame.{ivIn, check20, lengthHolds, check25, check26, check27, frameCheck}
-
--- what `then_check` answers, by what each of its tests came to
-pub joined : {both first next c d : Check} → both ≡ (first andThen next) → first ≡ c → next ≡ d → both ≡ (c andThen d)
-joined e p q = e ∙ (λ i. p i andThen q i)
 
 -- a length that a key to wrap may have
 pub record KeyLength (n : ℕ) : Type 0 where

@@ -21,7 +21,7 @@ use Rattle.key_frame.specs.declared.KeyFields.{KeyFields}
 use Rattle.key_frame.proofs.Frames.{framed}
 use Rattle.key_frame.proofs.ByValue.{sixteen-whole}
 use Rattle.key_reader.specs.KeyReader.{keyIn, readCheck, readingTo, reading, readBuffer, answerIn, fieldsRead, noFields}
-use Rattle.key_frame.proofs.Told.{told-count, told-refusal}
+use Rattle.refusal.proofs.Answering.{told-count, told-refusal}
 
 -- what the reader's contract says of what it returned and left
 abbrev pub Read : (kek a buffer : List ℕ) (answer : Answer) (fields : KeyFields) (after : List ℕ) → Type 0

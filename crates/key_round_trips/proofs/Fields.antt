@@ -15,11 +15,12 @@ use Rattle.refusal.proofs.Passing.{before-passed, last-passed, test-holds, both
 use Rattle.slices.specs.Numbers.{be32, be32At}
 use Rattle.slices.proofs.Same.{equal-same}
 use Rattle.keywrap.specs.Rfc3394.{initialValue}
-use Rattle.keywrap.specs.Calls.{Bytes, wrappable}
+use Rattle.slices.specs.Bytes.{Bytes}
+use Rattle.keywrap.specs.Calls.{wrappable}
 use Rattle.key_frame.specs.KeyFrame.{header, fieldsIn, ivIn, wrappedIn, check20, frameCheck}
 use Rattle.key_frame.specs.declared.KeyFields.{KeyFields}
 use Rattle.key_frame.proofs.Frames.{length-of, framed}
-use Rattle.key_round_trips.proofs.Numbers.{four-back, number-drop, four-first, four-at}
+use Rattle.slices.proofs.Numbers.{four-back, number-drop, four-first, four-at}
 
 -- the fields fit their places: the type a byte, App ID and Lifetime four, KEK ID and Key ID sixteen
 pub record Fitting (f : KeyFields) : Type 0 where

@@ -1,3 +1,2 @@
-mod Numbers
 mod Fields
 pub mod RoundTrips

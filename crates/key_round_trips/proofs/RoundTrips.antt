@@ -12,8 +12,9 @@ use lib.Seq.{take-at, length-take-le}
 use Rattle.refusal.specs.Checks.{Check, pass, refuse, bare, _andThen_}
 use Rattle.refusal.proofs.Passing.{before-passed, last-passed, test-passed, test-holds, both-pass}
 use Rattle.keywrap.specs.Rfc3394.{initialValue, wrapped, unwrappedIv}
-use Rattle.keywrap.specs.Calls.{Bytes, wrappable}
-use Rattle.keywrap.proofs.Bytes.{bytes-drop}
+use Rattle.slices.specs.Bytes.{Bytes}
+use Rattle.keywrap.specs.Calls.{wrappable}
+use Rattle.slices.proofs.Bytes.{bytes-drop}
 use Rattle.keywrap.proofs.Laws.{length-wrapped, unwrap-initial, unwrap-key, length-unwrappedKey, wrap-again}
 use Rattle.slices.proofs.Same.{same-equal, equal-same}
 use Rattle.key_frame.specs.KeyFrame.{check20, check22, fieldsIn, wrappedIn, keyLengthIn, frameCheck}
@@ -22,7 +23,7 @@ use Rattle.key_frame.proofs.Frames.{framed}
 use Rattle.key_writer.specs.KeyWriter.{check21, attribute, writeCheck, writeAnswer, writeBuffer}
 use Rattle.key_reader.specs.KeyReader.{keyIn, readCheck, accepted, readingTo, reading, readBuffer}
 use Rattle.key_round_trips.specs.Statements.{ReadsBack, WritesAgain}
-use Rattle.key_frame.proofs.Told.{told-count}
+use Rattle.refusal.proofs.Answering.{told-count}
 use Rattle.key_writer.proofs.Writing.{lengths}
 use Rattle.key_round_trips.proofs.Fields.{Fitting, header-size, fields-written, wrapped-written, frame-written, header-back, kind-passes}
 

@@ -5,7 +5,7 @@ use mathlib.Core.Path.{_≡_}
 use mathlib.Core.List.{List, _++_}
 use lib.ListN.{length, take, drop}
 use Rattle.refusal.specs.Answers.{wrote}
-use Rattle.keywrap.specs.Calls.{Bytes}
+use Rattle.slices.specs.Bytes.{Bytes}
 use Rattle.key_frame.specs.declared.KeyFields.{KeyFields}
 use Rattle.key_writer.specs.KeyWriter.{writeAnswer, writeBuffer}
 use Rattle.key_reader.specs.KeyReader.{accepted, reading, readBuffer}

@@ -24,7 +24,7 @@ use Rattle.key_frame.specs.declared.KeyFields.{KeyFields}
 use Rattle.key_frame.proofs.Frames.{KeyLength, key-length}
 use Rattle.key_frame.proofs.ByValue.{sixteen-whole}
 use Rattle.key_writer.specs.KeyWriter.{attributeLength, attribute, check21, writeCheck, writeAnswer, writeBuffer}
-use Rattle.key_frame.proofs.Told.{told-count, told-refusal}
+use Rattle.refusal.proofs.Answering.{told-count, told-refusal}
 use Rattle.key_writer.proofs.Parts.{put-from}
 
 -- the tests before the wrapping

@@ -16,7 +16,7 @@ use Rattle.refusal.proofs.Passing.{before-passed, last-passed, test-passed, wit
 use Rattle.slices.proofs.Truth.{and-left}
 use Rattle.slices.proofs.Lists.{copied-front}
 use Rattle.rfc3394.specs.Rfc3394.{initialValue, Registers, passesOf, wrapRegisters, wrapped, unwrapRegisters, unwrappedIv, unwrappedKey}
-use Rattle.rfc3394.proofs.Bytes.{Eight, eight, eight-of}
+use Rattle.rfc3394.proofs.Halves.{Eight, eight, eight-of}
 use Rattle.rfc3394.proofs.Steps.{registers≡}
 use Rattle.keywrap_passes.specs.Passes.{eightOf, passesWithin}
 use Rattle.keywrap_passes.proofs.Within.{within}

@@ -7,7 +7,6 @@ use lib.Dec.{eqb}
 use lib.ListN.{length}
 use Rattle.refusal.specs.Checks.{Check, bare, unless, _andThen_, within, check6}
 use Rattle.slices.specs.Same.{sameList}
-pub use Rattle.rfc3394.specs.Bytes.{Bytes}
 use Rattle.rfc3394.specs.Rfc3394.{initialValue, unwrappedIv}
 
 -- 23: key to wrap not a multiple of 8 from 16 to 192 bytes.

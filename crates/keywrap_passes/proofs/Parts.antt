@@ -15,7 +15,7 @@ use Rattle.fips197.specs.Cipher.{cipher, invCipher, eqInvCipher, invertedKeys}
 use Rattle.fips197.specs.KeyExpansion.{expandKey}
 use Rattle.fips197.proofs.Equivalent.{equivalent-inverse}
 use Rattle.rfc3394.specs.Rfc3394.{joined, high, low, addCount, counted, blockAt, withBlock, Registers, wrapStep, unwrapStep, wrapPass, unwrapPass, wrapPasses, unwrapPasses, keyState, roundKeys, passesOf}
-use Rattle.rfc3394.proofs.Bytes.{Eight, eight, eight-of}
+use Rattle.rfc3394.proofs.Halves.{Eight, eight, eight-of}
 use Rattle.rfc3394.proofs.Steps.{registers≡}
 
 -- ---- eight bytes

@@ -8,7 +8,7 @@ use borrow.Author.Tests.{leb-true}
 use lib.ListN.{length, getD}
 use Rattle.refusal.specs.Checks.{Reason, Check, pass, refuse, _andThen_}
 use Rattle.refusal.specs.Answers.{wrote}
-use Rattle.refusal.proofs.Passing.{first-refuses, last-passed, test-passed}
+use Rattle.refusal.proofs.Passing.{first-refuses, second-decides, last-passed, test-passed}
 use Rattle.offer_rules.specs.Rfc5448.{firstSupported, check10, check11, check12, chooseCheck, answerCheck}
 use Rattle.offer_rules.specs.Answers.{FirstAnswer, carryOn, ask, firstRoundAt, firstRoundTo, firstRound, serverAnswer}
 use Rattle.offer_rules.proofs.Accepted.{answer-passed}
@@ -19,11 +19,6 @@ at-first offers i e = rw e
 pub at-later : (offers : List ℕ) (i : ℕ) → (i ≡ 0 → ⊥) → ask (getD offers i 0) i ≡ firstRoundAt offers i
 at-later offers zero ne = elim (ne refl) [ ]
 at-later offers (suc i) ne = refl
-
--- where the first of two tests passes, the second decides
-pub second-decides : (a b : Check) → a ≡ pass → b ≡ (a andThen b)
-unfolding _andThen_
-second-decides a b e = rw e
 
 module _ (offers supported : List ℕ) where
   pub list-refused : {x : Reason} → (check10 offers andThen check11 offers) ≡ refuse x → FirstAnswer.refused x ≡ firstRound offers supported

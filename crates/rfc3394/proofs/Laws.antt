@@ -11,10 +11,11 @@ use lib.Seq.{length-take-le, take-at, drop-at}
 use Rattle.fips197.specs.State.{State, Block, block, column}
 use Rattle.fips197.specs.Cipher.{cipher, invCipher}
 use Rattle.fips197.proofs.Rounds.{Keys, cipher-block, invCipher-block, uncipher, recipher, expandKey-keys}
-use Rattle.rfc3394.specs.Bytes.{Bytes}
+use Rattle.slices.specs.Bytes.{Bytes}
 use Rattle.rfc3394.specs.Rfc3394.{initialValue, Registers, wrapPasses, unwrapPasses, keyState, roundKeys, passesOf, wrapRegisters, wrapped, unwrapRegisters, unwrappedIv, unwrappedKey}
 use Rattle.rfc3394.specs.Statements.{UnwrapUndoes, WrapUndoes, WrappedLength, UnwrappedLength}
-use Rattle.rfc3394.proofs.Bytes.{bytes-take, bytes-drop, half-of, half-length, initial-half}
+use Rattle.slices.proofs.Bytes.{bytes-take, bytes-drop}
+use Rattle.rfc3394.proofs.Halves.{half-of, half-length, initial-half}
 use Rattle.rfc3394.proofs.Steps.{Ready, registers≡, passes-ready, unpasses-ready, unpasses-passes, passes-unpasses}
 
 module _ (kek : List ℕ) (k : Bytes kek) where

@@ -1,3 +1,3 @@
-pub mod Bytes
+pub mod Halves
 pub mod Laws
 pub mod Steps

@@ -11,9 +11,10 @@ use lib.Seq.{length-take-le, take-at, drop-at}
 use borrow.Rule.Slice.PartMut.{same-len-mid, put-same, take-put}
 use Rattle.fips197.specs.State.{State, Block, block, column}
 use Rattle.fips197.proofs.Xor.{xor-cancel}
-use Rattle.rfc3394.specs.Bytes.{Bytes}
+use Rattle.slices.specs.Bytes.{Bytes}
 use Rattle.rfc3394.specs.Rfc3394.{joined, high, low, addCount, blockAt, withBlock, Registers, wrapStep, unwrapStep, wrapPass, unwrapPass, wrapPasses, unwrapPasses}
-use Rattle.rfc3394.proofs.Bytes.{bytes-append, bytes-take, bytes-drop, Half, half, half-bytes, block-half}
+use Rattle.slices.proofs.Bytes.{bytes-append, bytes-take, bytes-drop}
+use Rattle.rfc3394.proofs.Halves.{Half, half, half-bytes, block-half}
 
 pub registers≡ : {a b c d : List ℕ} → a ≡ c → b ≡ d → _≡_ {A = Registers} (a, b) (c, d)
 registers≡ p q = λ i. (p i, q i)

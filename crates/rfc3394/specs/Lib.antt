@@ -1,3 +1,2 @@
-pub mod Bytes
 pub mod Rfc3394
 pub mod Statements

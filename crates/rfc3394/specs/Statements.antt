@@ -4,7 +4,7 @@ use mathlib.Core.Path.{_≡_}
 use mathlib.Core.List.{List}
 use Prim.Native.Nat.{ℕ, _+_, _-_, _≤_}
 use lib.ListN.{length}
-use Rattle.rfc3394.specs.Bytes.{Bytes}
+use Rattle.slices.specs.Bytes.{Bytes}
 use Rattle.rfc3394.specs.Rfc3394.{initialValue, wrapped, unwrappedIv, unwrappedKey}
 
 -- Unwrapping a wrapped key yields the initial value and the key.

@@ -1,3 +1,5 @@
 pub mod Truth
 pub mod Lists
 pub mod Same
+pub mod Bytes
+pub mod Numbers

@@ -1,3 +1,4 @@
 pub mod Same
 pub mod Numbers
 pub mod Ascii
+pub mod Bytes

@@ -4,7 +4,7 @@ use mathlib.Core.Path.{ap, _∙_}
 use mathlib.Core.Bool.{Bool}
 use Rattle.refusal.specs.Checks as Checks
 use Rattle.refusal.specs.Checks.{bare}
-use Rattle.key_frame.proofs.Frames.{joined}
+use Rattle.refusal.proofs.Passing.{joined}
 use borrow.Author.Needs.{needs}
 use Rattle.key_frame.proofs.check_header.Statement.{statement}
 use Rattle.key_frame.proofs.check_header.Tie as tie

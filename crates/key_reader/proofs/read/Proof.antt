@@ -8,7 +8,7 @@ use Rattle.refusal.specs.Checks.{_andThen_}
 use Rattle.refusal.specs.Answers.{checkedAs}
 use Rattle.refusal.proofs.Answering.{passed}
 use Rattle.key_frame.specs.KeyFrame.{check22, frameCheck}
-use Rattle.key_frame.proofs.Frames.{joined}
+use Rattle.refusal.proofs.Passing.{joined}
 use Rattle.key_reader.proofs.Reading.{Ready, ready, refused-early, refused-late, read-so}
 use borrow.Author.Needs.{needs}
 use Rattle.key_reader.proofs.read.Statement.{statement}

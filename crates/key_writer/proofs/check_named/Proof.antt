@@ -1,6 +1,6 @@
 -- `key_writer::check_named` meets its contract: each test answers its check, and the combinators join them in their order.
 -- Assumes nothing.
-use Rattle.key_frame.proofs.Frames.{joined}
+use Rattle.refusal.proofs.Passing.{joined}
 use borrow.Author.Needs.{needs}
 use Rattle.key_writer.proofs.check_named.Statement.{statement}
 use Rattle.key_writer.proofs.check_named.Tie as tie

@@ -6,7 +6,7 @@ use denote.Ref.{now}
 use Rattle.refusal.specs.Answers.{checkedAs}
 use Rattle.offer_rules.specs.Rfc5448.{check10}
 use Rattle.refusal.proofs.Passing.{first-refuses}
-use Rattle.offer_rules.proofs.Rounds.{second-decides}
+use Rattle.refusal.proofs.Passing.{second-decides}
 use Rattle.offer_checks.proofs.check_offers.Statement.{statement}
 use Rattle.offer_checks.proofs.check_offers.Tie as tie
 

@@ -1,29 +1,14 @@
--- Lists of bytes: what is taken from one or joined of two is one; and eight bytes, with the shape of their list laid open.
+-- Eight bytes, with the shape of their list laid open.
 -- Assumes nothing.
 use mathlib.Core.Path.{_≡_, refl}
-use mathlib.Core.List.{List, [], _∷_, _++_}
+use mathlib.Core.List.{List, [], _∷_}
 use Prim.Native.Nat.{ℕ, zero, suc, _+_, _*_, _≤_, _<_}
 use native.Mathlib.Omega.{arith}
 use lib.ListN.{length, take, drop, length-drop}
 use lib.Seq.{length-take-le}
-use Rattle.rfc3394.specs.Bytes.{Bytes}
+use Rattle.slices.specs.Bytes.{Bytes}
+use Rattle.slices.proofs.Bytes.{bytes-take, bytes-drop}
 use Rattle.rfc3394.specs.Rfc3394.{initialValue, blockAt}
-
-pub bytes-append : (l m : List ℕ) → Bytes l → Bytes m → Bytes (l ++ m)
-bytes-append [] m p q i = q i
-bytes-append (x ∷ l) m p q zero = p zero
-bytes-append (x ∷ l) m p q (suc i) = bytes-append l m (λ j. p (suc j)) q i
-
-pub bytes-take : (n : ℕ) (l : List ℕ) → Bytes l → Bytes (take n l)
-bytes-take zero l p i = omega arith
-bytes-take (suc n) [] p i = p i
-bytes-take (suc n) (x ∷ l) p zero = p zero
-bytes-take (suc n) (x ∷ l) p (suc i) = bytes-take n l (λ j. p (suc j)) i
-
-pub bytes-drop : (n : ℕ) (l : List ℕ) → Bytes l → Bytes (drop n l)
-bytes-drop zero l p = p
-bytes-drop (suc n) [] p = p
-bytes-drop (suc n) (x ∷ l) p = bytes-drop n l (λ j. p (suc j))
 
 -- a list of eight elements or more, laid open
 pub data Eight : List ℕ → Type 0 where

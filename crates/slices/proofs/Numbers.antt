@@ -7,8 +7,8 @@ use native.Mathlib.Nat.{add-zero}
 use native.Mathlib.Omega.{arith}
 use lib.ListN.{length, take, drop, getD, length-drop}
 use lib.Seq.{getD-drop}
 use Rattle.slices.specs.Numbers.{be32, be32At}
-use Rattle.keywrap.specs.Calls.{Bytes}
+use Rattle.slices.specs.Bytes.{Bytes}
 
 -- four bytes hold the number, and the number gives the four bytes
 pub four-back : (n : ℕ) (rest : List ℕ) → n < 2 ^ 32 → be32At (be32 n ++ rest) 0 ≡ n
