@@ -32,14 +32,14 @@ fn form_of(s: &[u8], set: ByteSet, longest: usize) -> Form
     }
 }
 
-// Tests a label, for usage keys and for names: 2, 3.
+// Tests a label, for usage keys and for names: 2, 3. The position that the scan found goes with 3.
 pub fn check_label(label: &[u8]) -> Checked
     ensures { λ r. ⌜ checkedAs r ≡ labelCheck (now (label .entry)) ⌝ }
 {
     match form_of(label, ByteSet::Label, 255) {
         Form::WellFormed => Checked::Passed,
         Form::WrongLength => Checked::Failed(Refusal::LabelLength),
-        Form::BadByte(_) => Checked::Failed(Refusal::LabelByte),
+        Form::BadByte(i) => Checked::Failed(Refusal::LabelByte(i)),
     }
 }
 

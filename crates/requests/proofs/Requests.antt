@@ -6,7 +6,7 @@ use mathlib.Core.List.{List}
 use native.Mathlib.Nat.{not-suc-le-zero}
 use Rattle.refusal.specs.Checks.{unless, _andThen_, within}
 use Rattle.refusal.proofs.Passing.{then-pass}
-use Rattle.charset.specs.Bytes.{every, labelByte}
+use Rattle.charset.specs.Bytes.{scanFrom, labelByte}
 use Rattle.identifiers.specs.Checks.{labelCheck}
 use Rattle.hmac.specs.Rfc2104.{hmacSha256}
 use Rattle.hmac.proofs.Laws.{hmacSha256-length}
@@ -33,9 +33,9 @@ key-of-blocks emsk r = (
 
 -- a VRK's label, data and length pass the tests of a usage request
 pub vrk-is-usage : VrkIsUsage
-unfolding checkOf labelCheck vrkLabel unless within every labelByte textOf inputOf keyOf
+unfolding checkOf labelCheck vrkLabel unless within scanFrom labelByte textOf inputOf keyOf
 vrk-is-usage emsk room = (simp then-pass, refl, refl, λ i. refl)
 
 pub some-accepted : SomeAccepted
-unfolding checkOf labelCheck _andThen_ unless within every labelByte
+unfolding checkOf labelCheck _andThen_ unless within scanFrom labelByte
 some-accepted = (refl, refl, refl)

@@ -7,7 +7,7 @@ use mathlib.Core.Logic.{_↔_}
 use mathlib.Core.List.{List, [], _∷_}
 use lib.ListN.{length, take, replicate}
 use Rattle.slices.specs.Ascii.{ascii}
-use Rattle.refusal.specs.Checks.{refuse, bare}
+use Rattle.refusal.specs.Checks.{refuse, bare, located}
 use Rattle.hmac.specs.Rfc2104.{hmacSha256}
 use Rattle.prf_plus.specs.PrfPlus.{blockCount, block, blocks}
 use Rattle.requests.specs.Requests.{Request, forUsage, forVrk, labelOf, dataOf, lengthOf, checkOf, Accepted, BlockOf, vrkLabel, textOf, inputOf, keyOf}
@@ -47,7 +47,7 @@ abbrev pub SomeAccepted : Type 0
 SomeAccepted =
     Accepted (replicate 64 7) (forUsage (ascii "a") [] 64 64)
     × (checkOf (replicate 64 7) (forUsage [] [] 64 64) ≡ refuse (bare 2))
-    × (checkOf (replicate 64 7) (forUsage (0x61 ∷ 0x09 ∷ []) [] 0 64) ≡ refuse (bare 3))
+    × (checkOf (replicate 64 7) (forUsage (0x61 ∷ 0x09 ∷ []) [] 0 64) ≡ refuse (located 3 1))
 
 -- the worked example of docs/SEPARATION.md: without the zero byte the two texts would be one
 abbrev pub GateTexts : Type 0
