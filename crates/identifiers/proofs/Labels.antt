@@ -2,17 +2,21 @@
 -- Assumes nothing.
 use Prim.Native.Nat.{ℕ, _≤_}
 use mathlib.Core.Path.{_≡_, refl, sym, _∙_}
-use mathlib.Core.Bool.{Bool, true, false, cond}
+use mathlib.Core.Bool.{Bool, true, false, cond, not}
 use mathlib.Core.List.{List}
+use native.Mathlib.Omega.{arith}
 use lib.ListN.{length}
 use Rattle.refusal.specs.Checks.{pass, refuse, bare, located, unless, _andThen_, within}
-use Rattle.refusal.proofs.Passing.{before-passed, last-passed, test-passed, within-low, within-high}
-use Rattle.charset.specs.Bytes.{every, labelByte, firstBad}
+use Rattle.refusal.proofs.Passing.{before-passed, last-passed, test-passed, test-holds, within-low, within-high}
+use Rattle.slices.specs.Same.{sameList}
+use Rattle.slices.proofs.Same.{same-exactly}
+use Rattle.charset.specs.Bytes.{every, labelByte, scanFrom, firstBad}
 use Rattle.charset.specs.declared.Scan.{Scan}
 use Rattle.charset.specs.declared.Scan.the-variants.{Clean, BadAt}
 use Rattle.charset.proofs.Places.{first-place}
-use Rattle.identifiers.specs.Checks.{scanned3, labelCheck}
-use Rattle.identifiers.specs.Statements.{LabelPlace}
+use Rattle.identifiers.specs.FixedLabels.{vrkLabel, visitedReauthLabel, dsrkLabel, rrkLabel}
+use Rattle.identifiers.specs.Checks.{scanned3, labelCheck, check31}
+use Rattle.identifiers.specs.Statements.{LabelPlace, FixedLabelsPass, DomainLabelAlone}
 use Rattle.identifiers.specs.Internal.{scanForm, formOf, isWellFormed, formCheck}
 use Rattle.identifiers.specs.declared.Form.the-variants.{WrongLength}
 use Rattle.identifiers.proofs.Forms.{scan-every}
@@ -42,6 +46,24 @@ label-place label i = (
     told true Clean e = (refl, cc)
     told true (BadAt k) e = (refl, cc)
     told false f e = (cc, cc)
+
+pub fixed-labels-pass : FixedLabelsPass
+unfolding labelCheck unless within _andThen_ scanFrom labelByte vrkLabel visitedReauthLabel dsrkLabel rrkLabel
+fixed-labels-pass = (refl, refl, refl, refl)
+
+pub domain-label-alone : DomainLabelAlone
+unfolding check31 unless
+domain-label-alone label = (
+  λ e same. passed-not _ (test-passed _ _ e) (same-exactly label dsrkLabel .1 same),
+  λ other. test-holds _ _ (apart (sameList label dsrkLabel) (λ e. other (same-exactly label dsrkLabel .0 e))),
+)
+  where
+    passed-not : (b : Bool) → not b ≡ true → b ≡ true → ⊥
+    passed-not b n e = let absurdly : _≡_ {A = ℕ} 1 0 = cc in omega (arith, absurdly)
+
+    apart : (b : Bool) → (b ≡ true → ⊥) → not b ≡ true
+    apart true ne = absurd (ne refl)
+    apart false ne = refl
 
 -- a scan that lets a label pass found no bad byte
 scan-passed : (f : Scan) → scanned3 f ≡ pass → isWellFormed (scanForm f) ≡ true
