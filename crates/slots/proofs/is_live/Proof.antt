@@ -1,0 +1,31 @@
+-- `slots::is_live` meets its contract.
+-- Assumes nothing.
+use borrow.Author.Needs.{needs}
+use borrow.Author.Tests.{lt-ltb, le-ltb}
+use mathlib.Core.Path.{_≡_, sym, _∙_}
+use Prim.Native.Nat.{_<_, _^_}
+use lib.ListN.{length}
+use Rattle.slot_rules.proofs.Digits.{length-mapped}
+use Rattle.slot_rules.proofs.Stored.{live}
+use Rattle.slots.proofs.is_live.Statement.{statement}
+use Rattle.slots.proofs.is_live.Tie as tie
+
+-- the slots at entry: a word of 64 digits and 64 names
+module _ (s : tie.Start) where
+  bits : s .args .slots .taken < 2 ^ 64
+  bits = search needs
+
+  long : length (s .args .slots .names) ≡ 64
+  long = search (needs, length-mapped)
+
+shr-result : tie.Need-shr-result
+shr-result c = search needs
+
+returns : tie.Need-returns
+returns c = let s = c .before .before in sym (live (s .args .slots) (bits s) (long s) (s .args .number) ∙ simp (lt-ltb _ _ (c .before .if1 .taken)))
+
+returns-2 : tie.Need-returns-2
+returns-2 c = let s = c .before in sym (live (s .args .slots) (bits s) (long s) (s .args .number) ∙ simp (le-ltb _ _ (c .if1 .left)))
+
+pub is-live-spec : {M : Type 1} → statement M
+is-live-spec = tie.close (tie.spec shr-result returns returns-2)
