@@ -2,15 +2,18 @@
 -- is that of the live slots, and a digit set or cleared is a slot taken or freed.
 -- Assumes nothing.
 use mathlib.Core.Path.{_≡_, refl, sym, ap, ap₂, _∙_}
+use mathlib.Core.Bool.{Bool, _&&_}
 use mathlib.Core.List.{List, [], _∷_, map}
-use Prim.Native.Nat.{ℕ, zero, suc, _+_, _-_, _*_, _/_, _%_, _^_, _<_}
+use Prim.Native.Nat.{ℕ, zero, suc, _+_, _-_, _*_, _/_, _%_, _^_, _≤_, _<_}
 use native.Mathlib.Nat.{pow-suc, mod-lt, mod-eq-of-lt, zero-lt-suc}
 use native.Mathlib.Omega.{arith}
+use borrow.Author.Tests.{lt-ltb}
 use lib.Bits.{bitAnd, bitOr, or-mod, or-shr, or-zero-r, and-mod, and-shr, and-mask}
 use lib.Count.{ones, ones-step, trailingZeros, under}
+use lib.Dec.{eqb}
 use lib.ListN.{length, getD, set, replicate, length-map}
-use lib.Pow.{pow-pos, pow-lt, shr-shr}
-use Rattle.slot_rules.specs.Table.{Slot, free, holding, slotOf, slotsFrom, lowestFree, liveCount}
+use lib.Pow.{pow-pos, pow-lt, pow-add, shr-shr, low, field, mod-mod-pow}
+use Rattle.slot_rules.specs.Table.{hasDigit, Slot, free, holding, slotOf, slotsFrom, lowestFree, liveCount}
 
 -- a list has the length of what is mapped from it
 pub length-mapped : (X Y : Type 0) (f : X → Y) (l : List X) (n : ℕ) → length (map f l) ≡ n → length l ≡ n
@@ -28,9 +31,53 @@ module _ (k w : ℕ) (h : w < 2 ^ suc k) where
   not-half : ((2 ^ suc k - 1) - w) / 2 ≡ (2 ^ k - 1) - w / 2
   not-half = let e = pow-suc 2 k in omega arith
 
--- a digit alone, in a word of 64
-pub one-shifted : (i : ℕ) → i < 64 → 1 * 2 ^ i % 2 ^ 64 ≡ 2 ^ i
-one-shifted i h = let e : 1 * 2 ^ i ≡ 2 ^ i = omega arith in ap (λ (n : ℕ). n % 2 ^ 64) e ∙ mod-eq-of-lt (pow-lt h)
+-- ---- a digit alone, and in halves of 32
+
+-- one shifted within a half
+one-shifted : (i : ℕ) → i < 32 → 1 * 2 ^ i % 2 ^ 32 ≡ 2 ^ i
+one-shifted i h = let e : 1 * 2 ^ i ≡ 2 ^ i = omega arith in ap (λ (n : ℕ). n % 2 ^ 32) e ∙ mod-eq-of-lt (pow-lt h)
+
+pub power-small : (i : ℕ) → i < 64 → 2 ^ i % 2 ^ 64 ≡ 2 ^ i
+power-small i h = mod-eq-of-lt (pow-lt h)
+
+pub power-low : (i : ℕ) → i < 32 → 1 * 2 ^ i % 2 ^ 32 ≡ 2 ^ i % 2 ^ 64
+power-low i h = let l : i < 64 = omega arith in one-shifted i h ∙ sym (power-small i l)
+
+pub power-high : (i : ℕ) → 32 ≤ i → i < 64 → 1 * 2 ^ (i - 32) % 2 ^ 32 * 2 ^ 32 ≡ 2 ^ i % 2 ^ 64
+power-high i l h =
+    let k : i - 32 < 32 = omega arith in
+    let e : (i - 32) + 32 ≡ i = omega arith in
+    ap (λ (n : ℕ). n * 2 ^ 32) (one-shifted (i - 32) k) ∙ sym (pow-add 2 (i - 32) 32) ∙ ap (λ (n : ℕ). 2 ^ n) e ∙ sym (power-small i h)
+
+pub power-none : (i : ℕ) → 64 ≤ i → 2 ^ i % 2 ^ 64 ≡ 0
+power-none i h =
+    let e : (i - 64) + 64 ≡ i = omega arith in
+    let z : 2 ^ (i - 64) * 2 ^ 64 ≡ 2 ^ (i - 64) * 2 ^ 64 + 0 = omega arith in
+    ap (λ (n : ℕ). 2 ^ n % 2 ^ 64) (sym e) ∙ ap (λ (n : ℕ). n % 2 ^ 64) (pow-add 2 (i - 64) 64) ∙ ap (λ (n : ℕ). n % 2 ^ 64) z
+    ∙ low (2 ^ (i - 64)) 64 {lo = 0} (pow-pos 64)
+
+low-digit : (w i : ℕ) → i < 32 → w % 2 ^ 32 / 2 ^ i % 2 ≡ w / 2 ^ i % 2
+low-digit w i h =
+    let e : (32 - i) + i ≡ 32 = omega arith in
+    let f : (31 - i) + 1 ≡ 32 - i = omega arith in
+    ap (λ (n : ℕ). w % 2 ^ n / 2 ^ i % 2) (sym e)
+    ∙ ap (λ (n : ℕ). n % 2) (field w (32 - i) i)
+    ∙ ap (λ (n : ℕ). w / 2 ^ i % 2 ^ n % 2) (sym f)
+    ∙ mod-mod-pow (w / 2 ^ i) (31 - i) 1
+
+high-digit : (w i : ℕ) → 32 ≤ i → w / 2 ^ 32 / 2 ^ (i - 32) % 2 ≡ w / 2 ^ i % 2
+high-digit w i h =
+    let e : 32 + (i - 32) ≡ i = omega arith in
+    ap (λ (n : ℕ). n % 2) (shr-shr w 32 (i - 32) ∙ ap (λ (n : ℕ). w / 2 ^ n) e)
+
+tested : (w i : ℕ) → i < 64 → eqb (w / 2 ^ i % 2) 1 ≡ hasDigit w i
+tested w i h = sym (ap (λ (b : Bool). b && eqb (w / 2 ^ i % 2) 1) (lt-ltb i 64 h))
+
+pub low-tested : (w i : ℕ) → i < 32 → eqb (w % 2 ^ 32 / 2 ^ i % 2) 1 ≡ hasDigit w i
+low-tested w i h = let l : i < 64 = omega arith in ap (λ (d : ℕ). eqb d 1) (low-digit w i h) ∙ tested w i l
+
+pub high-tested : (w i : ℕ) → 32 ≤ i → i < 64 → eqb (w / 2 ^ 32 / 2 ^ (i - 32) % 2) 1 ≡ hasDigit w i
+high-tested w i l h = ap (λ (d : ℕ). eqb d 1) (high-digit w i l) ∙ tested w i h
 
 -- ---- a table of a word
 

@@ -18,14 +18,10 @@ use Rattle.refusal.specs.Answers.{wrote, refused}
 use Rattle.refusal.proofs.Passing.{test-passed, test-holds}
 use Rattle.slot_rules.specs.declared.Name.{Name}
 use Rattle.slot_rules.specs.declared.Slots.{Slots}
-use Rattle.slot_rules.specs.Table.{Slot, free, holding, slotOf, slotsFrom, lowestFree, liveCount, isHolding, isLive}
+use Rattle.slot_rules.specs.Table.{hasDigit, Slot, free, holding, slotOf, slotsFrom, lowestFree, liveCount, isHolding, isLive}
 use Rattle.slot_rules.specs.Calls.{check46, check47, putAnswer, putTable, dropAnswer, dropTable}
 use Rattle.slot_rules.specs.Stored.{tableOf, taking, freeing, putStored, dropStored}
 use Rattle.slot_rules.proofs.Digits.{length-slots, lowest-law, live-law, put-law, drop-law, at-law}
-
--- whether digit n of a word of 64 is set
-abbrev pub hasDigit : ℕ → ℕ → Bool
-hasDigit w n = ltb n 64 && eqb (w / 2 ^ n % 2) 1
 
 -- a test that fails refuses
 test-fails : (t : Bool) (x : Reason) → t ≡ false → unless t x ≡ refuse x

@@ -1,15 +1,20 @@
 -- A table of slots (document 02, request 12), whatever a slot holds, and how a word tells which slots are taken. Slots are counted from 0, and
 -- slot 0 is the word's lowest binary digit.
 -- Assumes nothing.
-use Prim.Native.Nat.{ℕ, zero, suc, _/_, _%_}
-use mathlib.Core.Bool.{Bool, true, false}
+use Prim.Native.Nat.{ℕ, zero, suc, _/_, _%_, _^_}
+use mathlib.Core.Bool.{Bool, true, false, _&&_}
 use mathlib.Core.List.{List, [], _∷_}
+use lib.Dec.{ltb, eqb}
 use lib.ListN.{getD}
 
 -- a slot is free or holds something
 pub data Slot (X : Type 0) : Type 0 where
   free : Slot X
   holding : X → Slot X
+
+-- whether digit n of a word of 64 is set
+abbrev pub hasDigit : ℕ → ℕ → Bool
+hasDigit w n = ltb n 64 && eqb (w / 2 ^ n % 2) 1
 
 module _ {X : Type 0} where
   -- the number of the lowest free slot; where none is free, the count of all

@@ -8,6 +8,8 @@ ghost use Rattle.slots.specs.Answers.{answerOf};
 use refusal::Refusal;
 use slot_rules::Name;
 use slot_rules::Slots;
+use slot_words::has_digit;
+use slot_words::power;
 
 // What a call on the slots answers: a slot's number, or a refusal.
 pub enum SlotAnswer {
@@ -33,11 +35,7 @@ fn lowest_free(slots: Slots) -> u32
 fn is_live(slots: Slots, number: u64) -> bool
     ensures { λ r. ⌜ r ≡ isLive (tableOf slots) number ⌝ }
 {
-    if number < 64 {
-        (slots.taken >> number) % 2 == 1
-    } else {
-        false
-    }
+    has_digit(slots.taken, number)
 }
 
 // What a put of a name answers.
@@ -60,8 +58,9 @@ pub fn put_slots(slots: Slots, name: Name) -> Slots
     let at = lowest_free(slots);
     let mut next = slots;
     if at < 64 {
-        next.taken = slots.taken | (1 << at);
-        next.names[at as usize] = name;
+        let place = at as usize;
+        next.taken = slots.taken | power(at as u64);
+        next.names[place] = name;
     }
     next
 }
@@ -84,7 +83,7 @@ pub fn drop_slots(slots: Slots, number: u64) -> Slots
 {
     let mut next = slots;
     if is_live(slots, number) {
-        next.taken = slots.taken & !(1 << number);
+        next.taken = slots.taken & !power(number);
     }
     next
 }

@@ -1,10 +1,11 @@
-//! The second program's own reading of document 01: for each call the numbers of its order and what it writes.
+//! The second program's own reading of the papers: for each call the numbers of its order and what it writes.
 
 pub mod area;
 pub mod key_attribute;
 pub mod key_name;
 pub mod offers;
 pub mod prf;
+pub mod slots;
 pub mod usage;
 pub mod visited;
 

@@ -2,11 +2,11 @@
 -- Assumes nothing.
 use borrow.Author.Needs.{needs}
 use mathlib.Core.Path.{_≡_, sym, ap, _∙_}
-use Prim.Native.Nat.{ℕ, _-_, _<_, _^_}
+use Prim.Native.Nat.{_-_, _<_, _^_}
 use lib.Bits.{bitAnd}
 use lib.ListN.{length}
 use Rattle.slot_rules.specs.Stored.{tableOf}
-use Rattle.slot_rules.proofs.Digits.{length-mapped, one-shifted}
+use Rattle.slot_rules.proofs.Digits.{length-mapped, power-small}
 use Rattle.slot_rules.proofs.Stored.{live-below, drop-frees, drop-leaves, drop-stored}
 use Rattle.slots.proofs.drop_slots.Statement.{statement}
 use Rattle.slots.proofs.drop_slots.Tie as tie
@@ -22,17 +22,17 @@ module _ (s : tie.Start) where
 is-live-requires : tie.Need-is-live-requires
 is-live-requires c κs = search needs
 
-shl-next : tie.Need-shl-next
-shl-next c =
-    let s = c .before .before in
-    live-below (s .args .slots) (bits s) (long s) (s .args .number) (sym (c .before .is-live .ensures) ∙ c .if1 .taken)
+power-requires : tie.Need-power-requires
+power-requires c κs = search needs
 
 returns : tie.Need-returns
 returns c =
-    let s = c .before .before .before in
+    let s = c .before .before .before .before in
     let a = s .args in
-    let e = drop-frees (a .slots) (a .number) _ (sym (c .before .before .is-live .ensures) ∙ c .before .if1 .taken)
-    (λ j. record { taken = ap (λ (d : ℕ). bitAnd (a .slots .taken) ((2 ^ 64 - 1) - d)) (one-shifted (a .number) (shl-next (c .before))) j; names = a .slots .names }) in
+    let lives = sym (c .before .before .before .is-live .ensures) ∙ c .before .before .if1 .taken in
+    let p = c .before .power .ensures ∙ power-small (a .number) (live-below (a .slots) (bits s) (long s) (a .number) lives) in
+    let e = drop-frees (a .slots) (a .number) _ lives
+    (λ j. record { taken = bitAnd (a .slots .taken) ((2 ^ 64 - 1) - p j); names = a .slots .names }) in
     (e, ap tableOf e ∙ drop-stored (a .slots) (bits s) (long s) (a .number))
 
 returns-2 : tie.Need-returns-2
@@ -43,4 +43,4 @@ returns-2 c =
     (e, ap tableOf e ∙ drop-stored (a .slots) (bits s) (long s) (a .number))
 
 pub drop-slots-spec : {M : Type 1} → statement M
-drop-slots-spec = tie.close (tie.spec is-live-requires shl-next returns returns-2)
+drop-slots-spec = tie.close (tie.spec is-live-requires power-requires returns returns-2)

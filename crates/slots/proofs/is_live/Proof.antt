@@ -1,7 +1,6 @@
 -- `slots::is_live` meets its contract.
 -- Assumes nothing.
 use borrow.Author.Needs.{needs}
-use borrow.Author.Tests.{lt-ltb, le-ltb}
 use mathlib.Core.Path.{_≡_, sym, _∙_}
 use Prim.Native.Nat.{_<_, _^_}
 use lib.ListN.{length}
@@ -18,14 +17,11 @@ module _ (s : tie.Start) where
   long : length (s .args .slots .names) ≡ 64
   long = search (needs, length-mapped)
 
-shr-result : tie.Need-shr-result
-shr-result c = search needs
+has-digit-requires : tie.Need-has-digit-requires
+has-digit-requires c κs = search needs
 
 returns : tie.Need-returns
-returns c = let s = c .before .before in sym (live (s .args .slots) (bits s) (long s) (s .args .number) ∙ simp (lt-ltb _ _ (c .before .if1 .taken)))
-
-returns-2 : tie.Need-returns-2
-returns-2 c = let s = c .before in sym (live (s .args .slots) (bits s) (long s) (s .args .number) ∙ simp (le-ltb _ _ (c .if1 .left)))
+returns c = let s = c .before in c .has-digit .ensures ∙ sym (live (s .args .slots) (bits s) (long s) (s .args .number))
 
 pub is-live-spec : {M : Type 1} → statement M
-is-live-spec = tie.close (tie.spec shr-result returns returns-2)
+is-live-spec = tie.close (tie.spec has-digit-requires returns)

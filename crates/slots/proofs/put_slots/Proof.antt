@@ -6,7 +6,7 @@ use Prim.Native.Nat.{_<_, _^_}
 use lib.Bits.{bitOr}
 use lib.ListN.{length, set}
 use Rattle.slot_rules.specs.Stored.{tableOf}
-use Rattle.slot_rules.proofs.Digits.{length-mapped, one-shifted}
+use Rattle.slot_rules.proofs.Digits.{length-mapped, power-small}
 use Rattle.slot_rules.proofs.Stored.{put-takes, put-leaves, put-stored}
 use Rattle.slots.proofs.put_slots.Statement.{statement}
 use Rattle.slots.proofs.put_slots.Tie as tie
@@ -22,14 +22,14 @@ module _ (s : tie.Start) where
 lowest-free-requires : tie.Need-lowest-free-requires
 lowest-free-requires c κs = search needs
 
-cast-next : tie.Need-cast-next
-cast-next c = search needs
+cast-place : tie.Need-cast-place
+cast-place c = search needs
 
-shl-next : tie.Need-shl-next
-shl-next c = search needs
+cast-power : tie.Need-cast-power
+cast-power c = search needs
 
-cast-name : tie.Need-cast-name
-cast-name c = search needs
+power-requires : tie.Need-power-requires
+power-requires c κs = search needs
 
 mul-name : tie.Need-mul-name
 mul-name c = search needs
@@ -39,12 +39,12 @@ element-set-from-name c = search needs
 
 returns : tie.Need-returns
 returns c =
-    let s = c .before .before .before in
+    let s = c .before .before .before .before in
     let a = s .args in
-    let i = c .before .before .lowest-free .result in
-    let h = c .before .if1 .taken in
-    let e = put-takes (a .slots) (bits s) (long s) _ i (a .name) (c .before .before .lowest-free .ensures) h
-    (λ j. record { taken = ap (bitOr (a .slots .taken)) (one-shifted i h) j; names = set (a .slots .names) i (a .name) }) in
+    let i = c .before .before .before .lowest-free .result in
+    let h = c .before .before .if1 .taken in
+    let e = put-takes (a .slots) (bits s) (long s) _ i (a .name) (c .before .before .before .lowest-free .ensures) h
+    (λ j. record { taken = bitOr (a .slots .taken) ((c .before .power .ensures ∙ power-small i h) j); names = set (a .slots .names) i (a .name) }) in
     (e, ap tableOf e ∙ put-stored (a .slots) (bits s) (long s) (a .name))
 
 returns-2 : tie.Need-returns-2
@@ -59,9 +59,9 @@ put-slots-spec =
     tie.close
     (tie.spec
     lowest-free-requires
-    cast-next
-    shl-next
-    cast-name
+    cast-place
+    cast-power
+    power-requires
     mul-name
     element-set-from-name
     returns
