@@ -56,6 +56,10 @@ const shape shapes[CALLS] = {
                                           BIT(KV_KEY_TO_WRAP_LENGTH) | BIT(KV_ROOM) },
     [READ_KEY_ATTRIBUTE] = { .name = "kv_read_key_attribute", .slices = 2, BYTES, .counts = { SIXTEEN, { 76, 252 } }, OUT_BYTES(192),
                              .refusals = BIT(KV_KEK_LENGTH) | FRAME_REFUSALS | BIT(KV_ROOM) | BIT(KV_INTEGRITY) },
+    /* the slots are the bytes of a slice, and the name is a number */
+    [PUT_SLOT] = { .name = "kv_put_slot", .slices = 1, BYTES, .counts = { ANY }, .numbers = { 8 }, .refusals = BIT(KV_SLOTS_FULL) },
+    [DROP_SLOT] = { .name = "kv_drop_slot", .slices = 1, BYTES, .counts = { ANY }, .numbers = { 8 }, .refusals = BIT(KV_NO_SUCH_SLOT) },
+    [LIVE_SLOTS] = { .name = "kv_live_slots", .slices = 1, BYTES, .counts = { ANY } },
 };
 
 _Noreturn void fail(const request *asked, const char *what)
@@ -103,6 +107,31 @@ static void take_key_attribute(answer *given, kv_key_attribute r)
     memcpy(given->key_id, r.key_id, 16);
 }
 
+kv_slots slots_of(slice bytes)
+{
+    kv_slots slots = { 0 };
+    if (bytes.count > 0)
+        memcpy(&slots, bytes.values, bytes.count < sizeof slots ? bytes.count : sizeof slots);
+    return slots;
+}
+
+kv_name name_of(uint64_t number)
+{
+    kv_name name;
+    for (int i = 0; i < 8; i++)
+        name.bytes[i] = (uint8_t)(number >> (56 - 8 * i));
+    return name;
+}
+
+/* The answer of a call that returns slots. A refusal returns those that it took. */
+static void take_slots(const request *asked, answer *given, kv_slots before, kv_slots_outcome r)
+{
+    expect(r.refusal == KV_ACCEPTED || memcmp(&r.slots, &before, sizeof before) == 0, asked, "a refusal that changes the slots");
+    given->refusal = r.refusal;
+    given->fields[0] = r.value;
+    given->slots = r.slots;
+}
+
 /* Calls the library on the lent buffers. A call that changes a slice is handed the last of `in`, which is lent to be written too, and
  * says in `given` which part of it may have changed. */
 static void call(const request *asked, void *const in[SLICES], void *out, answer *given)
@@ -112,6 +141,7 @@ static void call(const request *asked, void *const in[SLICES], void *out, answer
     const size_t an = asked->in[0].count, bn = asked->in[1].count, cn = asked->in[2].count, dn = asked->in[3].count;
     const size_t room = asked->room;
     const uint64_t *numbers = asked->numbers;
+    const kv_slots slots = slots_of((slice){ a, an });
     switch (asked->call) {
     case SHA256: take_outcome(given, kv_sha256(a, an, out, room), 1); break;
     case HMAC_SHA256: take_outcome(given, kv_hmac_sha256(a, an, b, bn, out, room), 1); break;
@@ -129,6 +159,9 @@ static void call(const request *asked, void *const in[SLICES], void *out, answer
                                                    d, dn, out, room), 1);
         break;
     case READ_KEY_ATTRIBUTE: take_key_attribute(given, kv_read_key_attribute(a, an, b, bn, out, room)); break;
+    case PUT_SLOT: take_slots(asked, given, slots, kv_put_slot(slots, name_of(numbers[0]))); break;
+    case DROP_SLOT: take_slots(asked, given, slots, kv_drop_slot(slots, numbers[0])); break;
+    case LIVE_SLOTS: given->fields[0] = kv_live_slots(slots); break;
     case CALLS: fail(asked, "is no call");
     }
 }

@@ -21,6 +21,9 @@ enum call {
     READ_AREA,
     WRITE_KEY_ATTRIBUTE,
     READ_KEY_ATTRIBUTE,
+    PUT_SLOT,
+    DROP_SLOT,
+    LIVE_SLOTS,
     CALLS
 };
 
@@ -71,11 +74,18 @@ typedef struct {
     uint64_t place;                 /* that a refusal carries */
     uint64_t fields[5];             /* what else the call returned, in the order of its struct */
     uint8_t kek_id[16], key_id[16]; /* of kv_read_key_attribute */
+    kv_slots slots;                 /* of kv_put_slot and kv_drop_slot */
     size_t written;                 /* values written to `out` */
     size_t changed_at, changed;     /* the values that it may have altered in the slice that it changes: from where, how many */
     uint16_t out[MOST_BYTES / 2];   /* what was written to `out` */
     uint16_t after[MOST_BYTES / 2]; /* the slice that the call changes, after the call */
 } answer;
+
+/* The slots that a slice has the bytes of, as they lie in memory; those that it does not have are 0. */
+kv_slots slots_of(slice bytes);
+
+/* A name with the bytes of a number, the high byte first. */
+kv_name name_of(uint64_t number);
 
 /* Tells what went wrong and stops the program, so that libFuzzer keeps the input. */
 _Noreturn void fail(const request *asked, const char *what);

@@ -268,6 +268,29 @@ static void check_opened(const request *asked, const answer *given)
            "written again is not the same bytes");
 }
 
+/* The slot that a put took was the lowest free one and has the name; dropped, it is free again. */
+static void check_put(const request *asked, const answer *given)
+{
+    const kv_slots before = slots_of(asked->in[0]);
+    const uint64_t number = given->fields[0];
+    const kv_name name = name_of(asked->numbers[0]);
+    expect(number < KV_SLOTS && before.taken % ((uint64_t)1 << number) == ((uint64_t)1 << number) - 1, asked, "took no slot after taken ones");
+    expect(same(&given->slots.names[number], &name, sizeof name), asked, "did not keep the name");
+    expect(kv_live_slots(given->slots) == kv_live_slots(before) + 1, asked, "the live count is not one more");
+    kv_slots_outcome dropped = kv_drop_slot(given->slots, number);
+    expect(dropped.refusal == KV_ACCEPTED && dropped.slots.taken == before.taken, asked, "cannot be dropped again");
+}
+
+/* A slot that was dropped is free, and all others are as they were. */
+static void check_drop(const request *asked, const answer *given)
+{
+    const kv_slots before = slots_of(asked->in[0]);
+    expect(given->fields[0] == asked->numbers[0], asked, "did not return the slot's number");
+    expect(kv_live_slots(given->slots) + 1 == kv_live_slots(before), asked, "the live count is not one less");
+    expect(same(given->slots.names, before.names, sizeof before.names), asked, "altered a name");
+    expect(kv_drop_slot(given->slots, asked->numbers[0]).refusal == KV_NO_SUCH_SLOT, asked, "can be dropped twice");
+}
+
 void check_relations(const request *asked, const answer *given)
 {
     switch (asked->call) {
@@ -284,6 +307,9 @@ void check_relations(const request *asked, const answer *given)
     case READ_AREA: check_area(asked, given); break;
     case WRITE_KEY_ATTRIBUTE: check_attribute(asked, given); break;
     case READ_KEY_ATTRIBUTE: check_opened(asked, given); break;
+    case PUT_SLOT: check_put(asked, given); break;
+    case DROP_SLOT: check_drop(asked, given); break;
+    case LIVE_SLOTS: expect(given->fields[0] <= KV_SLOTS, asked, "counts more slots than there are"); break;
     case CALLS: fail(asked, "is no call");
     }
 }

@@ -33,6 +33,9 @@
  * Key attributes. A key travels to a neighbour wrapped in a RADIUS Key attribute: the sender calls kv_write_key_attribute,
  * the receiver calls kv_read_key_attribute, and both hold the same KEK.
  *
+ * Slots. A controller keeps the names of its live keys in 64 slots, which are a value of the caller's: kv_put_slot and
+ * kv_drop_slot take the slots and return the slots after the call.
+ *
  * Conventions
  *
  * - A slice is a pointer and then its length. The pointer is aligned for its type, and the length counts values of that
@@ -114,6 +117,7 @@
 #define KV_WRAPPED_KEY_MAX 192
 #define KV_KEY_ATTRIBUTE_MORE 60  /* a Key attribute is so much longer than its key */
 #define KV_KEY_ATTRIBUTE_MAX 252
+#define KV_SLOTS 64               /* slots for live keys, numbered from 0 */
 
 /* The fixed labels, as texts of C: the length of one is its sizeof less 1. */
 #define KV_VRK_LABEL "EAP Visited domain Root Key"
@@ -175,7 +179,7 @@ enum {
     KV_IV_FIELD = 27,               /* IV field not eight bytes A6 */
     KV_INTEGRITY = 28,              /* unwrapping does not yield the initial value A6 (eight times) */
 
-    /* Document 02. The requests that these belong to have not landed yet, so no call gives them. */
+    /* Document 02. Of these, calls give 46 and 47; the requests that the others belong to have not landed yet. */
     KV_KDF_INPUT_PADDING = 29,      /* AT_KDF_INPUT whose padding is not zero; 18 stays for a length that disagrees */
     KV_NETWORK_NAME_DIFFERS = 30,   /* a differing network name, where the caller does not ask for lenient reading */
     KV_DOMAIN_LABEL = 31,           /* a usage request under the EMSK with the label of the domain root key */
@@ -355,6 +359,42 @@ KV_LAYOUT(sizeof(kv_key_attribute) == 52 && offsetof(kv_key_attribute, type) == 
  * 27 IV field not eight bytes A6; 6 `out` has no room for the key; 28 the unwrapping does not yield the initial value. */
 KV_USE_RESULT kv_key_attribute kv_read_key_attribute(const uint8_t *kek, size_t kek_len, const uint8_t *attribute,
                                                      size_t attribute_len, uint8_t *out, size_t out_len);
+
+/* Slots for live keys. Each of the 64 is free or holds the name of a key, which is any 8 bytes, as kv_key_name writes them.
+ * The slots are passed and returned by value, so no call alters a byte of the caller's: a program keeps the `slots` that a
+ * call returned in place of those that it had. {0} has all slots free. From there on, after any calls, the live slots
+ * are the accepted puts less the accepted drops. Any other value is taken as it is. */
+typedef struct {
+    uint8_t bytes[8];
+} kv_name;
+KV_LAYOUT(sizeof(kv_name) == 8);
+
+/* Slot i is taken where bit i of `taken` is 1, bit 0 being the lowest. A name counts only where its slot is taken. */
+typedef struct {
+    uint64_t taken;
+    kv_name names[64];
+} kv_slots;
+KV_LAYOUT(sizeof(kv_slots) == 520 && offsetof(kv_slots, names) == 8);
+
+/* What a put and a drop return: the slot's number as `value`, and the slots after the call. On a refusal `value` is 0, and
+ * `slots` is the argument, byte for byte. */
+typedef struct {
+    uint32_t refusal;
+    uint64_t value;
+    kv_slots slots;
+} kv_slots_outcome;
+KV_LAYOUT(sizeof(kv_slots_outcome) == 536 && offsetof(kv_slots_outcome, value) == 8 && offsetof(kv_slots_outcome, slots) == 16);
+
+/* Puts a name into the lowest free slot, and returns the slot's number. Nothing changes but that slot.
+ * Refusals: 46 all 64 slots are taken. */
+KV_USE_RESULT kv_slots_outcome kv_put_slot(kv_slots slots, kv_name name);
+
+/* Frees a slot, and returns its number. A put may take it again. Its name stays where it stood, and counts for nothing.
+ * Refusals: 47 the number is over 63, or that slot is free. */
+KV_USE_RESULT kv_slots_outcome kv_drop_slot(kv_slots slots, uint64_t number);
+
+/* How many slots are taken, 0 to 64. It refuses nothing. */
+KV_USE_RESULT uint32_t kv_live_slots(kv_slots slots);
 
 #ifdef __cplusplus
 }

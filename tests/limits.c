@@ -69,6 +69,17 @@ int main(void)
     IS(wrap(KV_ID_LEN, KV_KEK_LEN, KV_WRAPPED_KEY_MIN - 8, sizeof out), KV_KEY_TO_WRAP_LENGTH);
     IS(wrap(KV_ID_LEN, KV_KEK_LEN, KV_WRAPPED_KEY_MAX + 8, sizeof out), KV_KEY_TO_WRAP_LENGTH);
 
+    kv_slots slots = { 0 };
+    kv_name named = { { 'a' } };
+    for (int i = 0; i < KV_SLOTS; i++) {
+        IS(kv_put_slot(slots, named), KV_ACCEPTED);
+        slots = kv_put_slot(slots, named).slots;
+    }
+    expect(kv_live_slots(slots), KV_SLOTS, "kv_live_slots");
+    IS(kv_put_slot(slots, named), KV_SLOTS_FULL);
+    IS(kv_drop_slot(slots, KV_SLOTS - 1), KV_ACCEPTED);
+    IS(kv_drop_slot(slots, KV_SLOTS), KV_NO_SUCH_SLOT);
+
     /* the labels: each key as prf+ of its text, which for one block is the HMAC of the text and the byte 1 */
     uint8_t first[KV_DIGEST_LEN], text[] = KV_V_RRK_LABEL "\1", key[KV_VISITED_KEY_LEN], same[KV_VISITED_KEY_LEN];
     IS(kv_usage_key(bytes, 64, (const uint8_t *)KV_VRK_LABEL, sizeof KV_VRK_LABEL - 1, NULL, 0, sizeof same, same, sizeof same), KV_ACCEPTED);

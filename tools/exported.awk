@@ -1,7 +1,10 @@
 # awk -f tools/exported.awk crates/*/src/*.rt: what the header has to declare for the crates, in the form of tools/header.awk: each function
 # that is marked pub extern "C", and each struct that is marked #[repr(C)]. A slice is a pointer and a length in C. A struct's name in C is
-# its name in small letters, without 'Outcome' at its end. Lifetimes and the module of a type are nothing to C. `type` is a keyword in
+# its name in small letters, without 'Outcome' at its end where what is left is no other struct's name. Lifetimes and the module of a type are nothing to C. `type` is a keyword in
 # Rattle, where it stands as `attribute_type`.
+
+# the structs that keep 'Outcome' at their end: kv_outcome, and kv_slots_outcome, which has a kv_slots in it
+BEGIN { keeps_ending["Outcome"] = keeps_ending["SlotsOutcome"] = 1 }
 
 function c_name(name) { return name == "attribute_type" ? "type" : name }
 
@@ -13,7 +16,7 @@ function c_type(type) {
 }
 
 function struct_name(type) {
-    if (type != "Outcome") sub(/Outcome$/, "", type)
+    if (!(type in keeps_ending)) sub(/Outcome$/, "", type)
     while (match(type, /[a-z0-9][A-Z]/)) type = substr(type, 1, RSTART) "_" tolower(substr(type, RSTART + 1, 1)) substr(type, RSTART + 2)
     return "kv_" tolower(type)
 }

@@ -1,4 +1,5 @@
-/* Asks every call for everything that fuzz/seeds has, then for the accepted ones of these with a bit spoilt, then at random. Prints sums of
+/* Asks every call for everything that fuzz/seeds has, then for the accepted ones of these with a bit spoilt, then at random; then
+ * makes thousands of calls on slots, one after another. Prints sums of
  * the answers, which must be the same on every machine, and at the end which answers each call gave. perform() (fuzz/calls.h) makes
  * each request twice, with the buffers at other addresses, and checks what holds of every call. */
 #include "port.h"
@@ -9,6 +10,7 @@
 #ifndef ROUNDS
 #define ROUNDS 10000
 #endif
+#define WALK 4000
 
 static uint64_t state;
 
@@ -45,6 +47,7 @@ static void add_answer(const request *asked, const answer *given)
         add_number(given->fields[i]);
     add_bytes(given->kek_id, sizeof given->kek_id);
     add_bytes(given->key_id, sizeof given->key_id);
+    add_bytes(&given->slots, sizeof given->slots);
     add_number(given->written);
     add_number(given->changed_at);
     add_number(given->changed);
@@ -146,6 +149,29 @@ static void ask_any(void)
     free_request(&asked);
 }
 
+/* Calls on slots, each on the slots that the one before returned: from empty to full and back, over and over. Returns 0 where the live
+ * count is not the accepted puts less the accepted drops. */
+static int walk_slots(void)
+{
+    static kv_slots slots;
+    uint32_t live = 0;
+    for (uint32_t i = 1; i <= WALK; i++) {
+        int put_one = below(8) < (i / 200 % 2 == 0 ? 7 : 1);
+        kv_slots_outcome r = put_one ? kv_put_slot(slots, name_of((uint64_t)any() << 32 | any())) : kv_drop_slot(slots, below(KV_SLOTS + 2));
+        if (r.refusal == KV_ACCEPTED)
+            live += put_one ? 1 : -1u;
+        slots = r.slots;
+        add_number(r.refusal);
+        add_number(r.value);
+        add_bytes(&slots, sizeof slots);
+        if (kv_live_slots(slots) != live)
+            return 0;
+        if (i % 200 == 0)
+            put_sum("slots", i);
+    }
+    return 1;
+}
+
 /* Prints how often each call gave each answer. Returns how many answers of the header no request brought. */
 static int put_tally(void)
 {
@@ -182,5 +208,8 @@ int program(void)
         if (i % 200 == 0)
             put_sum("random", i);
     }
-    return put_tally() == 0 ? 0 : 1;
+    int counted = walk_slots();
+    if (!counted)
+        put("slots: the live count is not the accepted puts less the accepted drops\n");
+    return put_tally() == 0 && counted ? 0 : 1;
 }

@@ -45,6 +45,30 @@ pub struct KeyAttribute {
     pub key_id: [u8; 16],
 }
 
+/// The name of a key.
+#[repr(C)]
+#[derive(Clone, Copy, Debug, Default, PartialEq)]
+pub struct Name {
+    pub bytes: [u8; 8],
+}
+
+/// Slots for live keys: a bit for each that is taken, and the names.
+#[repr(C)]
+#[derive(Clone, Copy, Debug, PartialEq)]
+pub struct Slots {
+    pub taken: u64,
+    pub names: [Name; 64],
+}
+
+/// What a put and a drop answer: the slots after the call are in it.
+#[repr(C)]
+#[derive(Clone, Copy, Debug, PartialEq)]
+pub struct SlotsOutcome {
+    pub refusal: u32,
+    pub value: u64,
+    pub slots: Slots,
+}
+
 extern "C" {
     pub fn kv_sha256(message: *const u8, message_len: usize, out: *mut u8, out_len: usize) -> Outcome;
 
@@ -144,4 +168,10 @@ extern "C" {
         out: *mut u8,
         out_len: usize,
     ) -> KeyAttribute;
+
+    pub fn kv_put_slot(slots: Slots, name: Name) -> SlotsOutcome;
+
+    pub fn kv_drop_slot(slots: Slots, number: u64) -> SlotsOutcome;
+
+    pub fn kv_live_slots(slots: Slots) -> u32;
 }

@@ -73,6 +73,10 @@ fn main() -> ExitCode {
         ["kv_read_key_attribute"] "kv_read_key_attribute" => cases::key_attribute::read;
         ["kv_write_key_attribute", "kv_read_key_attribute"] "key attributes, there and back"
             => cases::key_attribute::round_trips;
+        ["kv_put_slot"] "kv_put_slot" => cases::slots::put;
+        ["kv_drop_slot"] "kv_drop_slot" => cases::slots::drop;
+        ["kv_live_slots"] "kv_live_slots" => cases::slots::live;
+        ["kv_put_slot", "kv_drop_slot", "kv_live_slots"] "slots, call after call" => cases::slots::walks;
     }
     println!("{} passed, {} failed", total.passed, total.failed);
     if total.failed == 0 {

@@ -19,10 +19,17 @@ ghost use Rattle.key_frame.specs.KeyFrame.{fieldsOf};
 ghost use Rattle.key_writer.specs.KeyWriter.{writeAnswer, writeBuffer};
 ghost use Rattle.key_reader.specs.KeyReader.{reading, readBuffer};
 ghost use Rattle.key_attribute_c.specs.Outcomes.{keyOutcome};
+ghost use Rattle.slot_rules.specs.Table.{liveCount};
+ghost use Rattle.slot_rules.specs.Calls.{putAnswer, putTable, dropAnswer, dropTable};
+ghost use Rattle.slot_rules.specs.Stored.{tableOf, putStored, dropStored};
+ghost use Rattle.slots_c.specs.Outcomes.{slotsOutcome};
 use area_c::AreaOutcome;
 use key_attribute_c::KeyAttributeOutcome;
 use offers_c::FirstRoundOutcome;
 use outcome::Outcome;
+use slot_rules::Name;
+use slot_rules::Slots;
+use slots_c::SlotsOutcome;
 
 // ---- SHA-256 and HMAC-SHA-256
 
@@ -198,4 +205,32 @@ pub extern "C" fn kv_read_key_attribute(
     ensures buffer { λ _. ⌜ now (out .exit) ≡ readBuffer (now (kek .entry)) (now (attribute .entry)) (now (out .entry)) ⌝ }
 {
     key_attribute_c::read_key_attribute(kek, attribute, out)
+}
+
+// ---- slots
+
+// Document 02, request 12: a name is put into the lowest free slot.
+#[no_mangle]
+pub extern "C" fn kv_put_slot(slots: Slots, name: Name) -> SlotsOutcome
+    ensures stored { λ r. ⌜ r ≡ slotsOutcome (outcomeOf (putAnswer (tableOf slots))) (putStored slots name) ⌝ }
+    ensures table { λ r. ⌜ tableOf (r .slots) ≡ putTable (tableOf slots) name ⌝ }
+{
+    slots_c::put_slot(slots, name)
+}
+
+// Document 02, request 12: a slot is freed.
+#[no_mangle]
+pub extern "C" fn kv_drop_slot(slots: Slots, number: u64) -> SlotsOutcome
+    ensures stored { λ r. ⌜ r ≡ slotsOutcome (outcomeOf (dropAnswer (tableOf slots) number)) (dropStored slots number) ⌝ }
+    ensures table { λ r. ⌜ tableOf (r .slots) ≡ dropTable (tableOf slots) number ⌝ }
+{
+    slots_c::drop_slot(slots, number)
+}
+
+// Document 02, request 12: the live slots are counted.
+#[no_mangle]
+pub extern "C" fn kv_live_slots(slots: Slots) -> u32
+    ensures { λ r. ⌜ r ≡ liveCount (tableOf slots) ⌝ }
+{
+    slots_c::live_slots(slots)
 }

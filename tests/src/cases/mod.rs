@@ -8,6 +8,7 @@ pub mod key_name;
 pub mod offers;
 pub mod paper;
 pub mod published;
+pub mod slots;
 pub mod usage;
 pub mod visited;
 

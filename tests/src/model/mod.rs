@@ -5,6 +5,7 @@ pub mod key_attribute;
 pub mod key_name;
 pub mod offers;
 pub mod prf;
+pub mod slots;
 pub mod usage;
 pub mod visited;
 

@@ -1,0 +1,4 @@
+pub mod Digits
+pub mod Tables
+pub mod Statements
+pub mod Stored

@@ -1,0 +1,34 @@
+// Binary digits of a word of 64. Both functions shift halves of 32 bits: Cortex-M0+ has no shift of 64 bits by a number that is not known before,
+// and the compiler would call a function of its own for it, which the library is not to need.
+ghost use mathlib.Core.Path.{_≡_};
+ghost use Prim.Native.Nat.{_%_, _^_};
+ghost use Rattle.slot_rules.specs.Table.{hasDigit};
+
+// Whether digit i is set; none is from 64 on.
+pub fn has_digit(word: u64, i: u64) -> bool
+    ensures { λ r. ⌜ r ≡ hasDigit word i ⌝ }
+{
+    let low = (word % 0x1_0000_0000) as u32;
+    let high = (word / 0x1_0000_0000) as u32;
+    if i < 32 {
+        (low >> i) % 2 == 1
+    } else if i < 64 {
+        (high >> (i - 32)) % 2 == 1
+    } else {
+        false
+    }
+}
+
+// The word with digit i alone set; from 64 on no digit is.
+pub fn power(i: u64) -> u64
+    ensures { λ r. ⌜ r ≡ 2 ^ i % 2 ^ 64 ⌝ }
+{
+    let one: u32 = 1;
+    if i < 32 {
+        (one << i) as u64
+    } else if i < 64 {
+        (one << (i - 32)) as u64 * 0x1_0000_0000
+    } else {
+        0
+    }
+}

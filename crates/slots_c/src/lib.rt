@@ -1,0 +1,67 @@
+// The calls of the C interface on slots: kv_put_slot, kv_drop_slot and kv_live_slots. The slots are passed by value, and come back with the
+// answer.
+ghost use mathlib.Core.Path.{_≡_};
+ghost use Rattle.outcome.specs.Outcomes.{outcomeOf};
+ghost use Rattle.slot_rules.specs.Table.{liveCount};
+ghost use Rattle.slot_rules.specs.Calls.{putAnswer, putTable, dropAnswer, dropTable};
+ghost use Rattle.slot_rules.specs.Stored.{tableOf, putStored, dropStored};
+ghost use Rattle.slots.specs.Answers.{answerOf};
+ghost use Rattle.slots_c.specs.Outcomes.{slotsOutcome};
+use outcome::Outcome;
+use slot_rules::Name;
+use slot_rules::Slots;
+use slots::SlotAnswer;
+
+// What a put and a drop return to C: 0 and the slot's number, or the refusal's number and 0; and the slots after the call.
+#[repr(C)]
+pub struct SlotsOutcome {
+    pub refusal: u32,
+    pub value: u64,
+    pub slots: Slots,
+}
+
+// The answer of a call on slots, for C.
+fn returned(answer: SlotAnswer) -> Outcome
+    ensures { λ r. ⌜ r ≡ outcomeOf (answerOf answer) ⌝ }
+{
+    match answer {
+        SlotAnswer::Number(n) => Outcome {
+            refusal: 0,
+            value: n,
+        },
+        SlotAnswer::Refused(why) => outcome::refused(why),
+    }
+}
+
+// A name is put into the lowest free slot.
+pub fn put_slot(slots: Slots, name: Name) -> SlotsOutcome
+    ensures stored { λ r. ⌜ r ≡ slotsOutcome (outcomeOf (putAnswer (tableOf slots))) (putStored slots name) ⌝ }
+    ensures table { λ r. ⌜ tableOf (r .slots) ≡ putTable (tableOf slots) name ⌝ }
+{
+    let answer = returned(slots::put_answer(slots));
+    SlotsOutcome {
+        refusal: answer.refusal,
+        value: answer.value,
+        slots: slots::put_slots(slots, name),
+    }
+}
+
+// A slot is freed.
+pub fn drop_slot(slots: Slots, number: u64) -> SlotsOutcome
+    ensures stored { λ r. ⌜ r ≡ slotsOutcome (outcomeOf (dropAnswer (tableOf slots) number)) (dropStored slots number) ⌝ }
+    ensures table { λ r. ⌜ tableOf (r .slots) ≡ dropTable (tableOf slots) number ⌝ }
+{
+    let answer = returned(slots::drop_answer(slots, number));
+    SlotsOutcome {
+        refusal: answer.refusal,
+        value: answer.value,
+        slots: slots::drop_slots(slots, number),
+    }
+}
+
+// The live slots are counted.
+pub fn live_slots(slots: Slots) -> u32
+    ensures { λ r. ⌜ r ≡ liveCount (tableOf slots) ⌝ }
+{
+    slots::live(slots)
+}
