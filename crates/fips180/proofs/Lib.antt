@@ -4,6 +4,7 @@ pub mod Padding
 pub mod Blocks
 mod Schedule
 pub mod Sha1Schedule
+pub mod Sha1Rounds
 pub mod Sha256Schedule
 pub mod Window
 pub mod Stream

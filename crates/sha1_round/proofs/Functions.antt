@@ -1,11 +1,12 @@
--- SHA-1's functions as the code computes them: of y and z before their rotation, with one rotation for both. A round, from its sum.
+-- SHA-1's functions as the code computes them: of y and z before their rotation, with one rotation for both. A round, from its sum, and the values kept of a hash value.
 -- Assumes nothing.
-use mathlib.Core.Path.{_≡_, ap, _∙_}
+use mathlib.Core.Path.{_≡_, refl, ap, _∙_}
 use mathlib.Core.List.{List, [], _∷_}
 use Prim.Native.Nat.{ℕ, _+_, _%_, _^_, _<_}
 use native.Mathlib.Nat.{mod-add-mod}
+use native.Mathlib.Omega.{arith}
 use lib.Bits.{bitXor, bitAnd}
-use lib.ListN.{getD}
+use lib.ListN.{length, getD}
 use Rattle.fips180.specs.Words.{ROTL, Ch, Maj}
 use Rattle.fips180.specs.Sha1.{Parity, T, step}
 use Rattle.fips180.proofs.Bits.{xor, xor-assoc, one-and-ch, sum-maj}
@@ -35,3 +36,18 @@ stepped s v k w ea ep ee eq er et =
     let four = er ∙ ap (λ (n : ℕ). (n + k) % 2 ^ 32) three ∙ mod-add-mod (ROTL 5 (getD s 0 0) + v + ROTL 30 (getD s 4 0)) (2 ^ 32) k in
     let five = et ∙ ap (λ (n : ℕ). (n + w) % 2 ^ 32) four ∙ mod-add-mod (ROTL 5 (getD s 0 0) + v + ROTL 30 (getD s 4 0) + k) (2 ^ 32) w in
     λ i. five i ∷ getD s 0 0 ∷ ROTL 30 (getD s 1 0) ∷ ROTL 30 (getD s 2 0) ∷ ROTL 30 (getD s 3 0) ∷ []
+
+-- a hash value's working variables, from the values kept of it
+pub kept-variables : (h : List ℕ) (c d e : ℕ) → length h ≡ 5 → ROTL 30 c ≡ getD h 2 0 → ROTL 30 d ≡ getD h 3 0 → ROTL 30 e ≡ getD h 4 0
+    → variables (getD h 0 0 ∷ getD h 1 0 ∷ c ∷ d ∷ e ∷ []) ≡ h
+unfolding variables
+kept-variables h c d e l ec ed ee = (λ i. getD h 0 0 ∷ getD h 1 0 ∷ ec i ∷ ed i ∷ ee i ∷ []) ∙ listed h l
+  where
+    listed : (h : List ℕ) → length h ≡ 5 → getD h 0 0 ∷ getD h 1 0 ∷ getD h 2 0 ∷ getD h 3 0 ∷ getD h 4 0 ∷ [] ≡ h
+    listed [] l = absurd (omega arith)
+    listed (a ∷ []) l = absurd (omega arith)
+    listed (a ∷ b ∷ []) l = absurd (omega arith)
+    listed (a ∷ b ∷ c ∷ []) l = absurd (omega arith)
+    listed (a ∷ b ∷ c ∷ d ∷ []) l = absurd (omega arith)
+    listed (a ∷ b ∷ c ∷ d ∷ e ∷ []) l = refl
+    listed (a ∷ b ∷ c ∷ d ∷ e ∷ f ∷ g) l = absurd (omega arith)

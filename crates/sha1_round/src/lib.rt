@@ -49,6 +49,33 @@ pub fn next_word(w3: u32, w8: u32, w14: u32, w16: u32) -> u32
     (x << 1) | (x >> 31)
 }
 
+// The word that comes to x when it is rotated by 30 bits.
+fn unrotated(x: u32) -> u32
+    ensures { λ r. ⌜ Words.ROTL 30 r ≡ x ⌝ }
+{
+    rotl(x, 2)
+}
+
+// The values kept that the working variables of a hash value come from.
+pub fn kept(h: [u32; 5]) -> [u32; 5]
+    ensures { λ r. ⌜ variables r ≡ h ⌝ }
+{
+    [
+        h[0],
+        h[1],
+        unrotated(h[2]),
+        unrotated(h[3]),
+        unrotated(h[4]),
+    ]
+}
+
+// The working variables, from the values kept.
+pub fn variables_of(s: [u32; 5]) -> [u32; 5]
+    ensures { λ r. ⌜ r ≡ variables s ⌝ }
+{
+    [s[0], s[1], rotl(s[2], 30), rotl(s[3], 30), rotl(s[4], 30)]
+}
+
 // A round, with what its function gives, its constant and its word of the schedule.
 fn step(s: [u32; 5], v: u32, k: u32, w: u32) -> [u32; 5]
     ensures { λ r. ⌜ variables r ≡ Sha1.step v k w (variables s) ⌝ }
