@@ -2,7 +2,7 @@
 -- Assumes nothing.
 use Prim.Native.Nat.{ℕ, zero, suc, _+_, _<_}
 use mathlib.Core.Path.{_≡_, refl, sym, _∙_}
-use mathlib.Core.Bool.{Bool, true, false, _||_}
+use mathlib.Core.Bool.{true, false}
 use mathlib.Core.List.{List, [], _∷_}
 use native.Mathlib.Nat.{add-zero, zero-add}
 use native.Mathlib.Omega.{arith}
@@ -11,20 +11,9 @@ use Rattle.slices.specs.Same.{sameList}
 use Rattle.slices.proofs.Same.{equal-same}
 use Rattle.bundle_rules.specs.Bundle.{idStands, idRepeats, Line, lineAt, linesFrom, countIn, linesIn, idsOf}
 use Rattle.bundle_rules.specs.Statements.{NoneTwice, Longest}
+use Rattle.bundle_rules.proofs.Laws.{or-left, or-right, or-true}
 use Rattle.bundle_rules.proofs.Reading.{contents, Whole, Laid, next, laid, laid-length}
 use Rattle.bundle_rules.proofs.FileBack.{length-lines}
-
-pub or-left : (a b : Bool) → (a || b) ≡ false → a ≡ false
-or-left true b e = e
-or-left false b e = refl
-
-pub or-right : (a b : Bool) → (a || b) ≡ false → b ≡ false
-or-right true b e = cc
-or-right false b e = e
-
-pub or-true : (a : Bool) → (a || true) ≡ true
-or-true true = refl
-or-true false = refl
 
 -- a Key ID at a place of a list stands in it
 stands-at : (ids : List (List ℕ)) (j : ℕ) → j < length ids → idStands (getD ids j []) ids ≡ true

@@ -15,10 +15,11 @@ use Rattle.refusal.proofs.Passing.{within-low, within-high, before-passed, last
 use Rattle.key_frame.proofs.Told.{told-count}
 use Rattle.bundle_rules.specs.Bundle.{contentsEnd, keyIdIn, idRepeats, fileOf, packed, framesCheck, fileLength, packedCheck, writeCheck, writeAnswer, writeBuffer, countIn, bodiesOf, packedIn, bundleCheck, readCheck, readAnswer, readBuffer}
 use Rattle.bundle_rules.specs.Statements.{WrittenReads, ReadWrites, OneFile}
+use Rattle.bundle_rules.proofs.Laws.{within-holds}
 use Rattle.bundle_rules.proofs.Packing.{packed-back, concat-packed}
 use Rattle.bundle_rules.proofs.Reading.{contents, laid, laid-concat, laid-frames, laid-ids}
 use Rattle.bundle_rules.proofs.FileBack.{length-bodies, file-back}
-use Rattle.bundle_rules.proofs.Written.{within-holds, file-size, packed-read, file-passes}
+use Rattle.bundle_rules.proofs.Written.{file-size, packed-read, file-passes}
 
 -- ---- what is written reads back
 

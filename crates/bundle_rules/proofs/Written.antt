@@ -16,6 +16,7 @@ use Rattle.slices.specs.Numbers.{be16, be16At}
 use Rattle.key_frame.specs.KeyFrame.{fieldsIn}
 use Rattle.bundle_rules.specs.Bundle.{contentsEnd, keyIdIn, concat, idRepeats, lineOf, linesOf, fileOf, framesCheck, Line, lineAt, linesFrom, countIn, linesIn, follow, lastEnd, bodyOf, idsOf, packedIn, bodiesCheck, contentsCheck, bundleCheck}
 use Rattle.bundle_rules.proofs.Bytes.{two-back, number-drop}
+use Rattle.bundle_rules.proofs.Laws.{within-holds}
 use Rattle.bundle_rules.proofs.Packing.{Sized, sized, first-frame, later-frames}
 
 -- ---- lengths
@@ -125,10 +126,6 @@ wanted-bodies f at (b ∷ bodies) c e =
     rw same (both-pass _ _ frame (wanted-bodies f (at + length b) bodies (later-frames b bodies c) rest))
 
 -- ---- the file
-
-pub within-holds : (lo hi n : ℕ) → lo ≤ n → n ≤ hi → within lo hi n ≡ true
-unfolding within
-within-holds lo hi n l h = rw (le-leb lo n l, le-leb n hi h)
 
 both : (a b : Bool) → a ≡ true → b ≡ true → (a && b) ≡ true
 both a b p q = rw (p, q)

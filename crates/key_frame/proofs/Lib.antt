@@ -1,3 +1,4 @@
 pub mod Told
 pub mod Frames
 pub mod ByValue
+pub mod Parts
