@@ -25,7 +25,7 @@ use Rattle.key_frame.proofs.Frames.{KeyLength, key-length}
 use Rattle.key_frame.proofs.ByValue.{sixteen-whole}
 use Rattle.key_writer.specs.KeyWriter.{attributeLength, attribute, check21, writeCheck, writeAnswer, writeBuffer}
 use Rattle.refusal.proofs.Answering.{told-count, told-refusal}
-use Rattle.key_writer.proofs.Parts.{put-from}
+use Rattle.key_frame.proofs.Parts.{put-from}
 
 -- the tests before the wrapping
 abbrev pub named : KeyFields → List ℕ → Check

@@ -1,0 +1,4 @@
+pub mod Numbers
+pub mod Walking
+pub mod Bodies
+pub mod Tests

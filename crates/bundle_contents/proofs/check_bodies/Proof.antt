@@ -1,0 +1,138 @@
+-- `bundle_contents::check_bodies` meets its contract.
+-- Assumes nothing.
+use denote.Ref.{now}
+use Prim.Native.Nat.{_≤_, _-_}
+use mathlib.Core.Path.{_≡_, refl, sym, ap, _∙_}
+use native.Mathlib.Nat.{sub-zero}
+use native.Mathlib.Omega.{arith}
+use borrow.Author.Needs.{needs}
+use Rattle.refusal.specs.Answers.{checkedAs}
+use Rattle.bundle_rules.specs.Bundle.{linesFrom, bodiesCheck}
+use Rattle.bundle_contents.specs.Internal.{Inside}
+use Rattle.bundle_contents.proofs.Bodies.{inside-here, inside-on, bodies-stop, bodies-on, bodies-done, body-told}
+use Rattle.bundle_contents.proofs.check_bodies.Statement.{statement}
+use Rattle.bundle_contents.proofs.check_bodies.Tie as tie
+
+abbrev Inv-loop : tie.InvT-loop
+Inv-loop file n i₀ i = (i ≤ n) × Inside file (linesFrom file i (n - i)) × (bodiesCheck file (linesFrom file 0 n) ≡ bodiesCheck file (linesFrom file i (n - i)))
+
+abbrev μ-loop : tie.MeasureT-loop
+μ-loop file n i₀ i = n - i
+
+loop-holds : tie.Need-loop-holds Inv-loop μ-loop
+loop-holds c = (omega arith, rw sub-zero (c .before .pre .1 .1), rw sub-zero)
+
+mul-at : tie.Need-mul-at Inv-loop μ-loop
+mul-at c = omega arith
+
+add-at : tie.Need-add-at Inv-loop μ-loop
+add-at c = omega arith
+
+add-id-end : tie.Need-add-id-end Inv-loop μ-loop
+add-id-end c = omega arith
+
+mul-number-at : tie.Need-mul-number-at Inv-loop μ-loop
+mul-number-at c = omega arith
+
+add-number-at : tie.Need-add-number-at Inv-loop μ-loop
+add-number-at c = omega arith
+
+number-at-requires : tie.Need-number-at-requires Inv-loop μ-loop
+number-at-requires c κs = search needs
+
+mul-number-at-2 : tie.Need-mul-number-at-2 Inv-loop μ-loop
+mul-number-at-2 c = omega arith
+
+add-number-at-2 : tie.Need-add-number-at-2 Inv-loop μ-loop
+add-number-at-2 c = omega arith
+
+number-at-requires-2 : tie.Need-number-at-requires-2 Inv-loop μ-loop
+number-at-requires-2 c κs = search needs
+
+add-end : tie.Need-add-end Inv-loop μ-loop
+add-end c = omega arith
+
+sub-check-body : tie.Need-sub-check-body Inv-loop μ-loop
+sub-check-body c = omega arith
+
+part-check-body-start : tie.Need-part-check-body-start Inv-loop μ-loop
+part-check-body-start c = omega arith
+
+part-check-body-end : tie.Need-part-check-body-end Inv-loop μ-loop
+part-check-body-end c = omega arith
+
+sub-check-body-2 : tie.Need-sub-check-body-2 Inv-loop μ-loop
+sub-check-body-2 c = omega arith
+
+part-check-body-start-2 : tie.Need-part-check-body-start-2 Inv-loop μ-loop
+part-check-body-start-2 c = omega arith
+
+part-check-body-end-2 : tie.Need-part-check-body-end-2 Inv-loop μ-loop
+part-check-body-end-2 c =
+    let l = c .before .before .before .before .loop in
+    omega (arith, inside-here _ (l .i) _ _ _ (omega arith) (l .inv .1) (c .before .before .number-at .ensures .0) (c .before .number-at2 .ensures .0))
+
+check-body-requires : tie.Need-check-body-requires Inv-loop μ-loop
+check-body-requires c κs = search needs
+
+enum-known-why : tie.Need-enum-known-why Inv-loop μ-loop
+enum-known-why c = search needs
+
+returns : tie.Need-returns Inv-loop μ-loop
+returns c =
+    let k = c .before .before .before .before .before in
+    let l = k .before .before .before .before .loop in
+    bodies-stop _ (l .i) _ _ _ (omega arith) (k .before .before .number-at .ensures .0) (k .before .number-at2 .ensures .0) (l .inv .2) (body-told (now (k .before .before .before .before .before .before .args .file)) (l .i) (k .before .before .number-at .result) (k .before .number-at2 .result) (c .before .before .before .check-body .ensures) ∙ ap checkedAs (c .before .why .given .1))
+
+enum-told : tie.Need-enum-told Inv-loop μ-loop
+enum-told c = search needs
+
+add-i : tie.Need-add-i Inv-loop μ-loop
+add-i c = omega arith
+
+loop-less : tie.Need-loop-less Inv-loop μ-loop
+loop-less c = omega arith
+
+loop-again : tie.Need-loop-again Inv-loop μ-loop
+loop-again c =
+    let k = c .before .before .before .before in
+    let l = k .before .before .before .before .loop in (
+      omega arith,
+      inside-on _ (l .i) _ (omega arith) (l .inv .1),
+      bodies-on _ (l .i) _ _ _ (omega arith) (k .before .before .number-at .ensures .0) (k .before .number-at2 .ensures .0) (l .inv .2) (body-told (now (k .before .before .before .before .before .before .args .file)) (l .i) (k .before .before .number-at .result) (k .before .number-at2 .result) (c .before .before .check-body .ensures) ∙ ap checkedAs (c .enum-told .given .1)),
+    )
+
+returns-2 : tie.Need-returns-2 Inv-loop μ-loop
+returns-2 c = let l = c .before .loop in bodies-done _ (l .i) _ (omega arith) (l .inv .2)
+
+pub check-bodies-spec : {M : Type 1} → statement M
+check-bodies-spec =
+    tie.close
+    (tie.spec
+    Inv-loop
+    μ-loop
+    loop-holds
+    mul-at
+    add-at
+    add-id-end
+    mul-number-at
+    add-number-at
+    number-at-requires
+    mul-number-at-2
+    add-number-at-2
+    number-at-requires-2
+    add-end
+    sub-check-body
+    part-check-body-start
+    part-check-body-end
+    sub-check-body-2
+    part-check-body-start-2
+    part-check-body-end-2
+    check-body-requires
+    enum-known-why
+    returns
+    enum-told
+    add-i
+    loop-less
+    loop-again
+    returns-2)

@@ -1,0 +1,163 @@
+-- Attributes packed end to end, walked from the first on: one law for each way on in the loops.
+-- Assumes nothing.
+use Prim.Native.Nat.{ℕ, zero, suc, _+_, _-_, _≤_, _<_}
+use mathlib.Core.Path.{_≡_, refl, sym, ap, _∙_}
+use mathlib.Core.Bool.{Bool, true, false, cond, _&&_, and-false}
+use mathlib.Core.List.{List, [], _∷_, _++_, map}
+use native.Mathlib.Omega.{arith}
+use borrow.Author.Tests.{le-leb, lt-leb, leb-true}
+use lib.Dec.{leb}
+use lib.ListN.{length, take, drop, getD, length-drop, length-take, length-append, take-append-drop, drop-of-length-le}
+use lib.Seq.{drop-drop, length-take-le, take-append-le, drop-append-le}
+use Rattle.refusal.specs.Checks.{Reason, Check, pass, refuse, _andThen_}
+use Rattle.slices.specs.Same.{sameList}
+use Rattle.refusal.proofs.Passing.{first-refuses}
+use Rattle.slices.proofs.Truth.{and-right}
+use Rattle.slices.proofs.Lists.{rest-drop}
+use Rattle.key_frame.specs.KeyFrame.{fieldsIn, frameCheck}
+use Rattle.bundle_rules.specs.Bundle.{keyIdIn, idStands, idRepeats, leads, bodyLength, packed, framesCheck}
+use Rattle.bundle_rules.proofs.Laws.{passed-then}
+use Rattle.bundle_rules.proofs.Packing.{Sized, sized, first-frame, later-frames, body-some, packed-next, packed-none}
+
+-- ---- the first body's length
+
+pub length-short : (bytes : List ℕ) → length bytes < 2 → length bytes ≡ bodyLength bytes
+unfolding bodyLength
+length-short [] h = refl
+length-short (x ∷ []) h = refl
+length-short (x ∷ y ∷ t) h = absurd (omega arith)
+
+pub length-low : (bytes : List ℕ) (n : ℕ) → n ≡ getD bytes 1 0 → n < 2 → length bytes ≡ bodyLength bytes
+unfolding bodyLength
+length-low bytes n q h = rw (← q, lt-leb 2 n h)
+
+pub length-past : (bytes : List ℕ) (n : ℕ) → n ≡ getD bytes 1 0 → length bytes < n → length bytes ≡ bodyLength bytes
+unfolding bodyLength
+length-past bytes n q h = rw (← q, lt-leb n (length bytes) h, and-false)
+
+pub length-byte : (bytes : List ℕ) (n : ℕ) → n ≡ getD bytes 1 0 → 2 ≤ n → n ≤ length bytes → n ≡ bodyLength bytes
+unfolding bodyLength
+length-byte bytes n q l h = rw (← q, le-leb 2 n l, le-leb n (length bytes) h)
+
+body-fits : (bytes : List ℕ) → bodyLength bytes ≤ length bytes
+unfolding bodyLength
+body-fits bytes = go (leads bytes) refl
+  where
+    go : (t : Bool) → leads bytes ≡ t → cond t (getD bytes 1 0) (length bytes) ≤ length bytes
+    go true e = leb-true _ _ (and-right (leb 2 (getD bytes 1 0)) _ e)
+    go false e = omega arith
+
+-- ---- a step from a place of the bytes
+
+-- where a body begins and how long it is
+pub record Step (bytes : List ℕ) (at n : ℕ) : Type 0 where
+  pub some : 1 ≤ n
+  pub inside : at + n ≤ length bytes
+  pub next : packed (drop at bytes) ≡ take n (drop at bytes) ∷ packed (drop (at + n) bytes)
+
+pub step : (bytes : List ℕ) (at n : ℕ) → at < length bytes → n ≡ bodyLength (take (length bytes - at) (drop at bytes)) → Step bytes at n
+step bytes at n h e =
+    let q : n ≡ bodyLength (drop at bytes) = e ∙ ap bodyLength (rest-drop at bytes) in
+    let d = length-drop at bytes in
+    let s = body-some (drop at bytes) (omega arith) in
+    let f = body-fits (drop at bytes) in
+    let p = packed-next (drop at bytes) (omega arith) in
+    record {
+      some = omega arith;
+      inside = omega arith;
+      next = rw (← q, drop-drop n at bytes) at p;
+    }
+
+-- nothing is left at the end
+pub none-left : (bytes : List ℕ) (at : ℕ) → length bytes ≤ at → packed (drop at bytes) ≡ []
+none-left bytes at h = ap packed (drop-of-length-le bytes h) ∙ packed-none
+
+part-of : (at n : ℕ) (bytes : List ℕ) → take (at + n - at) (drop at bytes) ≡ take n (drop at bytes)
+part-of at n bytes = let m : at + n - at ≡ n = omega arith in rw m
+
+-- ---- the frames
+
+pub frames-stop : (bytes : List ℕ) (at n : ℕ) {whole : Check} {x : Reason} → Step bytes at n → frameCheck (take (at + n - at) (drop at bytes)) ≡ refuse x
+    → whole ≡ framesCheck (packed (drop at bytes)) → refuse x ≡ whole
+unfolding framesCheck
+frames-stop bytes at n s e inv = rw (s .next) (first-refuses _ _ (rw (part-of at n bytes) at e)) ∙ sym inv
+
+pub frames-on : (bytes : List ℕ) (at n : ℕ) {whole : Check} → Step bytes at n → frameCheck (take (at + n - at) (drop at bytes)) ≡ pass
+    → whole ≡ framesCheck (packed (drop at bytes)) → whole ≡ framesCheck (packed (drop (at + n) bytes))
+unfolding framesCheck
+frames-on bytes at n s e inv = inv ∙ rw (s .next) (passed-then _ _ (rw (part-of at n bytes) at e))
+
+pub frames-end : (bytes : List ℕ) (at : ℕ) {whole : Check} → length bytes ≤ at → whole ≡ framesCheck (packed (drop at bytes)) → pass ≡ whole
+unfolding framesCheck
+frames-end bytes at h inv = sym (inv ∙ rw (none-left bytes at h))
+
+-- ---- the count
+
+pub count-on : (bytes : List ℕ) (at n k : ℕ) {whole : ℕ} → Step bytes at n → whole ≡ k + length (packed (drop at bytes)) → whole ≡ k + 1 + length (packed (drop (at + n) bytes))
+count-on bytes at n k s inv = let l = ap length (s .next) in omega arith
+
+pub count-end : (bytes : List ℕ) (at k : ℕ) {whole : ℕ} → length bytes ≤ at → whole ≡ k + length (packed (drop at bytes)) → k ≡ whole
+count-end bytes at k h inv = let l = ap length (none-left bytes at h) in omega arith
+
+-- ---- Key IDs, where all frames pass
+
+-- what follows a body does not alter its Key ID
+id-alone : (b rest : List ℕ) → Sized b → keyIdIn (b ++ rest) ≡ keyIdIn b
+unfolding keyIdIn fieldsIn
+id-alone b rest s =
+    let l = s .low in
+    let d = length-drop 24 b in
+    let h : 24 ≤ length b = omega arith in
+    let g : 16 ≤ length (drop 24 b) = omega arith in
+    rw (drop-append-le 24 b rest h) (take-append-le 16 (drop 24 b) rest g)
+
+-- the first body where all frames pass
+pub first-sized : (bytes : List ℕ) (at n : ℕ) → Step bytes at n → framesCheck (packed (drop at bytes)) ≡ pass → Sized (take n (drop at bytes))
+first-sized bytes at n s c = sized _ (first-frame (take n (drop at bytes)) (packed (drop (at + n) bytes)) (rw (s .next) at c))
+
+pub later-pass : (bytes : List ℕ) (at n : ℕ) → Step bytes at n → framesCheck (packed (drop at bytes)) ≡ pass → framesCheck (packed (drop (at + n) bytes)) ≡ pass
+later-pass bytes at n s c = later-frames (take n (drop at bytes)) (packed (drop (at + n) bytes)) (rw (s .next) at c)
+
+pub id-part : (bytes : List ℕ) (at n : ℕ) → Step bytes at n → framesCheck (packed (drop at bytes)) ≡ pass
+    → take (at + 40 - (at + 24)) (drop (at + 24) bytes) ≡ keyIdIn (take n (drop at bytes))
+unfolding keyIdIn fieldsIn
+id-part bytes at n s c =
+    let m : at + 40 - (at + 24) ≡ 16 = omega arith in
+    rw (m, ← drop-drop 24 at bytes)
+    (ap keyIdIn (sym (take-append-drop n (drop at bytes))) ∙ id-alone (take n (drop at bytes)) (drop n (drop at bytes)) (first-sized bytes at n s c))
+
+pub stands-here : (id here bytes : List ℕ) (at n : ℕ) {whole : Bool} → Step bytes at n → here ≡ keyIdIn (take n (drop at bytes)) → sameList here id ≡ true
+    → whole ≡ idStands id (map keyIdIn (packed (drop at bytes))) → true ≡ whole
+unfolding idStands
+stands-here id here bytes at n s o e inv = sym (inv ∙ rw (s .next, ← o, e))
+
+pub stands-on : (id here bytes : List ℕ) (at n : ℕ) {whole : Bool} → Step bytes at n → here ≡ keyIdIn (take n (drop at bytes)) → sameList here id ≡ false
+    → whole ≡ idStands id (map keyIdIn (packed (drop at bytes))) → whole ≡ idStands id (map keyIdIn (packed (drop (at + n) bytes)))
+unfolding idStands
+stands-on id here bytes at n s o e inv = inv ∙ rw (s .next, ← o, e)
+
+pub stands-not : (id bytes : List ℕ) (at : ℕ) {whole : Bool} → length bytes ≤ at → whole ≡ idStands id (map keyIdIn (packed (drop at bytes))) → false ≡ whole
+unfolding idStands
+stands-not id bytes at h inv = sym (inv ∙ rw (none-left bytes at h))
+
+pub repeats-here : (here bytes : List ℕ) (at n : ℕ) {whole : Bool} → Step bytes at n → here ≡ keyIdIn (take n (drop at bytes)) → idStands here (map keyIdIn (packed (drop (at + n) bytes))) ≡ true
+    → whole ≡ idRepeats (map keyIdIn (packed (drop at bytes))) → true ≡ whole
+unfolding idRepeats
+repeats-here here bytes at n s o e inv = sym (inv ∙ rw (s .next, ← o, e))
+
+pub repeats-on : (here bytes : List ℕ) (at n : ℕ) {whole : Bool} → Step bytes at n → here ≡ keyIdIn (take n (drop at bytes)) → idStands here (map keyIdIn (packed (drop (at + n) bytes))) ≡ false
+    → whole ≡ idRepeats (map keyIdIn (packed (drop at bytes))) → whole ≡ idRepeats (map keyIdIn (packed (drop (at + n) bytes)))
+unfolding idRepeats
+repeats-on here bytes at n s o e inv = inv ∙ rw (s .next, ← o, e)
+
+pub repeats-not : (bytes : List ℕ) (at : ℕ) {whole : Bool} → length bytes ≤ at → whole ≡ idRepeats (map keyIdIn (packed (drop at bytes))) → false ≡ whole
+unfolding idRepeats
+repeats-not bytes at h inv = sym (inv ∙ rw (none-left bytes at h))
+
+-- a body has at least 76 bytes
+pub body-long : (bytes : List ℕ) (at n : ℕ) → Step bytes at n → framesCheck (packed (drop at bytes)) ≡ pass → at + 76 ≤ length bytes
+body-long bytes at n s c =
+    let l = first-sized bytes at n s c in
+    let t = length-take n (drop at bytes) in
+    let d = length-drop at bytes in
+    omega (arith, l .low, s .inside)

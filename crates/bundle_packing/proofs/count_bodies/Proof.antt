@@ -1,0 +1,112 @@
+-- `bundle_packing::count_bodies` meets its contract.
+-- Assumes nothing.
+use Prim.Native.Nat.{_+_, _≤_, _-_}
+use mathlib.Core.Path.{_≡_, refl, sym, ap, _∙_}
+use native.Mathlib.Omega.{arith}
+use borrow.Author.Needs.{needs}
+use denote.Ref.{now}
+use lib.ListN.{length, drop}
+use Rattle.refusal.specs.Answers.{checkedAs}
+use Rattle.bundle_rules.specs.Bundle.{packed, framesCheck}
+use Rattle.bundle_packing.proofs.Walking.{Step, step, frames-stop, frames-on, frames-end, count-on, count-end}
+use Rattle.bundle_packing.proofs.Testing.{told, refused-count}
+use Rattle.bundle_packing.proofs.count_bodies.Statement.{statement}
+use Rattle.bundle_packing.proofs.count_bodies.Tie as tie
+
+abbrev Inv-loop : tie.InvT-loop
+Inv-loop bytes size at₀ n₀ at n =
+    (at ≤ length bytes) × (n ≤ at) × (framesCheck (packed bytes) ≡ framesCheck (packed (drop at bytes))) × (length (packed bytes) ≡ n + length (packed (drop at bytes)))
+
+abbrev μ-loop : tie.MeasureT-loop
+μ-loop bytes size at₀ n₀ at n = length bytes - at
+
+loop-holds : tie.Need-loop-holds Inv-loop μ-loop
+loop-holds c = (omega arith, omega arith, refl, omega arith)
+
+sub-body-length : tie.Need-sub-body-length Inv-loop μ-loop
+sub-body-length c = omega arith
+
+part-body-length-start : tie.Need-part-body-length-start Inv-loop μ-loop
+part-body-length-start c = omega arith
+
+part-body-length-end : tie.Need-part-body-length-end Inv-loop μ-loop
+part-body-length-end c = omega arith
+
+body-length-requires : tie.Need-body-length-requires Inv-loop μ-loop
+body-length-requires c κs = search needs
+
+made : (c : tie.After-body-length Inv-loop μ-loop) → Step (now (c .before .before .before .before .before .args .bytes)) (c .before .before .before .loop .at) (c .body-length .result)
+made c = step _ _ _ (omega arith) (c .body-length .ensures)
+
+add-end : tie.Need-add-end Inv-loop μ-loop
+add-end c = omega (arith, made c .inside)
+
+sub-check-frame : tie.Need-sub-check-frame Inv-loop μ-loop
+sub-check-frame c = omega arith
+
+part-check-frame-start : tie.Need-part-check-frame-start Inv-loop μ-loop
+part-check-frame-start c = omega arith
+
+part-check-frame-end : tie.Need-part-check-frame-end Inv-loop μ-loop
+part-check-frame-end c = omega (arith, made c .inside)
+
+check-frame-requires : tie.Need-check-frame-requires Inv-loop μ-loop
+check-frame-requires c κs = search needs
+
+enum-known-why : tie.Need-enum-known-why Inv-loop μ-loop
+enum-known-why c = search needs
+
+returns : tie.Need-returns Inv-loop μ-loop
+returns c =
+    let k = c .before .before .before .before .before in
+    let l = k .before .before .before .loop in
+    refused-count _ (frames-stop _ (l .at) _ (made k) (sym (c .before .before .before .check-frame .ensures) ∙ ap checkedAs (c .before .why .given .1)) (l .inv .2))
+
+enum-told : tie.Need-enum-told Inv-loop μ-loop
+enum-told c = search needs
+
+add-n : tie.Need-add-n Inv-loop μ-loop
+add-n c = omega (arith, made (c .before .before .before .before) .inside)
+
+loop-less : tie.Need-loop-less Inv-loop μ-loop
+loop-less c = omega (arith, made (c .before .before .before .before) .some, made (c .before .before .before .before) .inside)
+
+loop-again : tie.Need-loop-again Inv-loop μ-loop
+loop-again c =
+    let k = c .before .before .before .before in
+    let l = k .before .before .before .loop in
+    (
+      omega (arith, made k .inside),
+      omega (arith, made k .some),
+      frames-on _ (l .at) _ (made k) (sym (c .before .before .check-frame .ensures) ∙ ap checkedAs (c .enum-told .given .1)) (l .inv .2),
+      count-on _ (l .at) _ (l .n) (made k) (l .inv .3),
+    )
+
+returns-2 : tie.Need-returns-2 Inv-loop μ-loop
+returns-2 c =
+    let l = c .before .loop in
+    told (frames-end _ (l .at) (omega arith) (l .inv .2)) (count-end _ (l .at) (l .n) (omega arith) (l .inv .3))
+
+pub count-bodies-spec : {M : Type 1} → statement M
+count-bodies-spec =
+    tie.close
+    (tie.spec
+    Inv-loop
+    μ-loop
+    loop-holds
+    sub-body-length
+    part-body-length-start
+    part-body-length-end
+    body-length-requires
+    add-end
+    sub-check-frame
+    part-check-frame-start
+    part-check-frame-end
+    check-frame-requires
+    enum-known-why
+    returns
+    enum-told
+    add-n
+    loop-less
+    loop-again
+    returns-2)

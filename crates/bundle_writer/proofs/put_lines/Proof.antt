@@ -1,0 +1,124 @@
+-- `bundle_writer::put_lines` meets its contract.
+-- Assumes nothing.
+use Prim.Native.Nat.{_+_, _≤_, _-_}
+use mathlib.Core.Path.{_≡_, refl, sym, _∙_}
+use native.Mathlib.Omega.{arith}
+use borrow.Author.Needs.{needs}
+use denote.Ref.{now}
+use lib.ListN.{length}
+use Rattle.bundle_rules.specs.Bundle.{contentsEnd}
+use Rattle.bundle_packing.proofs.Walking.{Step, step, id-part, body-long}
+use Rattle.bundle_writer.proofs.Lines.{Lined, lined-start, lined-on, lined-end, lined-room, id-long}
+use Rattle.bundle_writer.proofs.put_lines.Statement.{statement}
+use Rattle.bundle_writer.proofs.put_lines.Tie as tie
+
+abbrev Inv-loop : tie.InvT-loop
+Inv-loop attributes n out₀ contents at₀ place₀ out at place = Lined attributes n out₀ out at place
+
+abbrev μ-loop : tie.MeasureT-loop
+μ-loop attributes n out₀ contents at₀ place₀ out at place = length attributes - at
+
+mul-contents : tie.Need-mul-contents Inv-loop μ-loop
+mul-contents c = omega arith
+
+add-contents : tie.Need-add-contents Inv-loop μ-loop
+add-contents c = omega arith
+
+loop-holds : tie.Need-loop-holds Inv-loop μ-loop
+loop-holds c = lined-start _ _ _ (c .before .before .pre .0) (c .before .before .pre .1 .0)
+
+sub-body-length : tie.Need-sub-body-length Inv-loop μ-loop
+sub-body-length c = omega arith
+
+part-body-length-start : tie.Need-part-body-length-start Inv-loop μ-loop
+part-body-length-start c = omega arith
+
+part-body-length-end : tie.Need-part-body-length-end Inv-loop μ-loop
+part-body-length-end c = omega arith
+
+body-length-requires : tie.Need-body-length-requires Inv-loop μ-loop
+body-length-requires c κs = search needs
+
+made : (c : tie.After-body-length Inv-loop μ-loop) → Step (now (c .before .before .before .before .before .before .args .attributes)) (c .before .before .before .loop .at) (c .body-length .result)
+made c = step _ _ _ (omega arith) (c .body-length .ensures)
+
+long : (c : tie.After-body-length Inv-loop μ-loop) → c .before .before .before .loop .at + 76 ≤ length (now (c .before .before .before .before .before .before .args .attributes))
+long c = body-long _ _ _ (made c) (c .before .before .before .loop .inv .frames)
+
+contents-fit : (c : tie.After-body-length Inv-loop μ-loop) → contentsEnd (c .before .before .before .before .before .before .args .n) ≤ length (now (c .before .before .before .before .before .before .args .out))
+contents-fit c = omega (arith, c .before .before .before .before .before .before .pre .1 .1)
+
+room : (c : tie.After-body-length Inv-loop μ-loop) → c .before .before .before .loop .place + 20 ≤ length (c .before .before .before .loop .out)
+room c = lined-room _ _ _ _ _ _ _ (made c) (c .before .before .before .loop .inv) (contents-fit c)
+
+add-start : tie.Need-add-start Inv-loop μ-loop
+add-start c = omega (arith, long c)
+
+add-end : tie.Need-add-end Inv-loop μ-loop
+add-end c = omega (arith, long c)
+
+add-offset : tie.Need-add-offset Inv-loop μ-loop
+add-offset c = omega (arith, long c, c .before .before .before .before .before .before .pre .1 .1)
+
+sub-put-line : tie.Need-sub-put-line Inv-loop μ-loop
+sub-put-line c = omega arith
+
+part-put-line-start : tie.Need-part-put-line-start Inv-loop μ-loop
+part-put-line-start c = omega (arith, long c)
+
+part-put-line-end : tie.Need-part-put-line-end Inv-loop μ-loop
+part-put-line-end c = omega (arith, long c)
+
+put-line-requires : tie.Need-put-line-requires Inv-loop μ-loop
+put-line-requires c κs =
+    let k = c .before .before in
+    let l = k .before .before .before .loop in
+    (id-long _ (l .at) _ _ (made k) (l .inv .frames) (id-part _ (l .at) _ (made k) (l .inv .frames)), room k)
+
+add-at : tie.Need-add-at Inv-loop μ-loop
+add-at c = omega (arith, made (c .before .before .before .before .before) .inside)
+
+add-place : tie.Need-add-place Inv-loop μ-loop
+add-place c = omega (arith, room (c .before .before .before .before .before))
+
+loop-less : tie.Need-loop-less Inv-loop μ-loop
+loop-less c = omega (arith, made (c .before .before .before .before .before) .some, made (c .before .before .before .before .before) .inside)
+
+loop-again : tie.Need-loop-again Inv-loop μ-loop
+loop-again c =
+    let k = c .before .before .before .before .before in
+    let l = k .before .before .before .loop in
+    lined-on _ _ _ _ _ _ (l .at) (l .place) _ (made k) (l .inv) (contents-fit k) (id-part _ (l .at) _ (made k) (l .inv .frames)) (c .before .before .put-line .ensures)
+
+same-length : tie.Need-same-length Inv-loop μ-loop
+same-length c = c .before .loop .inv .size
+
+returns : tie.Need-returns Inv-loop μ-loop
+returns c = let l = c .before .loop in lined-end _ _ _ _ (l .at) (l .place) (l .inv) (omega arith)
+
+pub put-lines-spec : {M : Type 1} → statement M
+put-lines-spec =
+    tie.close
+    (tie.spec
+    Inv-loop
+    μ-loop
+    mul-contents
+    add-contents
+    loop-holds
+    sub-body-length
+    part-body-length-start
+    part-body-length-end
+    body-length-requires
+    add-start
+    add-end
+    add-offset
+    sub-put-line
+    part-put-line-start
+    part-put-line-end
+    put-line-requires
+    add-at
+    add-place
+    loop-less
+    loop-again
+    same-length
+    returns)

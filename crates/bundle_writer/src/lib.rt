@@ -1,0 +1,75 @@
+// A bundle (document 02, request 9) written: the file of attributes that are packed end to end.
+ghost use mathlib.Core.Path.{_≡_};
+ghost use mathlib.Core.List.{_++_};
+ghost use Prim.Native.Nat.{_+_, _≤_};
+ghost use lib.ListN.{length, take, drop};
+ghost use Rattle.refusal.specs.Checks.{pass};
+ghost use Rattle.refusal.specs.Answers.{answerOf};
+ghost use Rattle.slices.specs.Numbers as Numbers;
+ghost use Rattle.bundle_rules.specs.Bundle.{contentsEnd, linesOf, packed, framesCheck, writeAnswer, writeBuffer};
+use bundle_packing::body_length;
+use bundle_packing::check_packed;
+use refusal::Refusal;
+use refusal::Written;
+use slices::be16;
+
+// Copies bytes to out, from index `at` on.
+fn put_at(bytes: &[u8], at: usize, out: &mut [u8])
+    requires { ⌜ at + length (now bytes) ≤ length (now out) ⌝ }
+    ensures { λ _. ⌜ now (out .exit) ≡ take at (now (out .entry)) ++ (now (bytes .entry) ++ drop (at + length (now (bytes .entry))) (now (out .entry))) ⌝ }
+{
+    bytes::copy(bytes, &mut out[at..]);
+}
+
+// Writes the line of a body to out, from index `at` on.
+fn put_line(id: &[u8], offset: usize, size: usize, at: usize, out: &mut [u8])
+    requires { ⌜ length (now id) ≡ 16 ⌝ }
+    requires { ⌜ at + 20 ≤ length (now out) ⌝ }
+    ensures { λ _. ⌜ now (out .exit) ≡ take at (now (out .entry)) ++ ((now (id .entry) ++ (Numbers.be16 offset ++ Numbers.be16 size)) ++ drop (at + 20) (now (out .entry))) ⌝ }
+{
+    put_at(id, at, out);
+    put_at(&be16(offset), at + 16, out);
+    put_at(&be16(size), at + 18, out);
+}
+
+// Writes the lines of n attributes to out, from index 2 on.
+fn put_lines(attributes: &[u8], n: usize, out: &mut [u8])
+    requires { ⌜ framesCheck (packed (now attributes)) ≡ pass ⌝ }
+    requires { ⌜ length (packed (now attributes)) ≡ n ⌝ }
+    requires { ⌜ contentsEnd n + length (now attributes) ≤ length (now out) ⌝ }
+    ensures { λ _. ⌜ now (out .exit) ≡ take 2 (now (out .entry)) ++ (linesOf (contentsEnd n) (packed (now (attributes .entry))) ++ drop (contentsEnd n) (now (out .entry))) ⌝ }
+{
+    let contents = 2 + 20 * n;
+    let mut at = 0;
+    let mut place: usize = 2;
+    while at < attributes.len() {
+        let length = body_length(&attributes[at..]);
+        let start = at + 24;
+        let end = at + 40;
+        let offset = contents + at;
+        put_line(&attributes[start..end], offset, length, place, out);
+        at += length;
+        place += 20;
+    }
+}
+
+// Writes the bundle of attributes that are packed end to end, and answers its length.
+pub fn write(attributes: &[u8], out: &mut [u8]) -> Written
+    ensures answer { λ r. ⌜ answerOf r ≡ writeAnswer (now (attributes .entry)) (length (now (out .entry))) ⌝ }
+    ensures buffer { λ _. ⌜ now (out .exit) ≡ writeBuffer (now (attributes .entry)) (now (out .entry)) ⌝ }
+{
+    match check_packed(attributes) {
+        Written::Refused(why) => Written::Refused(why),
+        Written::Wrote(n) => {
+            let contents = 2 + 20 * n;
+            let size = contents + attributes.len();
+            if out.len() < size {
+                return Written::Refused(Refusal::Room);
+            }
+            put_at(&be16(n), 0, out);
+            put_lines(attributes, n, out);
+            put_at(attributes, contents, out);
+            Written::Wrote(size)
+        }
+    }
+}
