@@ -25,7 +25,9 @@ kv_outcome kv_usage_key(const uint8_t *emsk, size_t emsk_len, const uint8_t *lab
         return refused(KV_LABEL_LENGTH);
     for (size_t i = 0; i < label_len; i++)
         if (label[i] < 32 || label[i] > 126)
-            return refused(KV_LABEL_BYTE);
+            return (kv_outcome){KV_LABEL_BYTE, i};
+    if (label_len == 13 && !memcmp(label, KV_DSRK_LABEL, 13))
+        return refused(KV_DOMAIN_LABEL);
     if (data_len > 2048)
         return refused(KV_DATA_LENGTH);
     if (n < 1 || n > 8160)
@@ -34,6 +36,36 @@ kv_outcome kv_usage_key(const uint8_t *emsk, size_t emsk_len, const uint8_t *lab
         return refused(KV_ROOM);
     peer_expand(emsk, emsk_len, label, label_len, data, data_len, n, out);
     return wrote(n);
+}
+
+static int in_domain(uint8_t byte)
+{
+    return (byte >= 'A' && byte <= 'Z') || (byte >= 'a' && byte <= 'z') || (byte >= '0' && byte <= '9') || byte == '-' || byte == '.';
+}
+
+kv_outcome kv_domain_root_key(const uint8_t *emsk, size_t emsk_len, const uint8_t *domain, size_t domain_len, uint8_t *out, size_t out_len)
+{
+    if (emsk_len < 64 || emsk_len > 128)
+        return refused(KV_ROOT_KEY_LENGTH);
+    if (domain_len < 1 || domain_len > 253)
+        return refused(KV_DOMAIN);
+    for (size_t i = 0; i < domain_len; i++)
+        if (!in_domain(domain[i]))
+            return refused(KV_DOMAIN);
+    if (out_len < 64)
+        return refused(KV_ROOM);
+    peer_expand(emsk, emsk_len, (const uint8_t *)KV_DSRK_LABEL, 13, domain, domain_len, 64, out);
+    return wrote(64);
+}
+
+kv_outcome kv_domain_reauth_key(const uint8_t *dsrk, size_t dsrk_len, uint8_t *out, size_t out_len)
+{
+    if (dsrk_len != 64)
+        return refused(KV_ROOT_KEY_LENGTH);
+    if (out_len < 64)
+        return refused(KV_ROOM);
+    peer_expand(dsrk, dsrk_len, (const uint8_t *)KV_RRK_LABEL, 39, NULL, 0, 64, out);
+    return wrote(64);
 }
 
 static void put32(uint8_t *at, uint32_t x)

@@ -40,6 +40,11 @@ static void usage_64(void) { outcome = kv_usage_key(emsk, 64, label20, 20, data,
 static void usage_64_data(void) { outcome = kv_usage_key(emsk, 128, label20, 20, data, 2048, 64, out, sizeof out); }
 static void usage_8160(void) { outcome = kv_usage_key(emsk, 128, label255, 255, data, 2048, 8160, out, sizeof out); }
 
+/* 38 bytes: the longest domain whose first block of the expansion is hashed in one block */
+static const uint8_t domain38[] = "yard-0012.north.mills.sidings.examples";
+static void domain_root(void) { outcome = kv_domain_root_key(emsk, 64, domain38, 38, out, sizeof out); }
+static void domain_reauth(void) { outcome = kv_domain_reauth_key(emsk, 64, out, sizeof out); }
+
 static void write(const uint8_t *key, size_t len, uint8_t *to, size_t room)
 {
     outcome = kv_write_key_attribute(7, 0x01020304, kek_id, 16, key_id, 16, 3600, kek, 16, key, len, to, room);
@@ -60,6 +65,8 @@ const struct job jobs[JOBS] = {
     {"usage-64", usage_64},
     {"usage-64-data", usage_64_data},
     {"usage-8160", usage_8160},
+    {"domain-root", domain_root},
+    {"domain-reauth", domain_reauth},
     {"write-16", write_16},
     {"write-192", write_192},
     {"read-16", read_16},

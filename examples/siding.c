@@ -1,4 +1,4 @@
-/* What a yard controller does, call by call. It derives a siding's key, agrees with a handheld on a key derivation function,
+/* What a yard controller does, call by call. It derives a siding's key and the keys of two domains, agrees with a handheld on a key derivation function,
  * reads the attribute area that carried the offers, and sends the siding's key to a neighbour as a RADIUS Key attribute, which
  * the neighbour opens. Each step prints its result; examples/siding.expected has what must be printed. */
 #include "ketvaulo.h"
@@ -35,13 +35,29 @@ static void derive_key(const uint8_t emsk[64], uint8_t key[32])
     print_bytes("key", key, 32);
 }
 
-/* A label with a zero byte is refused, and `out` keeps every byte. */
+/* Derives the root key of a domain that a handheld visits, and the key below it with which the handheld logs in there again. Another
+ * domain has another key. (Use the keys of the visited domain, kv_visited_root_key and on, for peers that know no others.) */
+static void derive_domain_keys(const uint8_t emsk[64])
+{
+    static const char *const domains[] = { "2.example", ".example" };
+    for (size_t i = 0; i < 2; i++) {
+        uint8_t root[KV_DOMAIN_KEY_LEN], reauth[KV_DOMAIN_KEY_LEN];
+        kv_outcome r = kv_domain_root_key(emsk, 64, (const uint8_t *)domains[i], strlen(domains[i]), root, sizeof root);
+        expect_accepted("kv_domain_root_key", r.refusal);
+        print_bytes(domains[i], root, sizeof root);
+        r = kv_domain_reauth_key(root, sizeof root, reauth, sizeof reauth);
+        expect_accepted("kv_domain_reauth_key", r.refusal);
+        print_bytes("re-authentication", reauth, sizeof reauth);
+    }
+}
+
+/* A label with a zero byte is refused with the position of that byte, and `out` keeps every byte. */
 static void refused_label(const uint8_t emsk[64])
 {
     static const uint8_t label[] = { 'g', 'a', 't', 'e', 0 };
     uint8_t out[4] = { 1, 2, 3, 4 };
     kv_outcome r = kv_usage_key(emsk, 64, label, 5, NULL, 0, 4, out, 4);
-    printf("label with a zero byte: refused %u\n", (unsigned)r.refusal);
+    printf("label with a zero byte: refused %u at %u\n", (unsigned)r.refusal, (unsigned)r.value);
     print_bytes("out", out, 4);
 }
 
@@ -114,6 +130,7 @@ int main(void)
         emsk[i] = (uint8_t)i;
     derive_key(emsk, key);
     refused_label(emsk);
+    derive_domain_keys(emsk);
     negotiate();
     read_area();
     send_key(key);

@@ -19,6 +19,7 @@
 #define ANY { 0, MOST_BYTES }
 #define ROOT_KEY { 64, 128 }
 #define LABEL { 1, 255 }
+#define DOMAIN { 1, 253 }
 #define OFFERS { 1, 16 }
 #define SIXTEEN { 16, 16 }
 
@@ -31,15 +32,19 @@ const shape shapes[CALLS] = {
     [SHA256] = { .name = "kv_sha256", .slices = 1, BYTES, .counts = { ANY }, OUT_BYTES(32), .refusals = BIT(KV_ROOM) },
     [HMAC_SHA256] = { .name = "kv_hmac_sha256", .slices = 2, BYTES, .counts = { ANY, ANY }, OUT_BYTES(32), .refusals = BIT(KV_ROOM) },
     [USAGE_KEY] = { .name = "kv_usage_key", .slices = 3, BYTES, .counts = { ROOT_KEY, LABEL, { 0, 2048 } }, .numbers = { 8 },
-                    OUT_BYTES(8160), .refusals = BIT(KV_ROOT_KEY_LENGTH) | LABEL_REFUSALS | BIT(KV_DATA_LENGTH) | BIT(KV_KEY_LENGTH) |
-                                                 BIT(KV_ROOM) },
+                    OUT_BYTES(8160), .refusals = BIT(KV_ROOT_KEY_LENGTH) | LABEL_REFUSALS | BIT(KV_DOMAIN_LABEL) | BIT(KV_DATA_LENGTH) |
+                                                 BIT(KV_KEY_LENGTH) | BIT(KV_ROOM) },
     [VISITED_ROOT_KEY] = { .name = "kv_visited_root_key", .slices = 1, BYTES, .counts = { ROOT_KEY }, OUT_BYTES(64),
                            .refusals = BIT(KV_ROOT_KEY_LENGTH) | BIT(KV_ROOM) },
-    [VISITED_MASTER_KEY] = { .name = "kv_visited_master_key", .slices = 3, BYTES, .counts = { ROOT_KEY, { 1, 255 }, { 1, 253 } },
+    [VISITED_MASTER_KEY] = { .name = "kv_visited_master_key", .slices = 3, BYTES, .counts = { ROOT_KEY, { 1, 255 }, DOMAIN },
                              OUT_BYTES(64),
                              .refusals = BIT(KV_ROOT_KEY_LENGTH) | BIT(KV_SERVER_ID) | BIT(KV_DOMAIN) | BIT(KV_ROOM) },
     [VISITED_REAUTH_KEY] = { .name = "kv_visited_reauth_key", .slices = 1, BYTES, .counts = { ROOT_KEY }, OUT_BYTES(64),
                              .refusals = BIT(KV_ROOT_KEY_LENGTH) | BIT(KV_ROOM) },
+    [DOMAIN_ROOT_KEY] = { .name = "kv_domain_root_key", .slices = 2, BYTES, .counts = { ROOT_KEY, DOMAIN }, OUT_BYTES(64),
+                          .refusals = BIT(KV_ROOT_KEY_LENGTH) | BIT(KV_DOMAIN) | BIT(KV_ROOM) },
+    [DOMAIN_REAUTH_KEY] = { .name = "kv_domain_reauth_key", .slices = 1, BYTES, .counts = { { 64, 64 } }, OUT_BYTES(64),
+                            .refusals = BIT(KV_ROOT_KEY_LENGTH) | BIT(KV_ROOM) },
     [KEY_NAME] = { .name = "kv_key_name", .slices = 2, BYTES, .counts = { { 1, 255 }, LABEL }, OUT_BYTES(8),
                    .refusals = BIT(KV_SESSION_ID) | LABEL_REFUSALS | BIT(KV_ROOM) },
     [CHOOSE_OFFER] = { .name = "kv_choose_offer", .slices = 2, VALUES, .counts = { OFFERS, { 1, MOST_BYTES } },
@@ -149,6 +154,8 @@ static void call(const request *asked, void *const in[SLICES], void *out, answer
     case VISITED_ROOT_KEY: take_outcome(given, kv_visited_root_key(a, an, out, room), 1); break;
     case VISITED_MASTER_KEY: take_outcome(given, kv_visited_master_key(a, an, b, bn, c, cn, out, room), 1); break;
     case VISITED_REAUTH_KEY: take_outcome(given, kv_visited_reauth_key(a, an, out, room), 1); break;
+    case DOMAIN_ROOT_KEY: take_outcome(given, kv_domain_root_key(a, an, b, bn, out, room), 1); break;
+    case DOMAIN_REAUTH_KEY: take_outcome(given, kv_domain_reauth_key(a, an, out, room), 1); break;
     case KEY_NAME: take_outcome(given, kv_key_name(a, an, b, bn, out, room), 1); break;
     case CHOOSE_OFFER: take_first_round(given, kv_choose_offer(list, an, other, bn)); break;
     case ANSWER_OFFER: take_outcome(given, kv_answer_offer(list, an, (uint16_t)numbers[0], out, room), 1); break;

@@ -137,6 +137,26 @@ static void check_visited_reauth_key(const request *asked, const answer *given)
     free(s.bytes);
 }
 
+/* A usage key of the same text is refused, since the label is the domain's own. */
+static void check_domain_root_key(const request *asked, const answer *given)
+{
+    static const char label[] = "dsrk@ietf.org";
+    const slice emsk = asked->in[0], domain = asked->in[1];
+    uint8_t key[64];
+    expect(given->written == 64, asked, "did not return 64");
+    check_usage_text(asked, given, (slice){ label, strlen(label) }, domain, 64);
+    kv_outcome usage = kv_usage_key(emsk.values, emsk.count, (const uint8_t *)label, strlen(label), domain.values, domain.count, 64, key,
+                                    sizeof key);
+    expect(usage.refusal == KV_DOMAIN_LABEL && usage.value == 0, asked, "is had as a usage key");
+}
+
+static void check_domain_reauth_key(const request *asked, const answer *given)
+{
+    static const char label[] = "EAP Re-authentication Root Key@ietf.org";
+    expect(given->written == 64, asked, "did not return 64");
+    check_usage_text(asked, given, (slice){ label, strlen(label) }, (slice){ 0 }, 64);
+}
+
 static void check_key_name(const request *asked, const answer *given)
 {
     uint8_t digest[DIGEST];
@@ -300,6 +320,8 @@ void check_relations(const request *asked, const answer *given)
     case VISITED_ROOT_KEY: check_visited_root_key(asked, given); break;
     case VISITED_MASTER_KEY: check_visited_master_key(asked, given); break;
     case VISITED_REAUTH_KEY: check_visited_reauth_key(asked, given); break;
+    case DOMAIN_ROOT_KEY: check_domain_root_key(asked, given); break;
+    case DOMAIN_REAUTH_KEY: check_domain_reauth_key(asked, given); break;
     case KEY_NAME: check_key_name(asked, given); break;
     case CHOOSE_OFFER: check_choice(asked, given); break;
     case ANSWER_OFFER: check_answer(asked, given); break;

@@ -7,10 +7,11 @@
  * What it is for, and in which order the calls are made
  *
  * Keys. After a login, the controller and the server share one secret, the EMSK. From it the controller derives the key
- * under which each siding reports (kv_usage_key). For a handheld that visits another domain it derives three keys, each
- * under the one before: kv_visited_root_key under the EMSK, kv_visited_master_key under that key, and
- * kv_visited_reauth_key under that one. kv_key_name makes a public name for a key. All of these are made of kv_sha256 and
- * kv_hmac_sha256.
+ * under which each siding reports (kv_usage_key). For a handheld that visits another domain it derives two keys:
+ * kv_domain_root_key under the EMSK, and kv_domain_reauth_key under that key. No two domains share these. For a peer that
+ * only knows draft-dondeti-eap-vkh-00 it derives three keys instead, each under the one before: kv_visited_root_key under
+ * the EMSK, kv_visited_master_key under that key, and kv_visited_reauth_key under that one. kv_key_name makes a public name
+ * for a key. All of these are made of kv_sha256 and kv_hmac_sha256.
  *
  * Offers. A login negotiates which key derivation function it uses. The peer is the side that logs in, and the server is the
  * side that it logs in to. So a controller is the peer at its own login, and makes the calls of steps 2 and 4. The call of
@@ -83,7 +84,7 @@
  *   004  draft-zorn-radius-keywrap-03, "RADIUS Attributes for Key Delivery"
  *
  * The standards are FIPS 180-4 (SHA-256), FIPS 197 (AES), RFC 2104 (HMAC), RFC 3394 (AES key wrap), RFC 4306 (prf+),
- * RFC 5295 and RFC 5448.
+ * RFC 5295, RFC 5296 and RFC 5448.
  */
 #ifndef KETVAULO_H
 #define KETVAULO_H
@@ -105,6 +106,7 @@
 #define KV_DATA_MAX 2048          /* the optional data of a usage key */
 #define KV_USAGE_KEY_MAX 8160     /* the longest usage key */
 #define KV_VISITED_KEY_LEN 64     /* a VRK, VMSK or V-rRK that is written */
+#define KV_DOMAIN_KEY_LEN 64      /* the root key of a domain, and the re-authentication root key under it */
 #define KV_SERVER_ID_MAX 255
 #define KV_DOMAIN_MAX 253
 #define KV_SESSION_ID_MAX 255
@@ -122,6 +124,8 @@
 /* The fixed labels, as texts of C: the length of one is its sizeof less 1. */
 #define KV_VRK_LABEL "EAP Visited domain Root Key"
 #define KV_V_RRK_LABEL "EAP Re-authentication Root Key"
+#define KV_DSRK_LABEL "dsrk@ietf.org"
+#define KV_RRK_LABEL "EAP Re-authentication Root Key@ietf.org"
 
 /* For the declarations below: a warning where an answer is ignored, and an error where a struct is not laid out as in the
  * library. */
@@ -179,7 +183,7 @@ enum {
     KV_IV_FIELD = 27,               /* IV field not eight bytes A6 */
     KV_INTEGRITY = 28,              /* unwrapping does not yield the initial value A6 (eight times) */
 
-    /* Document 02. Of these, calls give 46 and 47; the requests that the others belong to have not landed yet. */
+    /* Document 02. A number whose request has not landed yet is given by no call. */
     KV_KDF_INPUT_PADDING = 29,      /* AT_KDF_INPUT whose padding is not zero; 18 stays for a length that disagrees */
     KV_NETWORK_NAME_DIFFERS = 30,   /* a differing network name, where the caller does not ask for lenient reading */
     KV_DOMAIN_LABEL = 31,           /* a usage request under the EMSK with the label of the domain root key */
@@ -232,13 +236,14 @@ KV_USE_RESULT kv_outcome kv_hmac_sha256(const uint8_t *key, size_t key_len, cons
  * one zero byte, the data, and n as two bytes, high byte first. n counts bytes. No data is data of length 0. Requests
  * under one EMSK that differ in label, data or n never give the same bytes to HMAC. Writes n bytes and returns n.
  * Refusals, in this order: 1 EMSK not 64 to 128 bytes; 2 label not 1 to 255 bytes; 3 a label byte outside 32 to 126, with
- * the position of the first such byte, counted from 0, as `value`; 4 data over 2,048 bytes; 5 n not 1 to 8,160; 6 `out` has
- * fewer than n bytes. */
+ * the position of the first such byte, counted from 0, as `value`; 31 the label is KV_DSRK_LABEL, for which
+ * kv_domain_root_key is the call; 4 data over 2,048 bytes; 5 n not 1 to 8,160; 6 `out` has fewer than n bytes. */
 KV_USE_RESULT kv_outcome kv_usage_key(const uint8_t *emsk, size_t emsk_len, const uint8_t *label, size_t label_len,
                                       const uint8_t *data, size_t data_len, uint64_t n, uint8_t *out, size_t out_len);
 
 /* The visited-domain keys of a handheld (draft-dondeti-eap-vkh-00): the VRK under the EMSK, a VMSK for a server and its
- * domain under the VRK, and the V-rRK under a VMSK. Each call writes 64 bytes and returns 64. */
+ * domain under the VRK, and the V-rRK under a VMSK. Each call writes 64 bytes and returns 64. They are for peers that know
+ * only this draft; the keys of a domain, below, do not share its seam between server ID and domain. */
 
 /* The VRK: the usage key of the label KV_VRK_LABEL, "EAP Visited domain Root Key", with no data and n = 64.
  * Refusals, in this order: 1 EMSK not 64 to 128 bytes; 6 `out` has fewer than 64 bytes. */
@@ -256,6 +261,23 @@ KV_USE_RESULT kv_outcome kv_visited_master_key(const uint8_t *vrk, size_t vrk_le
 /* The V-rRK: prf+ where K is the VMSK and S is KV_V_RRK_LABEL, "EAP Re-authentication Root Key", with no length.
  * Refusals, in this order: 1 VMSK not 64 to 128 bytes; 6 `out` has fewer than 64 bytes. */
 KV_USE_RESULT kv_outcome kv_visited_reauth_key(const uint8_t *vmsk, size_t vmsk_len, uint8_t *out, size_t out_len);
+
+/* The keys of a domain: the root key of a domain under the EMSK (RFC 5295, section 4, where it is called DSRK), and the
+ * re-authentication root key under that (RFC 5296, section 4.1, where it is called rRK). Each call writes 64 bytes and returns
+ * 64. Use these where the peer knows them: unlike a VMSK, the root key of a domain is never derived from the same bytes as
+ * that of another domain, nor as any usage key or VRK under the same EMSK. */
+
+/* The root key of a domain: prf+ where K is the EMSK and S is KV_DSRK_LABEL, "dsrk@ietf.org", one zero byte, the domain, and
+ * 64 as two bytes, high byte first.
+ * Refusals, in this order: 1 EMSK not 64 to 128 bytes; 8 domain not 1 to 253 bytes, or a byte not an ASCII letter, digit,
+ * hyphen or dot; 6 `out` has fewer than 64 bytes. */
+KV_USE_RESULT kv_outcome kv_domain_root_key(const uint8_t *emsk, size_t emsk_len, const uint8_t *domain,
+                                            size_t domain_len, uint8_t *out, size_t out_len);
+
+/* The re-authentication root key: prf+ where K is the root key of a domain and S is KV_RRK_LABEL, "EAP Re-authentication Root
+ * Key@ietf.org", one zero byte, and 64 as two bytes, high byte first.
+ * Refusals, in this order: 1 the root key of the domain not 64 bytes; 6 `out` has fewer than 64 bytes. */
+KV_USE_RESULT kv_outcome kv_domain_reauth_key(const uint8_t *dsrk, size_t dsrk_len, uint8_t *out, size_t out_len);
 
 /* A name of a key, which is no secret (draft-dondeti-eap-vkh-00): the first 8 bytes of SHA-256 over the Session-ID and
  * then the label. The Session-ID is that of the login whose EMSK the key is derived from. The label of a VRK's name is

@@ -58,6 +58,11 @@ int main(void)
     IS(master(KV_SERVER_ID_MAX, KV_DOMAIN_MAX), KV_ACCEPTED);
     IS(master(KV_SERVER_ID_MAX + 1, 1), KV_SERVER_ID);
     IS(master(1, KV_DOMAIN_MAX + 1), KV_DOMAIN);
+    GIVES(kv_domain_root_key(bytes, KV_ROOT_KEY_MIN, bytes, KV_DOMAIN_MAX, out, KV_DOMAIN_KEY_LEN), KV_DOMAIN_KEY_LEN);
+    IS(kv_domain_root_key(bytes, KV_ROOT_KEY_MIN, bytes, KV_DOMAIN_MAX + 1, out, KV_DOMAIN_KEY_LEN), KV_DOMAIN);
+    IS(kv_domain_root_key(bytes, KV_ROOT_KEY_MIN, bytes, KV_DOMAIN_MAX, out, KV_DOMAIN_KEY_LEN - 1), KV_ROOM);
+    GIVES(kv_domain_reauth_key(bytes, KV_DOMAIN_KEY_LEN, out, KV_DOMAIN_KEY_LEN), KV_DOMAIN_KEY_LEN);
+    IS(kv_domain_reauth_key(bytes, KV_DOMAIN_KEY_LEN + 1, out, KV_DOMAIN_KEY_LEN), KV_ROOT_KEY_LENGTH);
     GIVES(name(KV_SESSION_ID_MAX, 1), KV_KEY_NAME_LEN);
     IS(name(KV_SESSION_ID_MAX + 1, 1), KV_SESSION_ID);
     GIVES(kv_answer_offer(offers, KV_OFFERS_MAX, 2, renewed, KV_OFFERS_ROOM), KV_OFFERS_ROOM);
@@ -88,5 +93,13 @@ int main(void)
     IS(kv_hmac_sha256(bytes, 64, text, sizeof text - 1, first, sizeof first), KV_ACCEPTED);
     IS(kv_visited_reauth_key(bytes, 64, key, sizeof key), KV_ACCEPTED);
     expect(memcmp(key, first, sizeof first) == 0, 1, "KV_V_RRK_LABEL");
+    uint8_t of_domain[] = KV_DSRK_LABEL "\0a.b\0\100\1", below[] = KV_RRK_LABEL "\0\0\100\1";
+    IS(kv_hmac_sha256(bytes, 64, of_domain, sizeof of_domain - 1, first, sizeof first), KV_ACCEPTED);
+    IS(kv_domain_root_key(bytes, 64, (const uint8_t *)"a.b", 3, key, sizeof key), KV_ACCEPTED);
+    expect(memcmp(key, first, sizeof first) == 0, 1, "KV_DSRK_LABEL");
+    IS(kv_hmac_sha256(bytes, 64, below, sizeof below - 1, first, sizeof first), KV_ACCEPTED);
+    IS(kv_domain_reauth_key(bytes, 64, key, sizeof key), KV_ACCEPTED);
+    expect(memcmp(key, first, sizeof first) == 0, 1, "KV_RRK_LABEL");
+    IS(kv_usage_key(bytes, 64, (const uint8_t *)KV_DSRK_LABEL, sizeof KV_DSRK_LABEL - 1, NULL, 0, 64, out, sizeof out), KV_DOMAIN_LABEL);
     return wrong;
 }

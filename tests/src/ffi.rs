@@ -108,6 +108,17 @@ extern "C" {
 
     pub fn kv_visited_reauth_key(vmsk: *const u8, vmsk_len: usize, out: *mut u8, out_len: usize) -> Outcome;
 
+    pub fn kv_domain_root_key(
+        emsk: *const u8,
+        emsk_len: usize,
+        domain: *const u8,
+        domain_len: usize,
+        out: *mut u8,
+        out_len: usize,
+    ) -> Outcome;
+
+    pub fn kv_domain_reauth_key(dsrk: *const u8, dsrk_len: usize, out: *mut u8, out_len: usize) -> Outcome;
+
     pub fn kv_key_name(
         session_id: *const u8,
         session_id_len: usize,

@@ -62,6 +62,8 @@ fn main() -> ExitCode {
         ["kv_visited_root_key"] "kv_visited_root_key" => cases::visited::root_keys;
         ["kv_visited_master_key"] "kv_visited_master_key" => cases::visited::master_keys;
         ["kv_visited_reauth_key"] "kv_visited_reauth_key" => cases::visited::reauth_keys;
+        ["kv_domain_root_key", "kv_usage_key"] "kv_domain_root_key" => cases::domain::root_keys;
+        ["kv_domain_reauth_key"] "kv_domain_reauth_key" => cases::domain::reauth_keys;
         ["kv_key_name"] "kv_key_name" => cases::key_name::run;
         ["kv_choose_offer"] "kv_choose_offer" => cases::offers::choose;
         ["kv_answer_offer"] "kv_answer_offer" => cases::offers::answer;
@@ -89,6 +91,7 @@ fn main() -> ExitCode {
 /// Prints the pairs of refusals that are not tried together, because no input makes both hold.
 fn tell_apart() {
     let lists = [
+        ("kv_usage_key", cases::usage::APART),
         ("kv_answer_offer, kv_check_renewed", cases::offers::APART),
         ("kv_read_area", cases::area::APART),
         ("kv_read_key_attribute", cases::key_attribute::APART),

@@ -48,7 +48,8 @@ pub fn check_label(label: &[u8]) -> Checked
 pub fn check_domain_label(label: &[u8]) -> Checked
     ensures { λ r. ⌜ checkedAs r ≡ check31 (now (label .entry)) ⌝ }
 {
-    refusal::unless(!slices::same_bytes(label, b"dsrk@ietf.org"), Refusal::DomainLabel)
+    let same = slices::same_bytes(label, b"dsrk@ietf.org");
+    refusal::unless(!same, Refusal::DomainLabel)
 }
 
 // Passes a well-formed text, and gives any other the one refusal.

@@ -1,6 +1,7 @@
 //! The inputs, by topic.
 
 pub mod area;
+pub mod domain;
 pub mod exports;
 pub mod hash;
 pub mod key_attribute;
@@ -22,6 +23,13 @@ const ROOT_KEY_LENGTHS: [usize; 12] = [0, 1, 32, 62, 63, 64, 65, 100, 127, 128, 
 fn root_key(rng: &mut Rng) -> Bytes {
     let len = rng.between(64, 128);
     rng.bytes(len).into()
+}
+
+/// A domain of an accepted length and of accepted bytes.
+fn domain(rng: &mut Rng) -> Bytes {
+    const LETTERS: &[u8] = b"ABCDEFGHIJKLMNOPQRSTUVWXYZabcdefghijklmnopqrstuvwxyz0123456789-.";
+    let len = rng.skewed(1, 253);
+    (0..len).map(|_| rng.pick(LETTERS)).collect::<Vec<u8>>().into()
 }
 
 /// A label of an accepted length and of accepted bytes.

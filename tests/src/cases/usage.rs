@@ -7,7 +7,7 @@ use crate::ffi::{self, Outcome};
 use crate::guard::Lender;
 use crate::model::usage::UsageKey;
 use crate::model::Order;
-use crate::pairs::{every_pair, mixed, Fault};
+use crate::pairs::{every_pair, mixed, Apart, Fault};
 use crate::rng::Rng;
 
 impl Call for UsageKey {
@@ -45,7 +45,10 @@ impl Ordered for UsageKey {
     }
 }
 
-/// All pairs of 1, 2, 3, 4, 5, 6 can hold together: 2 with 3 in a long label, 5 with 6 where n is over 8,160.
+/// Pairs of 1, 2, 3, 31, 4, 5, 6 that no input makes hold together.
+pub const APART: &[Apart] = &[(2, 31, "the domain label has 13 bytes"), (3, 31, "the domain label has no bad byte")];
+
+/// All other pairs can: 2 with 3 in a long label, 5 with 6 where n is over 8,160.
 const FAULTS: &[Fault<UsageKey>] = &[
     (1, |call| call.emsk.truncate(63)),
     (1, |call| call.emsk.resize(129, 7)),
@@ -56,6 +59,7 @@ const FAULTS: &[Fault<UsageKey>] = &[
     (3, |call| call.label.insert(0, 31)),
     (3, |call| call.label.push(127)),
     (3, |call| call.label.push(255)),
+    (31, |call| call.label = "dsrk@ietf.org".into()),
     (4, |call| call.data.resize(2049, 0)),
     (4, |call| call.data.resize(70_000, 0)),
     (5, |call| call.n = 0),
@@ -72,7 +76,7 @@ pub fn run(group: &mut Group) {
     run_cases(group);
     lengths(group);
     label_bytes(group);
-    every_pair(group, &request(&mut Rng::named("pairs")), FAULTS, &[]);
+    every_pair(group, &request(&mut Rng::named("pairs")), FAULTS, APART);
     for _ in 0..3000 {
         let accepted = request(&mut group.rng);
         group.compare(&accepted);

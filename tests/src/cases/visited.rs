@@ -1,6 +1,6 @@
 //! Visited-domain keys: bounds of every length, every value of a byte, the refusals, random requests.
 
-use super::{root_key, with_byte, ROOT_KEY_LENGTHS};
+use super::{domain, root_key, with_byte, ROOT_KEY_LENGTHS};
 use crate::bytes::Bytes;
 use crate::call::{bytes_or_refusal, Call, Expected, Group, Ordered};
 use crate::ffi::{self, Outcome};
@@ -9,8 +9,6 @@ use crate::model::visited::{reauth_text, root_text, FixedTextKey, MasterKey, KEY
 use crate::model::Order;
 use crate::pairs::{every_pair, mixed, Fault};
 use crate::rng::Rng;
-
-const LETTERS: &[u8] = b"ABCDEFGHIJKLMNOPQRSTUVWXYZabcdefghijklmnopqrstuvwxyz0123456789-.";
 
 /// A call of the library that takes a root key and an output buffer.
 type Exported = unsafe extern "C" fn(*const u8, usize, *mut u8, usize) -> Outcome;
@@ -140,11 +138,10 @@ pub fn master_keys(group: &mut Group) {
 
 /// A random accepted request.
 fn master(rng: &mut Rng) -> MasterKey {
-    let (server_len, domain_len) = (rng.skewed(1, 255), rng.skewed(1, 253));
-    let domain: Vec<u8> = (0..domain_len).map(|_| rng.pick(LETTERS)).collect();
+    let server_len = rng.skewed(1, 255);
     let server_id = rng.bytes_in(server_len, 33, 126).into();
     let room = KEY + rng.skewed(0, 40);
-    MasterKey { vrk: root_key(rng), server_id, domain: domain.into(), room }
+    MasterKey { vrk: root_key(rng), server_id, domain: domain(rng), room }
 }
 
 /// Each length in turn, the others accepted.

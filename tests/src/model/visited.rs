@@ -73,7 +73,7 @@ fn wrong_server_id(id: &[u8]) -> bool {
 }
 
 /// 8: domain not 1 to 253 bytes, or a byte not a letter, digit, hyphen or dot.
-fn wrong_domain(domain: &[u8]) -> bool {
+pub fn wrong_domain(domain: &[u8]) -> bool {
     let allowed = |byte: &u8| byte.is_ascii_alphanumeric() || *byte == b'-' || *byte == b'.';
     !(1..=253).contains(&domain.len()) || !domain.iter().all(allowed)
 }
