@@ -9,11 +9,10 @@ use borrow.Author.Tests.{ltb-true}
 use lib.Dec.{ltb, eqb}
 use lib.ListN.{length, length-append}
 use Rattle.refusal.specs.Checks.{Check, pass, refuse, check6}
-use Rattle.area_format.specs.declared.Attribute.{Attribute}
 use Rattle.area_format.specs.declared.Attribute.the-variants.{Offer, Named, Other, Faulty}
 use Rattle.area_format.specs.declared.Name.{Name}
 use Rattle.area_format.specs.declared.Name.the-variants.{Missing, Found}
-use Rattle.area_format.specs.Area.{Reading, whole, refusal, ended, readOn, guarded, reading, attributes}
+use Rattle.area_format.specs.Area.{Reading, whole, refusal, Standing, standing, ended, readOn, guarded, reading, attributes}
 
 -- of a reading that is whole
 abbrev pub Few : Reading → Type 0
@@ -28,19 +27,19 @@ few-ended : (offers : List ℕ) (name : Name) → length offers ≤ 17 → Few (
 few-ended offers Missing h = tt
 few-ended offers (Found at len) h = few-cond (eqb (length offers) 0) _ _ (λ e. tt) h
 
-few-on : (offers : List ℕ) (name : Name) (later : List Attribute) → length offers ≤ 17 → Few (readOn offers name later)
+few-on : (offers : List ℕ) (name : Name) (later : List Standing) → length offers ≤ 17 → Few (readOn offers name later)
 unfolding readOn
 few-on offers name [] h = few-ended offers name h
-few-on offers name (Faulty x ∷ later) h = tt
-few-on offers name (Other ∷ later) h = few-on offers name later h
-few-on offers name (Offer v ∷ later) h =
+few-on offers name (standing at (Faulty x) ∷ later) h = tt
+few-on offers name (standing at Other ∷ later) h = few-on offers name later h
+few-on offers name (standing at (Offer v) ∷ later) h =
     few-cond (ltb (length offers) 17) _ _
     (λ e.
     let less = ltb-true (length offers) 17 e in
     few-on (offers ++ (v ∷ [])) name later (simp length-append (omega arith)))
     tt
-few-on offers Missing (Named at len ∷ later) h = few-on offers (Found at len) later h
-few-on offers (Found at₁ len₁) (Named at len ∷ later) h = tt
+few-on offers Missing (standing at (Named len) ∷ later) h = few-on offers (Found (at + 4) len) later h
+few-on offers (Found at₁ len₁) (standing at (Named len) ∷ later) h = tt
 
 few-guarded : (c : Check) (r : Reading) → Few r → Few (guarded c r)
 few-guarded pass r h = h

@@ -11,28 +11,27 @@ use lib.ListN.{length, take, set}
 use lib.Seq.{length-take-le, take-suc-set}
 use lib.Dec.{ltb, eqb}
 use Rattle.refusal.specs.Checks.{bare}
-use Rattle.area_format.specs.Area.{readOn, whole, refusal, ended}
-use Rattle.area_format.specs.declared.Attribute.{Attribute}
+use Rattle.area_format.specs.Area.{Standing, standing, readOn, whole, refusal, ended}
 use Rattle.area_format.specs.declared.Attribute.the-variants.{Offer}
 use Rattle.area_format.specs.declared.Bytes.{Bytes}
 use Rattle.area_format.specs.declared.Name.{Name}
 use Rattle.area_format.specs.declared.Name.the-variants.{Found}
 
 -- an offer, where fewer than 17 are kept, is kept after them
-pub offer-kept : (count v : ℕ) (kept : List ℕ) (name : Name) (later : List Attribute) → 17 ≤ length kept → count < 17
-    → readOn (take count kept) name (Offer v ∷ later) ≡ readOn (take (count + 1) (set kept count v)) name later
+pub offer-kept : (count at v : ℕ) (kept : List ℕ) (name : Name) (later : List Standing) → 17 ≤ length kept → count < 17
+    → readOn (take count kept) name (standing at (Offer v) ∷ later) ≡ readOn (take (count + 1) (set kept count v)) name later
 unfolding readOn
-offer-kept count v kept name later k h =
+offer-kept count at v kept name later k h =
     let l : length (take count kept) ≡ count = length-take-le count kept (omega arith) in
     let t : ltb (length (take count kept)) 17 ≡ true = lt-ltb (length (take count kept)) 17 (omega arith) in
     let i : count < length kept = omega arith in
     rw (t, add-one, take-suc-set)
 
 -- where 17 are kept, it is refused
-pub offer-refused : (count v : ℕ) (kept : List ℕ) (name : Name) (later : List Attribute) → 17 ≤ length kept → count ≡ 17
-    → readOn (take count kept) name (Offer v ∷ later) ≡ refusal (bare 10)
+pub offer-refused : (count at v : ℕ) (kept : List ℕ) (name : Name) (later : List Standing) → 17 ≤ length kept → count ≡ 17
+    → readOn (take count kept) name (standing at (Offer v) ∷ later) ≡ refusal (bare 10)
 unfolding readOn
-offer-refused count v kept name later k h =
+offer-refused count at v kept name later k h =
     let l : length (take count kept) ≡ count = length-take-le count kept (omega arith) in
     let t : ltb (length (take count kept)) 17 ≡ false = le-ltb (length (take count kept)) 17 (omega arith) in
     rw t

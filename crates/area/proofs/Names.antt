@@ -9,24 +9,24 @@ use borrow.Author.Tests.{eqb-true}
 use lib.ListN.{length, getD}
 use lib.Dec.{ltb, eqb}
 use Rattle.refusal.specs.Checks.{bare}
-use Rattle.refusal.specs.declared.Refusal.the-variants.{AttributeBounds, KdfLength, KdfInput}
-use Rattle.area_format.specs.Area.{typeOf, wordsOf, numberIn, inBytes, inBounds, kdf, zeros, wordsFor, padding, kdfInput, attribute, attributesFrom, attributes, whole, refusal, ended, readOn}
+use Rattle.area_format.specs.Area.{typeOf, wordsOf, numberIn, inBytes, inBounds, kdf, zeros, wordsFor, padding, kdfInput, attribute, Standing, standing, attributesFrom, attributes, whole, refusal, ended, readOn}
 use Rattle.area_format.specs.declared.Attribute.{Attribute}
 use Rattle.area_format.specs.declared.Attribute.the-variants.{Offer, Named, Other, Faulty}
 use Rattle.area_format.specs.declared.Bytes.{Bytes}
+use Rattle.area_format.specs.declared.Fault.the-variants.{AttributeBounds, KdfLength, KdfInput, KdfInputPadding}
 use Rattle.area_format.specs.declared.Name.{Name}
 use Rattle.area_format.specs.declared.Name.the-variants.{Missing, Found}
 use Rattle.area_reader.proofs.Bounds.{not-past}
 
--- the name of an attribute that ends within the bytes stands within them
-named-within : (at : ℕ) (bytes : List ℕ) (a : ℕ) (l : Bytes) → 4 * getD bytes 1 0 ≤ length bytes → attribute at bytes ≡ Named a l → a + l .0 ≤ at + length bytes
+-- the name of an attribute that ends within the bytes stands within them, after four
+named-within : (bytes : List ℕ) (l : Bytes) → 4 * getD bytes 1 0 ≤ length bytes → attribute bytes ≡ Named l → 4 + l .0 ≤ length bytes
 unfolding attribute kdf kdfInput
-named-within at bytes a l h e =
+named-within bytes l h e =
     go (eqb (typeOf bytes) 24) (eqb (typeOf bytes) 23) (eqb (wordsOf bytes .0) 1) (eqb (wordsOf bytes .0) (wordsFor (numberIn bytes))) refl (zeros (padding bytes (numberIn bytes))) e
   where
     go : (t₁ t₂ t₃ t₄ : Bool) → eqb (wordsOf bytes .0) (wordsFor (numberIn bytes)) ≡ t₄ → (t₅ : Bool)
-        → cond t₁ (cond t₃ (Offer (numberIn bytes)) (Faulty KdfLength)) (cond t₂ (cond t₄ (cond t₅ (Named (at + 4) (record { 0 = numberIn bytes })) (Faulty KdfInput)) (Faulty KdfInput)) Other) ≡ Named a l
-        → a + l .0 ≤ at + length bytes
+        → cond t₁ (cond t₃ (Offer (numberIn bytes)) (Faulty KdfLength)) (cond t₂ (cond t₄ (cond t₅ (Named (record { 0 = numberIn bytes })) (Faulty KdfInputPadding)) (Faulty KdfInput)) Other) ≡ Named l
+        → 4 + l .0 ≤ length bytes
     go true t₂ true t₄ r t₅ e = let z : _≡_ {A = ℕ} 0 1 = cc in omega arith
     go true t₂ false t₄ r t₅ e = let z : _≡_ {A = ℕ} 0 1 = cc in omega arith
     go false false t₃ t₄ r t₅ e = let z : _≡_ {A = ℕ} 0 1 = cc in omega arith
@@ -34,7 +34,6 @@ named-within at bytes a l h e =
     go false true t₃ true r false e = let z : _≡_ {A = ℕ} 0 1 = cc in omega arith
     go false true t₃ true r true e =
         let w : wordsOf bytes .0 ≡ wordsFor (numberIn bytes) = eqb-true _ _ r in
-        let p : at + 4 ≡ a = cc in
         let q : _≡_ {A = Bytes} (record { 0 = numberIn bytes }) l = cc in
         let n : numberIn bytes ≡ l .0 = ap (λ (b : Bytes). b .0) q in
         omega arith
@@ -62,20 +61,20 @@ at-the-end offers (Found at len) size {o} {a} {l} w e = go (eqb (length offers) 
         omega arith
 
 -- one attribute more, where the rest of the reading keeps within the bytes
-one-more : (m : Attribute) (later : List Attribute) (offers : List ℕ) (name : Name) (size : ℕ) {o : List ℕ} {a l : ℕ}
-    → ((i : ℕ) (n : Bytes) → m ≡ Named i n → i + n .0 ≤ size)
+one-more : (at : ℕ) (m : Attribute) (later : List Standing) (offers : List ℕ) (name : Name) (size : ℕ) {o : List ℕ} {a l : ℕ}
+    → ((n : Bytes) → m ≡ Named n → at + 4 + n .0 ≤ size)
     → ((offers : List ℕ) (name : Name) → NameWithin size name → readOn offers name later ≡ whole o a l → a + l ≤ size)
-    → NameWithin size name → readOn offers name (m ∷ later) ≡ whole o a l → a + l ≤ size
+    → NameWithin size name → readOn offers name (standing at m ∷ later) ≡ whole o a l → a + l ≤ size
 unfolding readOn
-one-more (Faulty x) later offers name size here rest w e = let z : _≡_ {A = ℕ} 0 1 = cc in omega arith
-one-more Other later offers name size here rest w e = rest offers name w e
-one-more (Offer v) later offers name size {o} {a} {l} here rest w e = go (ltb (length offers) 17) e
+one-more at (Faulty x) later offers name size here rest w e = let z : _≡_ {A = ℕ} 0 1 = cc in omega arith
+one-more at Other later offers name size here rest w e = rest offers name w e
+one-more at (Offer v) later offers name size {o} {a} {l} here rest w e = go (ltb (length offers) 17) e
   where
     go : (t : Bool) → cond t (readOn (offers ++ (v ∷ [])) name later) (refusal (bare 10)) ≡ whole o a l → a + l ≤ size
     go true e = rest (offers ++ (v ∷ [])) name w e
     go false e = let z : _≡_ {A = ℕ} 0 1 = cc in omega arith
-one-more (Named i n) later offers Missing size here rest w e = rest offers (Found i n) (here i n refl) e
-one-more (Named i n) later offers (Found i₁ n₁) size here rest w e = let z : _≡_ {A = ℕ} 0 1 = cc in omega arith
+one-more at (Named n) later offers Missing size here rest w e = rest offers (Found (at + 4) n) (here n refl) e
+one-more at (Named n) later offers (Found i₁ n₁) size here rest w e = let z : _≡_ {A = ℕ} 0 1 = cc in omega arith
 
 -- by induction on the bytes
 found-within : (left at : ℕ) (bytes offers : List ℕ) (name : Name) {o : List ℕ} {a l : ℕ} → NameWithin (at + length bytes) name
@@ -91,11 +90,11 @@ found-within zero at (x ∷ rest) offers name {o} {a} {l} w e =
   where
     go : (t : Bool) → inBounds (x ∷ rest) ≡ t
         → ((p : List ℕ) (n : Name) → NameWithin (suc at + length rest) n → readOn p n (attributesFrom (4 * getD (x ∷ rest) 1 0 - 1) (suc at) rest) ≡ whole o a l → a + l ≤ suc at + length rest)
-        → readOn offers name (cond t (attribute at (x ∷ rest) ∷ attributesFrom (4 * getD (x ∷ rest) 1 0 - 1) (suc at) rest) (Faulty AttributeBounds ∷ [])) ≡ whole o a l
+        → readOn offers name (cond t (standing at (attribute (x ∷ rest)) ∷ attributesFrom (4 * getD (x ∷ rest) 1 0 - 1) (suc at) rest) (standing at (Faulty AttributeBounds) ∷ [])) ≡ whole o a l
         → a + l ≤ at + suc (length rest)
     go true h ih e =
         let k : at + suc (length rest) ≡ suc at + length rest = omega arith in
-        one-more (attribute at (x ∷ rest)) (attributesFrom (4 * getD (x ∷ rest) 1 0 - 1) (suc at) rest) offers name (at + suc (length rest)) (λ i n f. named-within at (x ∷ rest) i n (not-past (x ∷ rest) h) f)
+        one-more at (attribute (x ∷ rest)) (attributesFrom (4 * getD (x ∷ rest) 1 0 - 1) (suc at) rest) offers name (at + suc (length rest)) (λ n f. let k : 4 + n .0 ≤ suc (length rest) = named-within (x ∷ rest) n (not-past (x ∷ rest) h) f in omega arith)
         (λ p n v f. let r : a + l ≤ suc at + length rest = ih p n (name-same n k v) f in omega arith) w e
     go false h ih e = let z : _≡_ {A = ℕ} 0 1 = cc in omega arith
 

@@ -4,7 +4,7 @@ use Prim.Native.Nat.{ℕ}
 use mathlib.Core.Path.{_≡_, refl, ap, _∙_}
 use mathlib.Core.List.{List, [], _∷_}
 use lib.ListN.{take, drop}
-use Rattle.area_format.specs.Area.{attributesFrom, attributes, readOn, ended}
+use Rattle.area_format.specs.Area.{Standing, standing, attributesFrom, attributes, readOn, ended}
 use Rattle.area_reader.specs.Steps.{stepAt}
 use Rattle.area.specs.Internal.{addedOn}
 use Rattle.area_format.specs.declared.Attribute.{Attribute}
@@ -31,7 +31,7 @@ ends area at seen kept r e = r ∙ rw (at-end area at e)
 
 -- past one attribute more, what taking it in came to decides, or is read on from
 pub goes-on : (area : List ℕ) (at : ℕ) (seen : Seen) (kept kept₁ : List ℕ) (a : Attribute) (n : ℕ) (r : Added) → ReadTo area at seen kept → stepAt area at ≡ Met a n
-    → ((later : List Attribute) → readOn (take (seen .count) kept) (seen .name) (a ∷ later) ≡ addedOn r kept₁ later)
-    → readOn [] Missing (attributes area) ≡ addedOn r kept₁ (attributesFrom 0 n (drop n area))
+    → ((later : List Standing) → readOn (take (seen .count) kept) (seen .name) (standing at a ∷ later) ≡ addedOn at r kept₁ later)
+    → readOn [] Missing (attributes area) ≡ addedOn at r kept₁ (attributesFrom 0 n (drop n area))
 goes-on area at seen kept kept₁ a n r to e f =
     to ∙ ap (readOn (take (seen .count) kept) (seen .name)) (next area at a n e .on) ∙ f (attributesFrom 0 n (drop n area))

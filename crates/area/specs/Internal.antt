@@ -4,18 +4,16 @@
 use Prim.Native.Nat.{ℕ}
 use mathlib.Core.List.{List}
 use lib.ListN.{take}
-use Rattle.refusal.specs.Answers.{reasonOf}
-use Rattle.area_format.specs.Area.{Reading, whole, refusal, readOn}
-use Rattle.area_format.specs.declared.Attribute.{Attribute}
+use Rattle.area_format.specs.Area.{Standing, faultAt, Reading, whole, refusal, readOn}
 use Rattle.area.specs.declared.Added.{Added}
 use Rattle.area.specs.declared.Added.the-variants as Added
 use Rattle.area.specs.declared.Walked.{Walked}
 use Rattle.area.specs.declared.Walked.the-variants.{Whole, Stopped}
 
--- reading on after an attribute was taken in, the offers being kept at the start of a buffer
-abbrev pub addedOn : Added → List ℕ → List Attribute → Reading
-addedOn (Added.Kept seen) kept later = readOn (take (seen .count) kept) (seen .name) later
-addedOn (Added.Stopped x) kept later = refusal (reasonOf x)
+-- reading on after the attribute at an offset was taken in, the offers being kept at the start of a buffer
+abbrev pub addedOn : ℕ → Added → List ℕ → List Standing → Reading
+addedOn at (Added.Kept seen) kept later = readOn (take (seen .count) kept) (seen .name) later
+addedOn at (Added.Stopped x) kept later = refusal (faultAt at x)
 
 abbrev pub addedCount : Added → ℕ
 addedCount (Added.Kept seen) = seen .count
@@ -24,8 +22,8 @@ addedCount (Added.Stopped x) = 0
 -- what a walk came to, its offers being kept at the start of a buffer
 abbrev pub walkedAs : Walked → List ℕ → Reading
 walkedAs (Whole count at len) kept = whole (take count kept) at (len .0)
-walkedAs (Stopped x) kept = refusal (reasonOf x)
+walkedAs (Stopped why at) kept = refusal (faultAt at why)
 
 abbrev pub walkedCount : Walked → ℕ
 walkedCount (Whole count at len) = count
-walkedCount (Stopped x) = 0
+walkedCount (Stopped why at) = 0

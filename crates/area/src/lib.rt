@@ -2,17 +2,18 @@
 // through the attributes once and keeps the offers aside, so that only an area that is read whole alters the buffer lent for them.
 ghost use mathlib.Core.Path.{_≡_};
 ghost use mathlib.Core.List.{List, [], _∷_};
-ghost use Prim.Native.Nat.{ℕ, _+_, _≤_};
+ghost use Prim.Native.Nat.{ℕ, _+_, _^_, _≤_, _<_};
 ghost use lib.ListN.{length, take, drop};
-ghost use Rattle.area_format.specs.Area.{readOn, attributes, areaAnswer, areaBuffer};
+ghost use Rattle.refusal.specs.Answers.{reasonOf};
+ghost use Rattle.area_format.specs.Area.{Standing, standing, faultAt, readOn, attributes, areaAnswer, areaBuffer};
 ghost use Rattle.area_format.specs.Area;
-ghost use Rattle.area_format.specs.declared.Attribute.{Attribute};
 ghost use Rattle.area_format.specs.declared.Name.the-variants.{Missing};
 ghost use Rattle.slices.specs.Same.{sameList};
 ghost use Rattle.area.specs.Area.{areaAnswerOf};
 ghost use Rattle.area.specs.Internal.{addedCount, addedOn, walkedCount, walkedAs};
 use area_format::Attribute;
 use area_format::Bytes;
+use area_format::Fault;
 use area_format::Name;
 use area_reader::Step;
 use area_reader::read_at;
@@ -22,20 +23,20 @@ use slices::same_bytes;
 
 // What the walk has met so far: the count of the offers, which it keeps in a buffer beside this, and the name.
 struct Seen {
-    count: usize,
+    count: u32,
     name: Name,
 }
 
-// What the walk has met with one attribute more, or a refusal.
+// What the walk has met with one attribute more, or why it stops.
 enum Added {
     Kept(Seen),
-    Stopped(Refusal),
+    Stopped(Fault),
 }
 
-// What the walk came to: the area was read whole, or it is refused.
+// What the walk came to: the area was read whole, or it is refused for a fault at an offset.
 enum Walked {
     Whole { count: usize, at: usize, len: Bytes },
-    Stopped(Refusal),
+    Stopped { why: Fault, at: usize },
 }
 
 // What an area that is read whole holds: the count of its offers, the name's offset from the area's first byte, its length in bytes,
@@ -53,12 +54,27 @@ pub enum AreaRead {
     Refused(Refusal),
 }
 
-// Takes one attribute in: an offer is kept, unless it is the eighteenth, and a name, unless it is the second.
-fn add(seen: Seen, met: Attribute, kept: &mut [u16]) -> Added
+// What a fault at an offset is refused by.
+fn refusal_at(at: usize, why: Fault) -> Refusal
+    ensures { λ r. ⌜ reasonOf r ≡ faultAt at why ⌝ }
+{
+    match why {
+        Fault::AttributeBounds => Refusal::AttributeBounds(at),
+        Fault::KdfLength => Refusal::KdfLength,
+        Fault::KdfInput => Refusal::KdfInput,
+        Fault::KdfInputPadding => Refusal::KdfInputPadding,
+        Fault::NetworkName => Refusal::NetworkName,
+        Fault::OfferCount => Refusal::OfferCount,
+    }
+}
+
+// Takes the attribute at an offset in: an offer is kept, unless it is the eighteenth, and a name, unless it is the second.
+fn add(seen: Seen, at: usize, met: Attribute, kept: &mut [u16]) -> Added
     requires { ⌜ seen .count ≤ 17 ⌝ }
     requires { ⌜ 17 ≤ length (now kept) ⌝ }
+    requires { ⌜ at + 4 < 2 ^ 64 ⌝ }
     ensures count { λ r. ⌜ addedCount r ≤ 17 ⌝ }
-    ensures on { λ r. ⌜ ((later : List Attribute) → readOn (take (seen .count) (now (kept .entry))) (seen .name) (met ∷ later) ≡ addedOn r (now (kept .exit)) later) ⌝ }
+    ensures on { λ r. ⌜ ((later : List Standing) → readOn (take (seen .count) (now (kept .entry))) (seen .name) (standing at met ∷ later) ≡ addedOn at r (now (kept .exit)) later) ⌝ }
 {
     let count = seen.count;
     let name = seen.name;
@@ -67,38 +83,49 @@ fn add(seen: Seen, met: Attribute, kept: &mut [u16]) -> Added
         Attribute::Other => Added::Kept(seen),
         Attribute::Offer(value) => {
             if count == 17 {
-                return Added::Stopped(Refusal::OfferCount);
+                return Added::Stopped(Fault::OfferCount);
             }
-            kept[count] = value;
+            kept[count as usize] = value;
             Added::Kept(Seen {
                 count: count + 1,
                 name,
             })
         }
-        Attribute::Named { at, len } => match name {
+        Attribute::Named(len) => match name {
             Name::Missing => Added::Kept(Seen {
                 count,
-                name: Name::Found { at, len },
+                name: Name::Found { at: at + 4, len },
             }),
-            Name::Found { at: _, len: _ } => Added::Stopped(Refusal::NetworkName),
+            Name::Found { at: _, len: _ } => Added::Stopped(Fault::NetworkName),
         },
     }
 }
 
-// At the area's end: no name is refused, and then no offer.
-fn ended(seen: Seen) -> Walked
+// At the area's end, which is an offset too: no name is refused, and then no offer.
+fn ended(seen: Seen, at: usize) -> Walked
     ensures count { λ r. ⌜ walkedCount r ≤ seen .count ⌝ }
     ensures end { λ r. ⌜ ((kept : List ℕ) → seen .count ≤ length kept → walkedAs r kept ≡ Area.ended (take (seen .count) kept) (seen .name)) ⌝ }
 {
     let count = seen.count;
     let name = seen.name;
     match name {
-        Name::Missing => Walked::Stopped(Refusal::NetworkName),
-        Name::Found { at, len } => {
+        Name::Missing => Walked::Stopped {
+            why: Fault::NetworkName,
+            at,
+        },
+        Name::Found { at: start, len } => {
             if count == 0 {
-                Walked::Stopped(Refusal::OfferCount)
+                Walked::Stopped {
+                    why: Fault::OfferCount,
+                    at,
+                }
             } else {
-                Walked::Whole { count, at, len }
+                let all = count as usize;
+                Walked::Whole {
+                    count: all,
+                    at: start,
+                    len,
+                }
             }
         }
     }
@@ -117,9 +144,9 @@ fn walk(area: &[u8], kept: &mut [u16]) -> Walked
     };
     loop {
         match read_at(area, at) {
-            Step::End => return ended(seen),
-            Step::Met(met, next) => match add(seen, met, kept) {
-                Added::Stopped(why) => return Walked::Stopped(why),
+            Step::End => return ended(seen, at),
+            Step::Met(met, next) => match add(seen, at, met, kept) {
+                Added::Stopped(why) => return Walked::Stopped { why, at },
                 Added::Kept(more) => {
                     seen = more;
                     at = next;
@@ -148,7 +175,7 @@ pub fn read_area(area: &[u8], own_name: &[u8], out: &mut [u16]) -> AreaRead
     }
     let mut kept = [0u16; 17];
     match walk(area, &mut kept) {
-        Walked::Stopped(why) => AreaRead::Refused(why),
+        Walked::Stopped { why, at } => AreaRead::Refused(refusal_at(at, why)),
         Walked::Whole { count, at, len } => {
             let same_name = is_own_name(area, at, len, own_name);
             copy_values(&kept[..count], out);

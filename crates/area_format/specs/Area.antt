@@ -6,13 +6,13 @@ use mathlib.Core.Bool.{Bool, true, cond, _&&_}
 use mathlib.Core.List.{List, [], _∷_, _++_}
 use lib.ListN.{length, getD, take, drop}
 use lib.Dec.{leb, ltb, eqb}
-use Rattle.refusal.specs.Checks.{Reason, bare, Check, pass, refuse, check6}
-use Rattle.refusal.specs.Answers.{reasonOf}
-use Rattle.refusal.specs.declared.Refusal.the-variants.{AttributeBounds, KdfLength, KdfInput}
+use Rattle.refusal.specs.Checks.{Reason, bare, located, Check, pass, refuse, check6}
 use Rattle.slices.specs.Numbers.{be16At}
 use Rattle.slices.specs.Same.{sameList}
 use Rattle.area_format.specs.declared.Attribute.{Attribute}
 use Rattle.area_format.specs.declared.Attribute.the-variants.{Offer, Named, Other, Faulty}
+use Rattle.area_format.specs.declared.Fault.{Fault}
+use Rattle.area_format.specs.declared.Fault.the-variants.{AttributeBounds, KdfLength, KdfInput, KdfInputPadding, NetworkName, OfferCount}
 use Rattle.area_format.specs.declared.Words.{Words}
 use Rattle.area_format.specs.declared.Bytes.{Bytes}
 use Rattle.area_format.specs.declared.Name.{Name}
@@ -54,29 +54,33 @@ wordsFor n = 1 + (n + 3) / 4
 abbrev pub padding : List ℕ → ℕ → List ℕ
 padding bytes n = take (inBytes (wordsOf bytes) .0 - (4 + n)) (drop (4 + n) bytes)
 
--- AT_KDF_INPUT at an offset: type, length, name length in two bytes, name, zero padding (18: its length disagrees with the name length,
--- and after that 18: its padding is not zero)
-unfoldable pub kdfInput : ℕ → List ℕ → Attribute
-kdfInput at bytes =
+-- AT_KDF_INPUT: type, length, name length in two bytes, name, zero padding (18: its length disagrees with the name length; directly after that
+-- 29: its padding is not zero)
+unfoldable pub kdfInput : List ℕ → Attribute
+kdfInput bytes =
     cond (eqb (wordsOf bytes .0) (wordsFor (numberIn bytes)))
-    (cond (zeros (padding bytes (numberIn bytes))) (Named (at + 4) (record { 0 = numberIn bytes })) (Faulty KdfInput))
+    (cond (zeros (padding bytes (numberIn bytes))) (Named (record { 0 = numberIn bytes })) (Faulty KdfInputPadding))
     (Faulty KdfInput)
 
--- an attribute at an offset, by its type: AT_KDF is 24, AT_KDF_INPUT 23, and others are stepped over
-unfoldable pub attribute : ℕ → List ℕ → Attribute
-attribute at bytes = cond (eqb (typeOf bytes) 24) (kdf bytes) (cond (eqb (typeOf bytes) 23) (kdfInput at bytes) Other)
+-- an attribute by its type: AT_KDF is 24, AT_KDF_INPUT 23, and others are stepped over
+unfoldable pub attribute : List ℕ → Attribute
+attribute bytes = cond (eqb (typeOf bytes) 24) (kdf bytes) (cond (eqb (typeOf bytes) 23) (kdfInput bytes) Other)
+
+-- an attribute, and the offset from the area's first byte at which it begins
+pub data Standing : Type 0 where
+  standing : (at : ℕ) → Attribute → Standing
 
 -- The attributes that stand in the bytes from an offset on, left to right. `left` counts the bytes of an attribute that are still to be
 -- passed; where none is left, the next attribute begins. Nothing follows one that is not within the area.
-unfoldable pub attributesFrom : (left at : ℕ) → List ℕ → List Attribute
+unfoldable pub attributesFrom : (left at : ℕ) → List ℕ → List Standing
 attributesFrom left at [] = []
 attributesFrom (suc left) at (x ∷ rest) = attributesFrom left (suc at) rest
 attributesFrom zero at (x ∷ rest) =
     cond (inBounds (x ∷ rest))
-    (attribute at (x ∷ rest) ∷ attributesFrom (inBytes (wordsOf (x ∷ rest)) .0 - 1) (suc at) rest)
-    (Faulty AttributeBounds ∷ [])
+    (standing at (attribute (x ∷ rest)) ∷ attributesFrom (inBytes (wordsOf (x ∷ rest)) .0 - 1) (suc at) rest)
+    (standing at (Faulty AttributeBounds) ∷ [])
 
-unfoldable pub attributes : List ℕ → List Attribute
+unfoldable pub attributes : List ℕ → List Standing
 attributes area = attributesFrom 0 0 area
 
 -- what reading comes to: the offers in order with the name's offset and length, or the reason of a refusal
@@ -89,14 +93,24 @@ abbrev pub ended : List ℕ → Name → Reading
 ended offers Missing = refusal (bare 19)
 ended offers (Found at len) = cond (eqb (length offers) 0) (refusal (bare 10)) (whole offers at (len .0))
 
--- reading on, past the offers and the name met so far: a fault of the attribute first, then a repeated name (19) or the eighteenth AT_KDF (10)
-unfoldable pub readOn : List ℕ → Name → List Attribute → Reading
+-- the number of what is wrong with an attribute; 16 carries the attribute's offset (document 02, request 1)
+abbrev pub faultAt : ℕ → Fault → Reason
+faultAt at AttributeBounds = located 16 at
+faultAt at KdfLength = bare 17
+faultAt at KdfInput = bare 18
+faultAt at KdfInputPadding = bare 29
+faultAt at NetworkName = bare 19
+faultAt at OfferCount = bare 10
+
+-- reading on, past the offers and the name met so far: a fault of the attribute first, then a repeated name (19) or the eighteenth AT_KDF (10). A
+-- name stands four bytes after its attribute's first.
+unfoldable pub readOn : List ℕ → Name → List Standing → Reading
 readOn offers name [] = ended offers name
-readOn offers name (Faulty x ∷ later) = refusal (reasonOf x)
-readOn offers name (Other ∷ later) = readOn offers name later
-readOn offers name (Offer v ∷ later) = cond (ltb (length offers) 17) (readOn (offers ++ (v ∷ [])) name later) (refusal (bare 10))
-readOn offers Missing (Named at len ∷ later) = readOn offers (Found at len) later
-readOn offers (Found at₁ len₁) (Named at len ∷ later) = refusal (bare 19)
+readOn offers name (standing at (Faulty x) ∷ later) = refusal (faultAt at x)
+readOn offers name (standing at Other ∷ later) = readOn offers name later
+readOn offers name (standing at (Offer v) ∷ later) = cond (ltb (length offers) 17) (readOn (offers ++ (v ∷ [])) name later) (refusal (bare 10))
+readOn offers Missing (standing at (Named len) ∷ later) = readOn offers (Found (at + 4) len) later
+readOn offers (Found at₁ len₁) (standing at (Named len) ∷ later) = refusal (bare 19)
 
 -- where the tests before it pass, the reading
 abbrev pub guarded : Check → Reading → Reading

@@ -1,11 +1,12 @@
--- Worked cases of reading an area: document 01's example ("Checked cases"), and an area for each refusal, in the order of "Attribute area".
+-- Worked cases of reading an area: document 01's example ("Checked cases"), and an area for each refusal, in the order of "Attribute area",
+-- with 29 and the place of 16 as document 02, request 1, has them.
 -- Assumes nothing.
 use mathlib.Core.Path.{_≡_}
 use Prim.Native.Nat.{ℕ, zero, suc}
 use mathlib.Core.Bool.{true, false}
 use mathlib.Core.List.{List, [], _∷_, _++_}
 use lib.ListN.{replicate}
-use Rattle.refusal.specs.Checks.{bare}
+use Rattle.refusal.specs.Checks.{bare, located}
 use Rattle.area_format.specs.Area.{AreaAnswer, answered, refused, areaAnswer, areaBuffer}
 
 -- 18 01 00 02, 18 01 00 01, 17 02 00 03 57 4C 4E 00
@@ -33,12 +34,13 @@ Cases =
     × (areaBuffer (two ++ one ++ wln) (replicate 17 7) ≡ 2 ∷ 1 ∷ replicate 15 7)
     × (areaAnswer (two ++ wln) (0x57 ∷ 0x4C ∷ 0x4E ∷ []) 17 ≡ answered 1 8 3 true)
     × (areaAnswer (two ++ wln) [] 16 ≡ refused (bare 6))
-    × (answerFor (two ++ wln ++ 0x18 ∷ []) ≡ refused (bare 16))
-    × (answerFor (two ++ wln ++ 0x85 ∷ 0x00 ∷ 0x00 ∷ 0x00 ∷ []) ≡ refused (bare 16))
-    × (answerFor (two ++ wln ++ 0x18 ∷ 0x02 ∷ 0x00 ∷ 0x02 ∷ 0x00 ∷ 0x00 ∷ 0x00 ∷ []) ≡ refused (bare 16))
+    × (answerFor (two ++ wln ++ 0x18 ∷ []) ≡ refused (located 16 12))
+    × (answerFor (two ++ wln ++ 0x85 ∷ 0x00 ∷ 0x00 ∷ 0x00 ∷ []) ≡ refused (located 16 12))
+    × (answerFor (0x18 ∷ 0x02 ∷ 0x00 ∷ 0x02 ∷ 0x00 ∷ 0x00 ∷ 0x00 ∷ []) ≡ refused (located 16 0))
     × (answerFor (two ++ wln ++ 0x18 ∷ 0x02 ∷ 0x00 ∷ 0x02 ∷ 0x00 ∷ 0x00 ∷ 0x00 ∷ 0x00 ∷ []) ≡ refused (bare 17))
     × (answerFor (two ++ 0x17 ∷ 0x01 ∷ 0x00 ∷ 0x01 ∷ []) ≡ refused (bare 18))
-    × (answerFor (two ++ 0x17 ∷ 0x02 ∷ 0x00 ∷ 0x03 ∷ 0x57 ∷ 0x4C ∷ 0x4E ∷ 0x01 ∷ []) ≡ refused (bare 18))
+    × (answerFor (two ++ 0x17 ∷ 0x02 ∷ 0x00 ∷ 0x03 ∷ 0x57 ∷ 0x4C ∷ 0x4E ∷ 0x01 ∷ []) ≡ refused (bare 29))
+    × (answerFor (two ++ 0x17 ∷ 0x03 ∷ 0x00 ∷ 0x03 ∷ 0x57 ∷ 0x4C ∷ 0x4E ∷ 0x01 ∷ 0x00 ∷ 0x00 ∷ 0x00 ∷ 0x00 ∷ []) ≡ refused (bare 18))
     × (answerFor (two ++ wln ++ wln) ≡ refused (bare 19))
     × (answerFor two ≡ refused (bare 19))
     × (answerFor wln ≡ refused (bare 10))

@@ -1,6 +1,6 @@
 -- Laws of one attribute: what each test of its length, its type and its padding makes of it.
 -- Assumes nothing.
-use Prim.Native.Nat.{ℕ, _+_, _-_, _≤_, _<_}
+use Prim.Native.Nat.{ℕ, _≤_, _<_}
 use mathlib.Core.Path.{_≡_, refl, sym}
 use mathlib.Core.Bool.{Bool, true, false, _&&_}
 use mathlib.Core.List.{List}
@@ -8,9 +8,9 @@ use native.Mathlib.Omega.{arith}
 use borrow.Author.Tests.{le-leb, lt-leb, leb-true, eq-eqb, ne-eqb}
 use lib.ListN.{length}
 use lib.Dec.{leb, eqb}
-use Rattle.refusal.specs.declared.Refusal.the-variants.{KdfLength, KdfInput}
 use Rattle.area_format.specs.Area.{typeOf, wordsOf, numberIn, inBytes, inBounds, kdf, zeros, wordsFor, padding, kdfInput, attribute}
 use Rattle.area_format.specs.declared.Attribute.the-variants.{Offer, Named, Other, Faulty}
+use Rattle.area_format.specs.declared.Fault.the-variants.{KdfLength, KdfInput, KdfInputPadding}
 
 -- fewer than four bytes hold no attribute
 pub too-short : (bytes : List ℕ) → length bytes < 4 → false ≡ inBounds bytes
@@ -41,31 +41,31 @@ unfolding kdf
 kdf-refused bytes h = rw (ne-eqb (wordsOf bytes .0) 1 h)
 
 -- AT_KDF_INPUT
-pub length-disagrees : (at : ℕ) (bytes : List ℕ) → (wordsOf bytes .0 ≡ wordsFor (numberIn bytes) → ⊥) → Faulty KdfInput ≡ kdfInput at bytes
+pub length-disagrees : (bytes : List ℕ) → (wordsOf bytes .0 ≡ wordsFor (numberIn bytes) → ⊥) → Faulty KdfInput ≡ kdfInput bytes
 unfolding kdfInput
-length-disagrees at bytes h = rw (ne-eqb (wordsOf bytes .0) (wordsFor (numberIn bytes)) h)
+length-disagrees bytes h = rw (ne-eqb (wordsOf bytes .0) (wordsFor (numberIn bytes)) h)
 
-pub input-read : (at : ℕ) (bytes : List ℕ) → wordsOf bytes .0 ≡ wordsFor (numberIn bytes) → zeros (padding bytes (numberIn bytes)) ≡ true
-    → Named (at + 4) (record { 0 = numberIn bytes }) ≡ kdfInput at bytes
+pub input-read : (bytes : List ℕ) → wordsOf bytes .0 ≡ wordsFor (numberIn bytes) → zeros (padding bytes (numberIn bytes)) ≡ true
+    → Named (record { 0 = numberIn bytes }) ≡ kdfInput bytes
 unfolding kdfInput
-input-read at bytes h z = rw (eq-eqb (wordsOf bytes .0) (wordsFor (numberIn bytes)) h, z)
+input-read bytes h z = rw (eq-eqb (wordsOf bytes .0) (wordsFor (numberIn bytes)) h, z)
 
-pub padding-refused : (at : ℕ) (bytes : List ℕ) → wordsOf bytes .0 ≡ wordsFor (numberIn bytes) → zeros (padding bytes (numberIn bytes)) ≡ false
-    → Faulty KdfInput ≡ kdfInput at bytes
+pub padding-refused : (bytes : List ℕ) → wordsOf bytes .0 ≡ wordsFor (numberIn bytes) → zeros (padding bytes (numberIn bytes)) ≡ false
+    → Faulty KdfInputPadding ≡ kdfInput bytes
 unfolding kdfInput
-padding-refused at bytes h z = rw (eq-eqb (wordsOf bytes .0) (wordsFor (numberIn bytes)) h, z)
+padding-refused bytes h z = rw (eq-eqb (wordsOf bytes .0) (wordsFor (numberIn bytes)) h, z)
 
 -- the type
-pub type-24 : (at : ℕ) (bytes : List ℕ) → typeOf bytes ≡ 24 → kdf bytes ≡ attribute at bytes
+pub type-24 : (bytes : List ℕ) → typeOf bytes ≡ 24 → kdf bytes ≡ attribute bytes
 unfolding attribute
-type-24 at bytes h = rw (eq-eqb (typeOf bytes) 24 h)
+type-24 bytes h = rw (eq-eqb (typeOf bytes) 24 h)
 
-pub type-23 : (at : ℕ) (bytes : List ℕ) → typeOf bytes ≡ 23 → kdfInput at bytes ≡ attribute at bytes
+pub type-23 : (bytes : List ℕ) → typeOf bytes ≡ 23 → kdfInput bytes ≡ attribute bytes
 unfolding attribute
-type-23 at bytes h =
+type-23 bytes h =
     let n : eqb (typeOf bytes) 24 ≡ false = ne-eqb (typeOf bytes) 24 (λ e. omega (arith, e)) in
     rw (n, eq-eqb (typeOf bytes) 23 h)
 
-pub type-other : (at : ℕ) (bytes : List ℕ) → (typeOf bytes ≡ 24 → ⊥) → (typeOf bytes ≡ 23 → ⊥) → Other ≡ attribute at bytes
+pub type-other : (bytes : List ℕ) → (typeOf bytes ≡ 24 → ⊥) → (typeOf bytes ≡ 23 → ⊥) → Other ≡ attribute bytes
 unfolding attribute
-type-other at bytes n m = rw (ne-eqb (typeOf bytes) 24 n, ne-eqb (typeOf bytes) 23 m)
+type-other bytes n m = rw (ne-eqb (typeOf bytes) 24 n, ne-eqb (typeOf bytes) 23 m)

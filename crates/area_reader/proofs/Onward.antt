@@ -9,10 +9,10 @@ use borrow.Author.Tests.{le-leb, lt-leb, leb-true, leb-false}
 use lib.ListN.{length, getD, drop, length-drop, drop-of-length-le}
 use lib.Seq.{drop-drop, drop-length}
 use lib.Dec.{leb}
-use Rattle.refusal.specs.declared.Refusal.the-variants.{AttributeBounds}
-use Rattle.area_format.specs.Area.{wordsOf, inBytes, inBounds, attribute, attributesFrom}
+use Rattle.area_format.specs.Area.{wordsOf, inBytes, inBounds, attribute, Standing, standing, attributesFrom}
 use Rattle.area_format.specs.declared.Attribute.{Attribute}
 use Rattle.area_format.specs.declared.Attribute.the-variants.{Faulty}
+use Rattle.area_format.specs.declared.Fault.the-variants.{AttributeBounds}
 use Rattle.area_reader.proofs.Bounds.{passed, not-empty, not-past}
 use Rattle.area_reader.specs.Steps.{metAt, stepAt}
 use Rattle.area_reader.specs.declared.Step.the-variants.{End, Met}
@@ -21,7 +21,7 @@ use Rattle.area_reader.specs.declared.Step.the-variants.{End, Met}
 record Onward (at : ℕ) (bytes : List ℕ) (a : Attribute) (n : ℕ) : Type 0 where
   ahead : at < n
   within : n ≤ at + length bytes
-  on : attributesFrom 0 at bytes ≡ a ∷ attributesFrom 0 n (drop (n - at) bytes)
+  on : attributesFrom 0 at bytes ≡ standing at a ∷ attributesFrom 0 n (drop (n - at) bytes)
 
 -- of two that are the same, one
 same-step : (at : ℕ) (bytes : List ℕ) {p a : Attribute} {q n : ℕ} → Met p q ≡ Met a n → Onward at bytes p q → Onward at bytes a n
@@ -45,17 +45,17 @@ past-all at bytes =
 
 -- past an attribute within the area, and past one that is not, after which nothing follows
 onward-in : (at x : ℕ) (rest : List ℕ) → inBounds (x ∷ rest) ≡ true
-    → Onward at (x ∷ rest) (attribute at (x ∷ rest)) (at + inBytes (wordsOf (x ∷ rest)) .0)
+    → Onward at (x ∷ rest) (attribute (x ∷ rest)) (at + inBytes (wordsOf (x ∷ rest)) .0)
 unfolding attributesFrom
 onward-in at x rest h =
     let l₁ : 1 ≤ getD (x ∷ rest) 1 0 = not-empty (x ∷ rest) h in
     let l₂ : 4 * getD (x ∷ rest) 1 0 ≤ suc (length rest) = not-past (x ∷ rest) h in
-    record { ahead = omega arith; within = omega arith; on = rw h (ap (λ (l : List Attribute). attribute at (x ∷ rest) ∷ l) (past (4 * getD (x ∷ rest) 1 0) at x rest (omega arith))) }
+    record { ahead = omega arith; within = omega arith; on = rw h (ap (λ (l : List Standing). standing at (attribute (x ∷ rest)) ∷ l) (past (4 * getD (x ∷ rest) 1 0) at x rest (omega arith))) }
 
 onward-out : (at x : ℕ) (rest : List ℕ) → inBounds (x ∷ rest) ≡ false
     → Onward at (x ∷ rest) (Faulty AttributeBounds) (at + suc (length rest))
 unfolding attributesFrom
-onward-out at x rest h = record { ahead = omega arith; within = omega arith; on = rw h (ap (λ (l : List Attribute). Faulty AttributeBounds ∷ l) (past-all at (x ∷ rest))) }
+onward-out at x rest h = record { ahead = omega arith; within = omega arith; on = rw h (ap (λ (l : List Standing). standing at (Faulty AttributeBounds) ∷ l) (past-all at (x ∷ rest))) }
 
 onward : (at : ℕ) (bytes : List ℕ) (a : Attribute) (n : ℕ) → 0 < length bytes → metAt at bytes ≡ Met a n → Onward at bytes a n
 unfolding metAt
@@ -63,7 +63,7 @@ onward at [] a n k e = let none : ⊥ = omega arith in elim none [ ]
 onward at (x ∷ rest) a n k e = go (inBounds (x ∷ rest)) refl e
   where
     go : (t : Bool) → inBounds (x ∷ rest) ≡ t
-        → cond t (Met (attribute at (x ∷ rest)) (at + inBytes (wordsOf (x ∷ rest)) .0)) (Met (Faulty AttributeBounds) (at + suc (length rest))) ≡ Met a n
+        → cond t (Met (attribute (x ∷ rest)) (at + inBytes (wordsOf (x ∷ rest)) .0)) (Met (Faulty AttributeBounds) (at + suc (length rest))) ≡ Met a n
         → Onward at (x ∷ rest) a n
     go true h e = same-step at (x ∷ rest) e (onward-in at x rest h)
     go false h e = same-step at (x ∷ rest) e (onward-out at x rest h)
@@ -72,7 +72,7 @@ onward at (x ∷ rest) a n k e = go (inBounds (x ∷ rest)) refl e
 pub record Met-next (area : List ℕ) (at : ℕ) (a : Attribute) (n : ℕ) : Type 0 where
   pub ahead : at < n
   pub within : n ≤ length area
-  pub on : attributesFrom 0 at (drop at area) ≡ a ∷ attributesFrom 0 n (drop n area)
+  pub on : attributesFrom 0 at (drop at area) ≡ standing at a ∷ attributesFrom 0 n (drop n area)
 
 pub next : (area : List ℕ) (at : ℕ) (a : Attribute) (n : ℕ) → stepAt area at ≡ Met a n → Met-next area at a n
 unfolding stepAt
@@ -87,7 +87,7 @@ next area at a n e = go (leb (length area) at) refl e
         let w : n ≤ at + length (drop at area) = o .within in
         let f : at < n = o .ahead in
         let k : at + (n - at) ≡ n = omega arith in
-        record { ahead = f; within = omega arith; on = o .on ∙ ap (λ (b : List ℕ). a ∷ attributesFrom 0 n b) (drop-drop (n - at) at area ∙ ap (λ (i : ℕ). drop i area) k) }
+        record { ahead = f; within = omega arith; on = o .on ∙ ap (λ (b : List ℕ). standing at a ∷ attributesFrom 0 n b) (drop-drop (n - at) at area ∙ ap (λ (i : ℕ). drop i area) k) }
 
 -- at the end nothing is met
 pub at-end : (area : List ℕ) (at : ℕ) → stepAt area at ≡ End → attributesFrom 0 at (drop at area) ≡ []
@@ -95,14 +95,14 @@ unfolding stepAt metAt attributesFrom
 at-end area at e = go (leb (length area) at) refl (inBounds (drop at area)) e
   where
     go : (t : Bool) → leb (length area) at ≡ t → (s : Bool)
-        → cond t End (cond s (Met (attribute at (drop at area)) (at + inBytes (wordsOf (drop at area)) .0)) (Met (Faulty AttributeBounds) (at + length (drop at area)))) ≡ End
+        → cond t End (cond s (Met (attribute (drop at area)) (at + inBytes (wordsOf (drop at area)) .0)) (Met (Faulty AttributeBounds) (at + length (drop at area)))) ≡ End
         → attributesFrom 0 at (drop at area) ≡ []
     go true h s e = rw (drop-of-length-le area (leb-true _ _ h))
     go false h true e = cc
     go false h false e = cc
 
 -- the cases
-pub met-within : (at : ℕ) (bytes : List ℕ) → inBounds bytes ≡ true → Met (attribute at bytes) (at + inBytes (wordsOf bytes) .0) ≡ metAt at bytes
+pub met-within : (at : ℕ) (bytes : List ℕ) → inBounds bytes ≡ true → Met (attribute bytes) (at + inBytes (wordsOf bytes) .0) ≡ metAt at bytes
 unfolding metAt
 met-within at bytes h = rw h
 

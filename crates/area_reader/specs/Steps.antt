@@ -6,9 +6,9 @@ use mathlib.Core.Bool.{cond}
 use mathlib.Core.List.{List}
 use lib.ListN.{length, drop}
 use lib.Dec.{leb}
-use Rattle.refusal.specs.declared.Refusal.the-variants.{AttributeBounds}
 use Rattle.area_format.specs.Area.{wordsOf, inBytes, inBounds, attribute}
 use Rattle.area_format.specs.declared.Attribute.the-variants.{Faulty}
+use Rattle.area_format.specs.declared.Fault.the-variants.{AttributeBounds}
 use Rattle.area_reader.specs.declared.Step.{Step}
 use Rattle.area_reader.specs.declared.Step.the-variants.{End, Met}
 
@@ -16,7 +16,7 @@ use Rattle.area_reader.specs.declared.Step.the-variants.{End, Met}
 unfoldable pub metAt : ℕ → List ℕ → Step
 metAt at bytes =
     cond (inBounds bytes)
-    (Met (attribute at bytes) (at + inBytes (wordsOf bytes) .0))
+    (Met (attribute bytes) (at + inBytes (wordsOf bytes) .0))
     (Met (Faulty AttributeBounds) (at + length bytes))
 
 -- the same of an area, which ends at its length

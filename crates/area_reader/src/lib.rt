@@ -1,15 +1,15 @@
 // Reads the attributes of an area one at a time (document 01, "Attribute area"; RFC 5448 sections 3.1 and 3.2): what stands at an offset, and where the
 // next attribute begins.
 ghost use mathlib.Core.Path.{_≡_};
-ghost use Prim.Native.Nat.{_+_, _^_, _≤_, _<_};
-ghost use lib.ListN.{length};
+ghost use Prim.Native.Nat.{_+_, _-_, _^_, _≤_, _<_};
+ghost use lib.ListN.{length, take, drop};
 ghost use Rattle.area_format.specs.Area.{wordsOf, numberIn, inBytes, inBounds, kdfInput};
 ghost use Rattle.area_format.specs.Area;
 ghost use Rattle.area_reader.specs.Steps.{metAt, stepAt};
 use area_format::Attribute;
 use area_format::Bytes;
+use area_format::Fault;
 use area_format::Words;
-use refusal::Refusal;
 use slices::from_be16;
 
 // A reader's place: the area, and an offset in it.
@@ -70,17 +70,19 @@ fn kdf(bytes: &[u8]) -> Attribute
     if words.0 == 1 {
         Attribute::Offer(number_in(bytes))
     } else {
-        Attribute::Faulty(Refusal::KdfLength)
+        Attribute::Faulty(Fault::KdfLength)
     }
 }
 
-// Whether all bytes are zero.
-fn zeros(bytes: &[u8]) -> bool
-    ensures { λ r. ⌜ r ≡ Area.zeros (now (bytes .entry)) ⌝ }
+// Whether the bytes from an offset to another are all zero. They are few: 32 bits count them in a register of any core.
+fn zeros(bytes: &[u8], start: u32, end: u32) -> bool
+    requires { ⌜ start ≤ end ⌝ }
+    requires { ⌜ end ≤ length (now bytes) ⌝ }
+    ensures { λ r. ⌜ r ≡ Area.zeros (take (end - start) (drop start (now (bytes .entry)))) ⌝ }
 {
-    let mut i = 0;
-    while i < bytes.len() {
-        if bytes[i] != 0 {
+    let mut i = start;
+    while i < end {
+        if bytes[i as usize] != 0 {
             return false;
         }
         i += 1;
@@ -88,43 +90,40 @@ fn zeros(bytes: &[u8]) -> bool
     true
 }
 
-// An AT_KDF_INPUT at an offset of the area: where its name stands. Its length belongs to the name length where name and padding fill
-// the attribute and the padding is less than a word.
-fn kdf_input(bytes: &[u8], at: usize) -> Attribute
+// An AT_KDF_INPUT: the length of its name. Its own length belongs to the name length where name and padding fill the attribute and the
+// padding is less than a word.
+fn kdf_input(bytes: &[u8]) -> Attribute
     requires { ⌜ 4 ≤ length (now bytes) ⌝ }
     requires { ⌜ inBytes (wordsOf (now bytes)) .0 ≤ length (now bytes) ⌝ }
-    requires { ⌜ at + length (now bytes) < 2 ^ 64 ⌝ }
-    ensures { λ r. ⌜ r ≡ kdfInput at (now (bytes .entry)) ⌝ }
+    ensures { λ r. ⌜ r ≡ kdfInput (now (bytes .entry)) ⌝ }
 {
     let size = in_bytes(length_in(bytes)).0;
     let name = Bytes(number_in(bytes) as usize);
     let start = 4 + name.0;
     if size < start {
-        return Attribute::Faulty(Refusal::KdfInput);
+        return Attribute::Faulty(Fault::KdfInput);
     }
     if size - start > 3 {
-        return Attribute::Faulty(Refusal::KdfInput);
+        return Attribute::Faulty(Fault::KdfInput);
     }
-    if zeros(&bytes[start..size]) {
-        Attribute::Named {
-            at: at + 4,
-            len: name,
-        }
+    let from = start as u32;
+    let to = size as u32;
+    if zeros(bytes, from, to) {
+        Attribute::Named(name)
     } else {
-        Attribute::Faulty(Refusal::KdfInput)
+        Attribute::Faulty(Fault::KdfInputPadding)
     }
 }
 
-// The attribute at the start of `bytes`, which stand at an offset of the area.
-fn attribute_at(bytes: &[u8], at: usize) -> Attribute
+// The attribute at the start of `bytes`.
+fn attribute_at(bytes: &[u8]) -> Attribute
     requires { ⌜ 4 ≤ length (now bytes) ⌝ }
     requires { ⌜ inBytes (wordsOf (now bytes)) .0 ≤ length (now bytes) ⌝ }
-    requires { ⌜ at + length (now bytes) < 2 ^ 64 ⌝ }
-    ensures { λ r. ⌜ r ≡ Area.attribute at (now (bytes .entry)) ⌝ }
+    ensures { λ r. ⌜ r ≡ Area.attribute (now (bytes .entry)) ⌝ }
 {
     match bytes[0] {
         24 => kdf(bytes),
-        23 => kdf_input(bytes, at),
+        23 => kdf_input(bytes),
         _ => Attribute::Other,
     }
 }
@@ -136,10 +135,10 @@ fn met(bytes: &[u8], at: usize) -> Step
 {
     if in_bounds(bytes) {
         let next = at + in_bytes(length_in(bytes)).0;
-        Step::Met(attribute_at(bytes, at), next)
+        Step::Met(attribute_at(bytes), next)
     } else {
         let end = at + bytes.len();
-        Step::Met(Attribute::Faulty(Refusal::AttributeBounds), end)
+        Step::Met(Attribute::Faulty(Fault::AttributeBounds), end)
     }
 }
 

@@ -21,7 +21,10 @@ enum-known-met-2 c = search needs
 returns : tie.Need-returns
 returns c =
     let a = c .before .before .before .before .args in
-    (omega arith, λ later. rw (c .before .before .met2 .given .1) (offer-refused (a .seen .count) _ (now (a .kept)) _ later (omega arith) (c .if1 .taken)))
+    (omega arith, λ later. rw (c .before .before .met2 .given .1) (offer-refused (a .seen .count) (a .at) _ (now (a .kept)) _ later (omega arith) (c .if1 .taken)))
+
+cast-kept : tie.Need-cast-kept
+cast-kept c = search needs
 
 mul-kept : tie.Need-mul-kept
 mul-kept c = search needs
@@ -29,14 +32,17 @@ mul-kept c = search needs
 slice-write-kept : tie.Need-slice-write-kept
 slice-write-kept c = search needs
 
-add-t13 : tie.Need-add-t13
-add-t13 c = search needs
+add-t16 : tie.Need-add-t16
+add-t16 c = search needs
 
 enum-known-met-3 : tie.Need-enum-known-met-3
 enum-known-met-3 c = search needs
 
 enum-told-2 : tie.Need-enum-told-2
 enum-told-2 c = search needs
+
+add-t19 : tie.Need-add-t19
+add-t19 c = search needs
 
 enum-told-3 : tie.Need-enum-told-3
 enum-told-3 c = search needs
@@ -55,7 +61,7 @@ same-length c = search needs
 returns-4 : tie.Need-returns-4
 returns-4 c =
     let a = c .before .before .before .before .args in
-    (omega arith, λ later. rw (c .before .before .met2 .given .1) (offer-kept (a .seen .count) _ (now (a .kept)) _ later (omega arith) (omega arith)))
+    (omega arith, λ later. rw (c .before .before .met2 .given .1) (offer-kept (a .seen .count) (a .at) _ (now (a .kept)) _ later (omega arith) (omega arith)))
 
 returns-5 : tie.Need-returns-5
 unfolding readOn
@@ -73,11 +79,13 @@ add-spec =
     enum-told
     enum-known-met-2
     returns
+    cast-kept
     mul-kept
     slice-write-kept
-    add-t13
+    add-t16
     enum-known-met-3
     enum-told-2
+    add-t19
     enum-told-3
     returns-2
     returns-3

@@ -41,6 +41,9 @@ walk-requires c κs = search needs
 enum-known-why : tie.Need-enum-known-why
 enum-known-why c = search needs
 
+refusal-at-requires : tie.Need-refusal-at-requires
+refusal-at-requires c κs = search needs
+
 enum-known-count : tie.Need-enum-known-count
 enum-known-count c = search needs
 
@@ -55,9 +58,9 @@ copy-values-requires c κs = search needs
 
 returns-2 : tie.Need-returns-2
 returns-2 c =
-    let k = c .before .before .before .before in
+    let k = c .before .before .before .before .before in
     let a = k .before .before .before .before .before .before .args in
-    refused-so (now (a .area)) (now (a .own-name)) (now (a .out)) (k .before .before .if1 .left) _ (rw (c .before .why .given .1) at (k .walk .ensures .1))
+    rw (c .refusal-at .ensures) (refused-so (now (a .area)) (now (a .own-name)) (now (a .out)) (k .before .before .if1 .left) _ (rw (c .before .before .why .given .1) at (k .walk .ensures .1)))
 
 same-length : tie.Need-same-length
 same-length c = search needs
@@ -83,6 +86,7 @@ read-area-spec =
     slice-aggregate-walk
     walk-requires
     enum-known-why
+    refusal-at-requires
     enum-known-count
     is-own-name-requires
     array-share-prefix-kept

@@ -32,7 +32,7 @@ met c =
 -- what is left to be read after the attribute was taken in
 on : (c : tie.After-add Inv-loop μ-loop)
     → readOn [] Missing (attributes (now (c .before .before .before .before .before .before .before .before .before .args .area)))
-    ≡ addedOn (c .add .result) (c .add .last .1 .1 .0) (attributesFrom 0 (c .before .before .before .met .given .0 .1 .0) (drop (c .before .before .before .met .given .0 .1 .0) (now (c .before .before .before .before .before .before .before .before .before .args .area))))
+    ≡ addedOn (c .before .before .before .before .before .before .loop .at) (c .add .result) (c .add .last .1 .1 .1 .0) (attributesFrom 0 (c .before .before .before .met .given .0 .1 .0) (drop (c .before .before .before .met .given .0 .1 .0) (now (c .before .before .before .before .before .before .before .before .before .args .area))))
 on c =
     let k = c .before .before .before in
     let l = k .before .before .before .loop in
@@ -71,7 +71,7 @@ enum-known-why : tie.Need-enum-known-why Inv-loop μ-loop
 enum-known-why c = search needs
 
 same-length-2 : tie.Need-same-length-2 Inv-loop μ-loop
-same-length-2 c = c .before .before .before .before .before .add .kept .1 .1 .0 ∙ c .before .before .before .before .before .before .before .before .before .before .before .loop .inv .2
+same-length-2 c = c .before .before .before .before .before .add .kept .1 .1 .1 .0 ∙ c .before .before .before .before .before .before .before .before .before .before .before .loop .inv .2
 
 returns-2 : tie.Need-returns-2 Inv-loop μ-loop
 returns-2 c = (omega arith, sym (rw (c .before .why .given .1) at (on (c .before .before .before .before .before))))
@@ -89,7 +89,7 @@ loop-again c =
     let k = c .before .before .before .before .before in (
       met k .within,
       rw (c .before .more .given .1) at (k .add .ensures .0),
-      k .add .kept .1 .1 .0 ∙ k .before .before .before .before .before .before .loop .inv .2,
+      k .add .kept .1 .1 .1 .0 ∙ k .before .before .before .before .before .before .loop .inv .2,
       rw (c .before .more .given .1) at (on k),
     )
 

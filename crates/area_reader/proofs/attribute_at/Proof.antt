@@ -17,13 +17,13 @@ kdf-input-requires : tie.Need-kdf-input-requires
 kdf-input-requires c κs = search needs
 
 returns : tie.Need-returns
-returns c = let a = c .before .before .before .before .args in c .kdf .ensures ∙ type-24 (a .at) (now (a .bytes)) (c .before .match .keys1)
+returns c = let a = c .before .before .before .before .args in c .kdf .ensures ∙ type-24 (now (a .bytes)) (c .before .match .keys1)
 
 returns-2 : tie.Need-returns-2
-returns-2 c = let a = c .before .before .before .before .args in c .kdf-input .ensures ∙ type-23 (a .at) (now (a .bytes)) (c .before .match .keys2)
+returns-2 c = let a = c .before .before .before .before .args in c .kdf-input .ensures ∙ type-23 (now (a .bytes)) (c .before .match .keys2)
 
 returns-3 : tie.Need-returns-3
-returns-3 c = let a = c .before .before .before .args in type-other (a .at) (now (a .bytes)) (c .match .rest .0 .1) (c .match .rest .1)
+returns-3 c = let a = c .before .before .before .args in type-other (now (a .bytes)) (c .match .rest .0 .1) (c .match .rest .1)
 
 pub attribute-at-spec : {M : Type 1} → statement M
 attribute-at-spec =

@@ -23,8 +23,8 @@ agrees : (c : tie.Else2) → wordsOf (now (c .before .before .before .before .be
 agrees c = let k = c .before .before .before in omega (arith, size k, name k)
 
 -- what was looked at is the padding
-padded : (c : tie.After-zeros) → zeros (padding (now (c .before .before .before .before .before .before .before .before .before .args .bytes)) (numberIn (now (c .before .before .before .before .before .before .before .before .before .args .bytes)))) ≡ c .zeros .result
-padded c = let k = c .before .before .before .before .before in rw (← size k, ← name k) (sym (c .zeros .ensures))
+padded : (c : tie.After-zeros) → zeros (padding (now (c .before .before .before .before .before .before .before .before .args .bytes)) (numberIn (now (c .before .before .before .before .before .before .before .before .args .bytes)))) ≡ c .zeros .result
+padded c = let k = c .before .before .before .before in rw (← size k, ← name k) (sym (c .zeros .ensures))
 
 length-in-requires : tie.Need-length-in-requires
 length-in-requires c κs = search needs
@@ -42,40 +42,27 @@ add-start : tie.Need-add-start
 add-start c = search needs
 
 returns : tie.Need-returns
-returns c =
-    let k = c .before .before in
-    let a = k .before .before .before .before .args in
-    length-disagrees (a .at) (now (a .bytes)) (λ w. omega (arith, w, size k, name k))
+returns c = let k = c .before .before in length-disagrees _ (λ w. omega (arith, w, size k, name k))
 
 returns-2 : tie.Need-returns-2
-returns-2 c =
-    let k = c .before .before .before in
-    let a = k .before .before .before .before .args in
-    length-disagrees (a .at) (now (a .bytes)) (λ w. omega (arith, w, size k, name k))
+returns-2 c = let k = c .before .before .before in length-disagrees _ (λ w. omega (arith, w, size k, name k))
 
-part-zeros-start : tie.Need-part-zeros-start
-part-zeros-start c = search needs
+cast-from : tie.Need-cast-from
+cast-from c = search needs
 
-part-zeros-end : tie.Need-part-zeros-end
-part-zeros-end c = omega (arith, size (c .before .before .before))
+cast-to : tie.Need-cast-to
+cast-to c = search needs
 
 zeros-requires : tie.Need-zeros-requires
-zeros-requires c κs = search needs
-
-add-t18 : tie.Need-add-t18
-add-t18 c = search needs
+zeros-requires c κs = let k = c .before .before .before in (omega arith, omega (arith, size k))
 
 returns-3 : tie.Need-returns-3
 returns-3 c =
-    let k = c .before .before .before in
-    let a = k .before .before .before .before .before .before .before .args in
-    rw (name (k .before .before .before)) (input-read (a .at) (now (a .bytes)) (agrees k) (padded (c .before) ∙ c .if3 .taken))
+    let k = c .before .before in
+    rw (name (k .before .before .before)) (input-read _ (agrees k) (padded (c .before) ∙ c .if3 .taken))
 
 returns-4 : tie.Need-returns-4
-returns-4 c =
-    let k = c .before .before .before in
-    let a = k .before .before .before .before .before .before .before .args in
-    padding-refused (a .at) (now (a .bytes)) (agrees k) (padded (c .before) ∙ c .if3 .left)
+returns-4 c = padding-refused _ (agrees (c .before .before)) (padded (c .before) ∙ c .if3 .left)
 
 pub kdf-input-spec : {M : Type 1} → statement M
 kdf-input-spec =
@@ -88,9 +75,8 @@ kdf-input-spec =
     add-start
     returns
     returns-2
-    part-zeros-start
-    part-zeros-end
+    cast-from
+    cast-to
     zeros-requires
-    add-t18
     returns-3
     returns-4)

@@ -37,7 +37,7 @@ add-next : tie.Need-add-next
 add-next c = let h = within (c .before .before .before) in omega (arith, size (c .before), c .before .before .before .before .before .before .pre)
 
 attribute-at-requires : tie.Need-attribute-at-requires
-attribute-at-requires c κs = let h = within (c .before .before .before) in (omega arith, (h .1, c .before .before .before .before .before .before .pre))
+attribute-at-requires c κs = let h = within (c .before .before .before) in (omega arith, h .1)
 
 add-end : tie.Need-add-end
 add-end c = search needs

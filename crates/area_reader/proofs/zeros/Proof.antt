@@ -3,20 +3,23 @@
 use Prim.Native.Nat.{_≤_, _-_}
 use mathlib.Core.Path.{_≡_, refl}
 use native.Mathlib.Omega.{arith}
-use lib.ListN.{length, drop}
-use Rattle.area_format.specs.Area.{zeros}
-use Rattle.area_reader.proofs.Padding.{zeros-not, zeros-on, zeros-all}
+use borrow.Author.Needs.{needs}
+use lib.ListN.{length}
+use Rattle.area_reader.proofs.Padding.{zerosTo, zeros-not, zeros-on, zeros-all}
 use Rattle.area_reader.proofs.zeros.Statement.{statement}
 use Rattle.area_reader.proofs.zeros.Tie as tie
 
 abbrev Inv-loop : tie.InvT-loop
-Inv-loop bytes i₀ i = (i ≤ length bytes) × (zeros bytes ≡ zeros (drop i bytes))
+Inv-loop bytes start end i₀ i = (i ≤ end) × (end ≤ length bytes) × (zerosTo end bytes start ≡ zerosTo end bytes i)
 
 abbrev μ-loop : tie.MeasureT-loop
-μ-loop bytes i₀ i = length bytes - i
+μ-loop bytes start end i₀ i = end - i
 
 loop-holds : tie.Need-loop-holds Inv-loop μ-loop
-loop-holds c = (omega arith, refl)
+loop-holds c = (omega arith, omega arith, refl)
+
+cast-if1 : tie.Need-cast-if1 Inv-loop μ-loop
+cast-if1 c = search needs
 
 shared-slice-read-if1 : tie.Need-shared-slice-read-if1 Inv-loop μ-loop
 shared-slice-read-if1 c = omega arith
@@ -24,7 +27,7 @@ shared-slice-read-if1 c = omega arith
 returns : tie.Need-returns Inv-loop μ-loop
 returns c =
     let l = c .before .before .before .loop in
-    zeros-not _ (l .i) (omega arith) (c .if1 .taken) (l .inv .1)
+    zeros-not _ _ _ (l .i) (omega arith) (l .inv .1) (l .inv .2) (c .if1 .taken)
 
 add-i : tie.Need-add-i Inv-loop μ-loop
 add-i c = omega arith
@@ -35,10 +38,10 @@ loop-less c = omega arith
 loop-again : tie.Need-loop-again Inv-loop μ-loop
 loop-again c =
     let l = c .before .before .before .loop in
-    (omega arith, zeros-on _ (l .i) (omega arith) (c .if1 .left) (l .inv .1))
+    (omega arith, l .inv .1, zeros-on _ _ _ (l .i) (omega arith) (l .inv .1) (l .inv .2) (c .if1 .left))
 
 returns-2 : tie.Need-returns-2 Inv-loop μ-loop
-returns-2 c = let l = c .before .loop in zeros-all _ (l .i) (omega arith) (l .inv .1)
+returns-2 c = let l = c .before .loop in zeros-all _ _ _ (l .i) (omega arith) (l .inv .2)
 
 pub zeros-spec : {M : Type 1} → statement M
 zeros-spec =
@@ -47,6 +50,7 @@ zeros-spec =
     Inv-loop
     μ-loop
     loop-holds
+    cast-if1
     shared-slice-read-if1
     returns
     add-i

@@ -1,0 +1,114 @@
+-- 16 carries the offset of the attribute that is not within the area: by induction on the bytes that are left to be read.
+-- Assumes nothing.
+use Prim.Native.Nat.{ℕ, zero, suc, _+_, _-_, _*_, _<_}
+use mathlib.Core.Path.{_≡_, refl, ap, _∙_}
+use mathlib.Core.Bool.{Bool, true, false, cond}
+use mathlib.Core.List.{List, [], _∷_, _++_}
+use native.Mathlib.Omega.{arith}
+use lib.Dec.{leb, ltb, eqb}
+use lib.ListN.{length, getD, drop}
+use Rattle.refusal.specs.Checks.{Reason, bare, located, unless}
+use Rattle.area_format.specs.declared.Attribute.{Attribute}
+use Rattle.area_format.specs.declared.Attribute.the-variants.{Offer, Named, Other, Faulty}
+use Rattle.area_format.specs.declared.Fault.the-variants.{AttributeBounds, KdfLength, KdfInput, KdfInputPadding, NetworkName, OfferCount}
+use Rattle.area_format.specs.declared.Name.{Name}
+use Rattle.area_format.specs.declared.Name.the-variants.{Missing, Found}
+use Rattle.area_format.specs.Area.{wordsOf, numberIn, typeOf, wordsFor, padding, zeros, inBounds, kdf, kdfInput, attribute, Standing, standing, attributesFrom, attributes, Reading, whole, refusal, ended, readOn, guarded, reading, answered, refused, answerTo, areaAnswer}
+use Rattle.area_format.specs.Statements.{BoundsPlace}
+
+-- one of two that are not so is not so
+cond-not : {a b c : Attribute} (t : Bool) → (a ≡ c → ⊥) → (b ≡ c → ⊥) → cond t a b ≡ c → ⊥
+cond-not true na nb e = na e
+cond-not false na nb e = nb e
+
+-- no attribute by itself is outside the area
+never : (bytes : List ℕ) → attribute bytes ≡ Faulty AttributeBounds → ⊥
+unfolding attribute kdf kdfInput
+never bytes =
+    cond-not (eqb (typeOf bytes) 24)
+    (cond-not (eqb (wordsOf bytes .0) 1) (λ e. let z : _≡_ {A = ℕ} 0 1 = cc in omega arith) (λ e. let z : _≡_ {A = ℕ} 0 1 = cc in omega arith))
+    (cond-not (eqb (typeOf bytes) 23)
+    (cond-not (eqb (wordsOf bytes .0) (wordsFor (numberIn bytes)))
+    (cond-not (zeros (padding bytes (numberIn bytes))) (λ e. let z : _≡_ {A = ℕ} 0 1 = cc in omega arith) (λ e. let z : _≡_ {A = ℕ} 0 1 = cc in omega arith))
+    (λ e. let z : _≡_ {A = ℕ} 0 1 = cc in omega arith))
+    (λ e. let z : _≡_ {A = ℕ} 0 1 = cc in omega arith))
+
+-- past an attribute that is none such, 16 is met later
+later-16 : (at : ℕ) (m : Attribute) (later : List Standing) (offers : List ℕ) (name : Name) {i : ℕ} → (m ≡ Faulty AttributeBounds → ⊥)
+    → readOn offers name (standing at m ∷ later) ≡ refusal (located 16 i) → (o : List ℕ) × (n : Name) × (readOn o n later ≡ refusal (located 16 i))
+unfolding readOn
+later-16 at (Faulty AttributeBounds) later offers name not e = elim (not refl) [ ]
+later-16 at (Faulty KdfLength) later offers name not e = let z : _≡_ {A = ℕ} 0 1 = cc in let none : ⊥ = omega arith in elim none [ ]
+later-16 at (Faulty KdfInput) later offers name not e = let z : _≡_ {A = ℕ} 0 1 = cc in let none : ⊥ = omega arith in elim none [ ]
+later-16 at (Faulty KdfInputPadding) later offers name not e = let z : _≡_ {A = ℕ} 0 1 = cc in let none : ⊥ = omega arith in elim none [ ]
+later-16 at (Faulty NetworkName) later offers name not e = let z : _≡_ {A = ℕ} 0 1 = cc in let none : ⊥ = omega arith in elim none [ ]
+later-16 at (Faulty OfferCount) later offers name not e = let z : _≡_ {A = ℕ} 0 1 = cc in let none : ⊥ = omega arith in elim none [ ]
+later-16 at Other later offers name not e = (offers, name, e)
+later-16 at (Offer v) later offers name {i} not e = go (ltb (length offers) 17) _ e
+  where
+    go : (t : Bool) (o : List ℕ) → cond t (readOn o name later) (refusal (bare 10)) ≡ refusal (located 16 i) → (o : List ℕ) × (n : Name) × (readOn o n later ≡ refusal (located 16 i))
+    go true o e = (o, name, e)
+    go false o e = let z : _≡_ {A = ℕ} 0 1 = cc in let none : ⊥ = omega arith in elim none [ ]
+later-16 at (Named len) later offers Missing not e = (offers, Found (at + 4) len, e)
+later-16 at (Named len) later offers (Found i₁ n₁) not e = let z : _≡_ {A = ℕ} 0 1 = cc in let none : ⊥ = omega arith in elim none [ ]
+
+-- at the end it is not met
+not-ended : (offers : List ℕ) (name : Name) {i : ℕ} → ended offers name ≡ refusal (located 16 i) → ⊥
+not-ended offers Missing e = let z : _≡_ {A = ℕ} 0 1 = cc in omega arith
+not-ended offers (Found at len) {i} e = go (eqb (length offers) 0) e
+  where
+    go : (t : Bool) → cond t (refusal (bare 10)) (whole offers at (len .0)) ≡ refusal (located 16 i) → ⊥
+    go true e = let z : _≡_ {A = ℕ} 0 1 = cc in omega arith
+    go false e = let z : _≡_ {A = ℕ} 0 1 = cc in omega arith
+
+-- the bytes that stand at an offset, and their attributes, of which the last is outside the area, at the offset i
+record Outside (at i : ℕ) (bytes : List ℕ) (all : List Standing) : Type 0 where
+  past : ℕ
+  place : i ≡ at + past
+  within : past < length bytes
+  out : inBounds (drop past bytes) ≡ false
+  before : List Standing
+  last : all ≡ before ++ (standing i (Faulty AttributeBounds) ∷ [])
+
+met-16 : (left at : ℕ) (bytes offers : List ℕ) (name : Name) {i : ℕ} → readOn offers name (attributesFrom left at bytes) ≡ refusal (located 16 i) → Outside at i bytes (attributesFrom left at bytes)
+unfolding attributesFrom readOn
+met-16 left at [] offers name e = elim (not-ended offers name e) [ ]
+met-16 (suc left) at (x ∷ rest) offers name {i} e =
+    let o = met-16 left (suc at) rest offers name e in
+    let p : i ≡ suc at + o .past = o .place in
+    let w : o .past < length rest = o .within in
+    record { past = suc (o .past); place = omega arith; within = omega arith; out = o .out; before = o .before; last = o .last }
+met-16 zero at (x ∷ rest) offers name {i} e = go (inBounds (x ∷ rest)) refl (λ o n f. met-16 (4 * getD (x ∷ rest) 1 0 - 1) (suc at) rest o n f) e
+  where
+    go : (t : Bool) → inBounds (x ∷ rest) ≡ t
+        → ((o : List ℕ) (n : Name) → readOn o n (attributesFrom (4 * getD (x ∷ rest) 1 0 - 1) (suc at) rest) ≡ refusal (located 16 i) → Outside (suc at) i rest (attributesFrom (4 * getD (x ∷ rest) 1 0 - 1) (suc at) rest))
+        → readOn offers name (cond t (standing at (attribute (x ∷ rest)) ∷ attributesFrom (4 * getD (x ∷ rest) 1 0 - 1) (suc at) rest) (standing at (Faulty AttributeBounds) ∷ [])) ≡ refusal (located 16 i)
+        → Outside at i (x ∷ rest) (cond t (standing at (attribute (x ∷ rest)) ∷ attributesFrom (4 * getD (x ∷ rest) 1 0 - 1) (suc at) rest) (standing at (Faulty AttributeBounds) ∷ []))
+    go true h ih e =
+        let l = later-16 at (attribute (x ∷ rest)) (attributesFrom (4 * getD (x ∷ rest) 1 0 - 1) (suc at) rest) offers name (never (x ∷ rest)) e in
+        let o = ih (l .0) (l .1) (l .2) in
+        let p : i ≡ suc at + o .past = o .place in
+        let w : o .past < length rest = o .within in
+        record { past = suc (o .past); place = omega arith; within = omega arith; out = o .out; before = standing at (attribute (x ∷ rest)) ∷ o .before; last = ap (λ (l : List Standing). standing at (attribute (x ∷ rest)) ∷ l) (o .last) }
+    go false h ih e =
+        let p : at ≡ i = cc in
+        record { past = 0; place = omega arith; within = omega arith; out = h; before = []; last = ap (λ (k : ℕ). standing k (Faulty AttributeBounds) ∷ []) p }
+
+-- an answer of 16 is a reading of 16, past the test of the room
+read-16 : (area own : List ℕ) (room i : ℕ) → areaAnswer area own room ≡ refused (located 16 i) → readOn [] Missing (attributes area) ≡ refusal (located 16 i)
+unfolding areaAnswer reading unless
+read-16 area own room i e = go (leb 17 room) (readOn [] Missing (attributes area)) e
+  where
+    go : (t : Bool) (r : Reading) → answerTo area own (guarded (unless t (bare 6)) r) ≡ refused (located 16 i) → r ≡ refusal (located 16 i)
+    go true (whole offers at len) e = let z : _≡_ {A = ℕ} 0 1 = cc in let none : ⊥ = omega arith in elim none [ ]
+    go true (refusal x) e = cc
+    go false r e = let z : _≡_ {A = ℕ} 0 1 = cc in let none : ⊥ = omega arith in elim none [ ]
+
+pub bounds-place : BoundsPlace
+unfolding attributes
+bounds-place area own room i e =
+    let o = met-16 0 0 area [] Missing (read-16 area own room i e) in
+    let q : i ≡ 0 + o .past = o .place in
+    let p : i ≡ o .past = omega arith in
+    let w : o .past < length area = o .within in
+    (omega arith, (o .before, o .last), ap (λ (k : ℕ). inBounds (drop k area)) p ∙ o .out)
