@@ -64,12 +64,14 @@ _Noreturn void fail(const request *asked, const char *what)
     abort();
 }
 
-/* The answer of a call that returns a kv_outcome; `written` where its value counts what it wrote. */
+/* The answer of a call that returns a kv_outcome; `written` where its value counts what it wrote. The value of a refusal is its place. */
 static void take_outcome(answer *given, kv_outcome r, int counts)
 {
+    const int accepted = r.refusal == KV_ACCEPTED;
     given->refusal = r.refusal;
-    given->fields[0] = r.value;
-    given->written = counts ? r.value : 0;
+    given->place = accepted ? 0 : r.value;
+    given->fields[0] = accepted ? r.value : 0;
+    given->written = accepted && counts ? r.value : 0;
 }
 
 static void take_first_round(answer *given, kv_first_round r)
@@ -131,12 +133,32 @@ static void call(const request *asked, void *const in[SLICES], void *out, answer
     }
 }
 
-/* Checks that a refusal is one of the call's own and comes with nothing else. */
-static void expect_bare_refusal(const request *asked, const answer *given)
+/* Checks that a place is that of the first byte of a label outside 32 to 126. */
+static void expect_label_place(const request *asked, uint64_t place)
+{
+    const slice label = asked->in[1]; /* in both calls that have one */
+    const uint8_t *bytes = label.values;
+    expect(place < label.count && (bytes[place] < 32 || bytes[place] > 126), asked, "the byte at its place is not bad");
+    for (uint64_t i = 0; i < place; i++)
+        expect(bytes[i] >= 32 && bytes[i] <= 126, asked, "a byte before its place is bad");
+}
+
+/* Checks the place that a refusal carries: 3 has one, and the others have none. */
+static void expect_place(const request *asked, const answer *given)
+{
+    if (given->refusal == KV_LABEL_BYTE)
+        expect_label_place(asked, given->place);
+    else
+        expect(given->place == 0, asked, "a place with a refusal that carries none");
+}
+
+/* Checks that a refusal is one of the call's own and comes with its place and nothing else. */
+static void expect_refusal(const request *asked, const answer *given)
 {
     static const answer nothing;
     expect(given->refusal <= LAST_REFUSAL && (shapes[asked->call].refusals & BIT(given->refusal)) != 0, asked,
            "a refusal that the header does not give for it");
+    expect_place(asked, given);
     expect(memcmp(given->fields, nothing.fields, sizeof given->fields) == 0, asked, "a refusal with a field that is not 0");
     expect(memcmp(given->kek_id, nothing.kek_id, 16) == 0 && memcmp(given->key_id, nothing.key_id, 16) == 0, asked,
            "a refusal with an ID that is not 0");
@@ -193,7 +215,7 @@ static void perform_at(place where, const request *asked, answer *given)
     if (given->refusal == KV_ACCEPTED)
         expect_within_limits(asked);
     else
-        expect_bare_refusal(asked, given);
+        expect_refusal(asked, given);
     for (int i = 0; i < form->slices; i++) {
         expect(surroundings_kept(i), asked, "a byte around a slice was altered");
         if (i < changing)

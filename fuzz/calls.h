@@ -68,6 +68,7 @@ typedef struct {
 
 typedef struct {
     uint32_t refusal;
+    uint64_t place;                 /* that a refusal carries */
     uint64_t fields[5];             /* what else the call returned, in the order of its struct */
     uint8_t kek_id[16], key_id[16]; /* of kv_read_key_attribute */
     size_t written;                 /* values written to `out` */
@@ -89,7 +90,8 @@ static inline void expect(int holds, const request *asked, const char *what)
 /* The answer to a request. Checks everything that holds of every call:
  * - The answer is the same at both places of the buffers.
  * - No input is altered, and no byte around a buffer.
- * - A refusal is one of the call's own, has zeros in every other field, and leaves every buffer as it was.
+ * - A refusal is one of the call's own, carries the place that it should and no other, has zeros in every other field, and leaves every
+ *   buffer as it was.
  * - An accepted call was lent slices within its limits. It leaves every byte of `out` after those that it says it wrote, and every byte
  *   of the slice that it changes outside the part that it says it changed. */
 void perform(const request *asked, answer *given);

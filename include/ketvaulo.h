@@ -89,9 +89,9 @@
 #include <stdint.h>
 
 /* The version of this interface. CHANGELOG.md says what changed for a caller. */
-#define KV_VERSION "1.1.0"
-#define KV_VERSION_MAJOR 1
-#define KV_VERSION_MINOR 1
+#define KV_VERSION "2.0.0"
+#define KV_VERSION_MAJOR 2
+#define KV_VERSION_MINOR 0
 #define KV_VERSION_PATCH 0
 
 /* Sizes and limits. Lengths are in bytes, counts in values. */
@@ -202,7 +202,8 @@ enum {
 };
 
 /* What most calls return. An accepted call has `refusal` 0 and, as `value`, the count of what it wrote. (kv_check_renewed
- * writes nothing; its `value` is the choice.) A refused call has its number as `refusal`, and `value` 0. */
+ * writes nothing; its `value` is the choice.) A refused call has its number as `refusal`. Its `value` is the place of the
+ * fault where the comment at the call says that the refusal carries one, and else 0. */
 typedef struct {
     uint32_t refusal;
     uint64_t value;
@@ -226,8 +227,9 @@ KV_USE_RESULT kv_outcome kv_hmac_sha256(const uint8_t *key, size_t key_len, cons
 /* The usage key of a label and optional data under an EMSK (RFC 5295): n bytes of prf+. K is the EMSK. S is the label,
  * one zero byte, the data, and n as two bytes, high byte first. n counts bytes. No data is data of length 0. Requests
  * under one EMSK that differ in label, data or n never give the same bytes to HMAC. Writes n bytes and returns n.
- * Refusals, in this order: 1 EMSK not 64 to 128 bytes; 2 label not 1 to 255 bytes; 3 a label byte outside 32 to 126;
- * 4 data over 2,048 bytes; 5 n not 1 to 8,160; 6 `out` has fewer than n bytes. */
+ * Refusals, in this order: 1 EMSK not 64 to 128 bytes; 2 label not 1 to 255 bytes; 3 a label byte outside 32 to 126, with
+ * the position of the first such byte, counted from 0, as `value`; 4 data over 2,048 bytes; 5 n not 1 to 8,160; 6 `out` has
+ * fewer than n bytes. */
 KV_USE_RESULT kv_outcome kv_usage_key(const uint8_t *emsk, size_t emsk_len, const uint8_t *label, size_t label_len,
                                       const uint8_t *data, size_t data_len, uint64_t n, uint8_t *out, size_t out_len);
 
@@ -255,8 +257,8 @@ KV_USE_RESULT kv_outcome kv_visited_reauth_key(const uint8_t *vmsk, size_t vmsk_
  * then the label. The Session-ID is that of the login whose EMSK the key is derived from. The label of a VRK's name is
  * KV_VRK_LABEL, and that of a VMSK's name is its server ID and then its domain; the draft names no V-rRK. Writes 8 bytes and
  * returns 8.
- * Refusals, in this order: 9 Session-ID not 1 to 255 bytes; 2 label not 1 to 255 bytes; 3 a label byte outside 32 to 126;
- * 6 `out` has fewer than 8 bytes. */
+ * Refusals, in this order: 9 Session-ID not 1 to 255 bytes; 2 label not 1 to 255 bytes; 3 a label byte outside 32 to 126,
+ * with the position of the first such byte, counted from 0, as `value`; 6 `out` has fewer than 8 bytes. */
 KV_USE_RESULT kv_outcome kv_key_name(const uint8_t *session_id, size_t session_id_len, const uint8_t *label,
                                      size_t label_len, uint8_t *out, size_t out_len);
 

@@ -2,7 +2,7 @@
 
 use crate::ffi::Outcome;
 use crate::guard::{machine_bytes, Empty, Lender};
-use crate::model::{Order, Refusal};
+use crate::model::{bad_label_byte, Order, Refusal};
 use crate::rng::Rng;
 use std::fmt::Debug;
 
@@ -44,9 +44,19 @@ impl Outcome {
         Outcome { refusal: 0, value: value as u64 }
     }
 
-    /// A refusal returns its number and nothing else.
+    /// A refusal that carries no place returns its number and nothing else.
     pub fn refused(number: Refusal) -> Self {
         Outcome { refusal: number, value: 0 }
+    }
+}
+
+impl Expected<Outcome> {
+    /// The same of a call that tests a label: 3 carries the position of the label's first bad byte.
+    pub fn with_label(mut self, label: &[u8]) -> Self {
+        if self.answer.refusal == 3 {
+            self.answer.value = bad_label_byte(label).expect("3 holds") as u64;
+        }
+        self
     }
 }
 

@@ -2,7 +2,7 @@
 //!
 //! Each is safe to call when every pointer may be read (or, for `out`, written) for its length, or the length is 0.
 
-/// `refusal` is 0 where the call is accepted; `value` is then what it returns, and 0 on a refusal without a place.
+/// `refusal` is 0 where the call is accepted; `value` is then what it returns. On a refusal it is the place that this carries, or 0.
 #[repr(C)]
 #[derive(Clone, Copy, Debug, PartialEq)]
 pub struct Outcome {

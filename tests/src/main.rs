@@ -1,7 +1,7 @@
 //! The second program: compares each call of libketvaulo.a with an answer written from the papers.
 //!
 //! SHA-256, HMAC and key wrapping are OpenSSL's; everything above them (`model`) is this program's own reading of
-//! document 01. `cases` has the inputs, `guard` the lent buffers, of which every byte is compared after each call.
+//! documents 01 and 02. `cases` has the inputs, `guard` the lent buffers, of which every byte is compared after each call.
 //! The last line is `N passed, M failed`; the exit status is 0 only if none failed.
 
 // a library that does not have every call yet leaves parts unused

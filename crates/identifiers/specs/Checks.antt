@@ -1,23 +1,35 @@
--- The tests of labels, server IDs and domains by document 01's numbers ("Refusal numbers", 2, 3, 7 and 8).
+-- The tests of labels, server IDs and domains: document 01's numbers 2, 3, 7 and 8 ("Refusal numbers"), and document 02's 31.
 -- Assumes nothing.
 use Prim.Native.Nat.{ℕ}
-use mathlib.Core.Bool.{_&&_}
+use mathlib.Core.Bool.{_&&_, not}
 use mathlib.Core.List.{List}
 use lib.ListN.{length}
-use Rattle.refusal.specs.Checks.{Check, bare, unless, within, _andThen_}
-use Rattle.charset.specs.Bytes.{every, labelByte, serverByte, domainByte}
+use Rattle.refusal.specs.Checks.{Check, pass, refuse, bare, located, unless, within, _andThen_}
+use Rattle.charset.specs.Bytes.{every, firstBad, labelByte, serverByte, domainByte}
+use Rattle.slices.specs.Same.{sameList}
+use Rattle.charset.specs.declared.Scan.{Scan}
+use Rattle.charset.specs.declared.Scan.the-variants.{Clean, BadAt}
+use Rattle.identifiers.specs.FixedLabels.{dsrkLabel}
 
 -- 2: label not 1 to 255 bytes
 abbrev pub check2 : List ℕ → Check
 check2 label = unless (within 1 255 (length label)) (bare 2)
 
--- 3: a label byte outside 32 to 126
+-- 3: a label byte outside 32 to 126. It carries the position of the first such byte (document 02, request 1)
+abbrev pub scanned3 : Scan → Check
+scanned3 Clean = pass
+scanned3 (BadAt i) = refuse (located 3 i)
+
 abbrev pub check3 : List ℕ → Check
-check3 label = unless (every labelByte label) (bare 3)
+check3 label = scanned3 (firstBad labelByte label)
 
 -- the tests of a label, for usage keys and for names
 unfoldable pub labelCheck : List ℕ → Check
 labelCheck label = check2 label andThen check3 label
+
+-- 31: a usage request under the EMSK with the domain label (document 02, request 6)
+unfoldable pub check31 : List ℕ → Check
+check31 label = unless (not (sameList label dsrkLabel)) (bare 31)
 
 -- 7: server ID not 1 to 255 bytes, or a byte of it outside 33 to 126
 unfoldable pub check7 : List ℕ → Check

@@ -5,7 +5,7 @@ use Prim.Native.Nat.{ℕ}
 use mathlib.Core.Bool.{Bool, true, false, cond}
 use mathlib.Core.List.{List}
 use lib.ListN.{length}
-use Rattle.refusal.specs.Checks.{Check, pass, refuse, bare, within}
+use Rattle.refusal.specs.Checks.{Check, pass, refuse, bare, located, within}
 use Rattle.charset.specs.Bytes.{firstBad}
 use Rattle.charset.specs.declared.Scan.{Scan}
 use Rattle.charset.specs.declared.Scan.the-variants.{Clean, BadAt}
@@ -30,4 +30,4 @@ isWellFormed (BadByte i) = false
 abbrev pub formCheck : Form → Check
 formCheck WellFormed = pass
 formCheck WrongLength = refuse (bare 2)
-formCheck (BadByte i) = refuse (bare 3)
+formCheck (BadByte i) = refuse (located 3 i)

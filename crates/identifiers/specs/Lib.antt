@@ -1,2 +1,4 @@
+pub mod FixedLabels
 pub mod Checks
 pub mod Internal
+pub mod Statements

@@ -1,7 +1,8 @@
-// Tests of labels, server IDs and domains by document 01's numbers ("Refusal numbers", 2, 3, 7 and 8). This is the one place that tests them.
+// Tests of labels, server IDs and domains: document 01's numbers 2, 3, 7 and 8 ("Refusal numbers"), and document 02's 31. This is the one
+// place that tests them.
 ghost use mathlib.Core.Path.{_≡_};
 ghost use Rattle.charset.specs.Bytes.{byteIn};
-ghost use Rattle.identifiers.specs.Checks.{labelCheck, check7, check8};
+ghost use Rattle.identifiers.specs.Checks.{labelCheck, check31, check7, check8};
 ghost use Rattle.identifiers.specs.Internal.{formOf, isWellFormed};
 ghost use Rattle.refusal.specs.Answers.{checkedAs, reasonOf};
 ghost use Rattle.refusal.specs.Checks;
@@ -32,15 +33,22 @@ fn form_of(s: &[u8], set: ByteSet, longest: usize) -> Form
     }
 }
 
-// Tests a label, for usage keys and for names: 2, 3.
+// Tests a label, for usage keys and for names: 2, 3. The position that the scan found goes with 3.
 pub fn check_label(label: &[u8]) -> Checked
     ensures { λ r. ⌜ checkedAs r ≡ labelCheck (now (label .entry)) ⌝ }
 {
     match form_of(label, ByteSet::Label, 255) {
         Form::WellFormed => Checked::Passed,
         Form::WrongLength => Checked::Failed(Refusal::LabelLength),
-        Form::BadByte(_) => Checked::Failed(Refusal::LabelByte),
+        Form::BadByte(i) => Checked::Failed(Refusal::LabelByte(i)),
     }
+}
+
+// Refuses the label of a domain root key, which no usage request may have: 31.
+pub fn check_domain_label(label: &[u8]) -> Checked
+    ensures { λ r. ⌜ checkedAs r ≡ check31 (now (label .entry)) ⌝ }
+{
+    refusal::unless(!slices::same_bytes(label, b"dsrk@ietf.org"), Refusal::DomainLabel)
 }
 
 // Passes a well-formed text, and gives any other the one refusal.

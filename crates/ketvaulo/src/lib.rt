@@ -7,8 +7,9 @@ ghost use Rattle.refusal.specs.Answers.{answerTo, bufferAfter};
 ghost use Rattle.sha256_block.specs.Fips180.{sha256};
 ghost use Rattle.hmac.specs.Rfc2104.{hmacSha256};
 ghost use Rattle.outcome.specs.Outcomes.{outcomeOf};
-ghost use Rattle.requests.specs.Requests.{forUsage, forVrk, requestAnswer, requestBuffer};
+ghost use Rattle.requests.specs.Requests.{forUsage, forVrk, forDomain, requestAnswer, requestBuffer};
 ghost use Rattle.visited.specs.Visited.{vmskCheck, vmskKey, reauthCheck, reauthKey};
+ghost use Rattle.domain_keys.specs.Rfc5296.{rrkCheck, rrkKey};
 ghost use Rattle.key_name.specs.Ndf64.{nameCheck, nameOf};
 ghost use Rattle.offer_peer.specs.Answers.{firstRound, serverAnswer, serverBuffer, renewedAnswer};
 ghost use Rattle.offers_c.specs.Outcomes.{firstRoundOutcome, renewedOutcome};
@@ -43,7 +44,7 @@ pub extern "C" fn kv_hmac_sha256(key: &[u8], message: &[u8], out: &mut [u8]) -> 
     hash_c::hmac_sha256(key, message, out)
 }
 
-// ---- usage keys, the keys of the visited domain, key names
+// ---- usage keys, the keys of the visited domain, the keys of a domain, key names
 
 // RFC 5295: the usage key of a label, optional data and a length n under an EMSK, n bytes.
 #[no_mangle]
@@ -90,6 +91,24 @@ pub extern "C" fn kv_visited_reauth_key(vmsk: &[u8], out: &mut [u8]) -> Outcome
     ensures buffer { λ _. ⌜ now (out .exit) ≡ bufferAfter (reauthCheck (now (vmsk .entry)) (length (now (out .entry)))) 64 (reauthKey (now (vmsk .entry))) (now (out .entry)) ⌝ }
 {
     keys_c::visited_reauth_key(vmsk, out)
+}
+
+// RFC 5295: the root key of a domain under an EMSK, 64 bytes.
+#[no_mangle]
+pub extern "C" fn kv_domain_root_key<'a>(emsk: &[u8], domain: &'a [u8], out: &mut [u8]) -> Outcome
+    ensures answer { λ r. ⌜ r ≡ outcomeOf (requestAnswer (now (emsk .entry)) (forDomain (now (domain .entry)) (length (now (out .entry))))) ⌝ }
+    ensures buffer { λ _. ⌜ now (out .exit) ≡ requestBuffer (now (emsk .entry)) (forDomain (now (domain .entry)) (length (now (out .entry)))) (now (out .entry)) ⌝ }
+{
+    keys_c::domain_root_key(emsk, domain, out)
+}
+
+// RFC 5296: the re-authentication root key under the root key of a domain, 64 bytes.
+#[no_mangle]
+pub extern "C" fn kv_domain_reauth_key(dsrk: &[u8], out: &mut [u8]) -> Outcome
+    ensures answer { λ r. ⌜ r ≡ outcomeOf (answerTo (rrkCheck (now (dsrk .entry)) (length (now (out .entry)))) 64) ⌝ }
+    ensures buffer { λ _. ⌜ now (out .exit) ≡ bufferAfter (rrkCheck (now (dsrk .entry)) (length (now (out .entry)))) 64 (rrkKey (now (dsrk .entry))) (now (out .entry)) ⌝ }
+{
+    keys_c::domain_reauth_key(dsrk, out)
 }
 
 // Source document 001: the name of a Session-ID and a label, 8 bytes.

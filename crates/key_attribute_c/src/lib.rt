@@ -78,7 +78,7 @@ fn key_returned(read: KeyRead) -> KeyAttributeOutcome
     let fields = read.fields;
     match answer {
         Written::Wrote(n) => key_told(0, n as u32, fields),
-        Written::Refused(why) => key_told(refusal::number(why), 0, fields),
+        Written::Refused(why) => key_told(refusal_number::number(why), 0, fields),
     }
 }
 

@@ -1,10 +1,12 @@
-// The calls of the C interface that derive a key or name one: kv_usage_key, the three of the visited domain, and kv_key_name. Each calls the
+// The calls of the C interface that derive a key or name one: kv_usage_key, the three of the visited domain, the two of a
+// domain, and kv_key_name. Each calls the
 // function of the crate that does the work and returns its answer as a kv_outcome.
 ghost use mathlib.Core.Path.{_≡_};
 ghost use lib.ListN.{length};
 ghost use Rattle.refusal.specs.Answers.{answerTo, bufferAfter};
-ghost use Rattle.requests.specs.Requests.{forUsage, forVrk, requestAnswer, requestBuffer};
+ghost use Rattle.requests.specs.Requests.{forUsage, forVrk, forDomain, requestAnswer, requestBuffer};
 ghost use Rattle.visited.specs.Visited.{vmskCheck, vmskKey, reauthCheck, reauthKey};
+ghost use Rattle.domain_keys.specs.Rfc5296.{rrkCheck, rrkKey};
 ghost use Rattle.key_name.specs.Ndf64.{nameCheck, nameOf};
 ghost use Rattle.outcome.specs.Outcomes.{outcomeOf};
 use outcome::Outcome;
@@ -50,6 +52,22 @@ pub fn visited_reauth_key(vmsk: &[u8], out: &mut [u8]) -> Outcome
     ensures buffer { λ _. ⌜ now (out .exit) ≡ bufferAfter (reauthCheck (now (vmsk .entry)) (length (now (out .entry)))) 64 (reauthKey (now (vmsk .entry))) (now (out .entry)) ⌝ }
 {
     outcome::returned(visited::visited_reauth_key(vmsk, out))
+}
+
+// RFC 5295: the root key of a domain under an EMSK, 64 bytes.
+pub fn domain_root_key<'a>(emsk: &[u8], domain: &'a [u8], out: &mut [u8]) -> Outcome
+    ensures answer { λ r. ⌜ r ≡ outcomeOf (requestAnswer (now (emsk .entry)) (forDomain (now (domain .entry)) (length (now (out .entry))))) ⌝ }
+    ensures buffer { λ _. ⌜ now (out .exit) ≡ requestBuffer (now (emsk .entry)) (forDomain (now (domain .entry)) (length (now (out .entry)))) (now (out .entry)) ⌝ }
+{
+    outcome::returned(domain_keys::domain_root_key(emsk, domain, out))
+}
+
+// RFC 5296: the re-authentication root key under the root key of a domain, 64 bytes.
+pub fn domain_reauth_key(dsrk: &[u8], out: &mut [u8]) -> Outcome
+    ensures answer { λ r. ⌜ r ≡ outcomeOf (answerTo (rrkCheck (now (dsrk .entry)) (length (now (out .entry)))) 64) ⌝ }
+    ensures buffer { λ _. ⌜ now (out .exit) ≡ bufferAfter (rrkCheck (now (dsrk .entry)) (length (now (out .entry)))) 64 (rrkKey (now (dsrk .entry))) (now (out .entry)) ⌝ }
+{
+    outcome::returned(domain_keys::domain_reauth_key(dsrk, out))
 }
 
 // Source document 001: the name of a Session-ID and a label, 8 bytes.

@@ -37,7 +37,7 @@ fn first_round_returned(answer: FirstRound) -> FirstRoundOutcome
             position: position as u32,
         },
         FirstRound::Refused(why) => FirstRoundOutcome {
-            refusal: refusal::number(why),
+            refusal: refusal_number::number(why),
             ask: 0,
             value: 0,
             position: 0,

@@ -1,19 +1,12 @@
 -- What a call returns to C, by what it answers: the struct kv_outcome of include/ketvaulo.h, whose comment says the same in words.
 -- Assumes nothing.
 use Prim.Native.Nat.{ℕ}
-use Rattle.refusal.specs.Checks.{Reason, bare}
+use Rattle.refusal.specs.Checks.{Reason}
 use Rattle.refusal.specs.Answers.{Answer, wrote, refused}
+pub use Rattle.refusal.specs.Answers.{numberIn, placeIn}
 use Rattle.outcome.specs.declared.Outcome.{Outcome}
 
--- the number that a refusal returns
-abbrev pub numberIn : Reason → ℕ
-numberIn (bare k) = k
-
--- the place that a refusal carries, and 0 where it carries none
-abbrev pub placeIn : Reason → ℕ
-placeIn (bare k) = 0
-
--- a refusal: its number and its place
+-- a refusal: its number, and its place or 0
 abbrev pub refusedOutcome : Reason → Outcome
 refusedOutcome x = record { refusal = numberIn x; value = placeIn x }
 

@@ -6,7 +6,8 @@ ghost use Rattle.outcome.specs.Outcomes.{outcomeOf, refusedOutcome};
 use refusal::Refusal;
 use refusal::Written;
 
-// What a call returns to C: 0 and what an accepted call answers, or the refusal's number and 0.
+// What a call returns to C: 0 and what an accepted call answers, or the refusal's number and the place that it carries, which is 0 where it
+// carries none.
 #[repr(C)]
 pub struct Outcome {
     pub refusal: u32,
@@ -18,8 +19,8 @@ pub fn refused(why: Refusal) -> Outcome
     ensures { λ r. ⌜ r ≡ refusedOutcome (reasonOf why) ⌝ }
 {
     Outcome {
-        refusal: refusal::number(why),
-        value: 0,
+        refusal: refusal_number::number(why),
+        value: refusal_number::place(why) as u64,
     }
 }
 

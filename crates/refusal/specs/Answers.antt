@@ -3,7 +3,7 @@
 use Prim.Native.Nat.{ℕ}
 use mathlib.Core.List.{List, _++_}
 use lib.ListN.{drop}
-use Rattle.refusal.specs.Checks.{Reason, bare, Check, pass, refuse}
+use Rattle.refusal.specs.Checks.{noPlace, placeAt, Reason, reason, bare, located, Check, pass, refuse}
 use Rattle.refusal.specs.declared.Refusal.{Refusal}
 use Rattle.refusal.specs.declared.Refusal.the-variants.{
   RootKeyLength,
@@ -62,62 +62,66 @@ use Rattle.refusal.specs.declared.Written.the-variants.{Wrote, Refused}
 use Rattle.refusal.specs.declared.Checked.{Checked}
 use Rattle.refusal.specs.declared.Checked.the-variants.{Passed, Failed}
 
--- the number of each refusal
-abbrev pub numberOf : Refusal → ℕ
-numberOf RootKeyLength = 1
-numberOf LabelLength = 2
-numberOf LabelByte = 3
-numberOf DataLength = 4
-numberOf KeyLength = 5
-numberOf Room = 6
-numberOf ServerId = 7
-numberOf Domain = 8
-numberOf SessionId = 9
-numberOf OfferCount = 10
-numberOf RepeatedOffer = 11
-numberOf NoOfferSupported = 12
-numberOf ReplyIsFirst = 13
-numberOf ReplyNotOffered = 14
-numberOf RenewedList = 15
-numberOf AttributeBounds = 16
-numberOf KdfLength = 17
-numberOf KdfInput = 18
-numberOf NetworkName = 19
-numberOf AttributeType = 20
-numberOf IdLength = 21
-numberOf KekLength = 22
-numberOf KeyToWrapLength = 23
-numberOf KeyAttributeLength = 24
-numberOf ReservedByte = 25
-numberOf EncType = 26
-numberOf IvField = 27
-numberOf Integrity = 28
-numberOf KdfInputPadding = 29
-numberOf NetworkNameDiffers = 30
-numberOf DomainLabel = 31
-numberOf LabelSyntax = 32
-numberOf HandoverKeyLength = 33
-numberOf IdentifierLength = 34
-numberOf PacketLength = 35
-numberOf PacketAttributeBounds = 36
-numberOf MacAttribute = 37
-numberOf MacDiffers = 38
-numberOf BundleCount = 39
-numberOf BundleContents = 40
-numberOf BundleEnd = 41
-numberOf RepeatedKeyId = 42
-numberOf AkaInputLength = 43
-numberOf NetworkNameLength = 44
-numberOf IdentityLength = 45
-numberOf SlotsFull = 46
-numberOf NoSuchSlot = 47
-numberOf ParentNotLive = 48
-numberOf TooDeep = 49
-numberOf KeyIdUnlikeContents = 50
-
--- what a refusal returns: its number and nothing else
+-- what each refusal returns: its number; 3 and 16 carry a place, and no other does
 abbrev pub reasonOf : Refusal → Reason
-reasonOf x = bare (numberOf x)
+reasonOf RootKeyLength = bare 1
+reasonOf LabelLength = bare 2
+reasonOf (LabelByte i) = located 3 i
+reasonOf DataLength = bare 4
+reasonOf KeyLength = bare 5
+reasonOf Room = bare 6
+reasonOf ServerId = bare 7
+reasonOf Domain = bare 8
+reasonOf SessionId = bare 9
+reasonOf OfferCount = bare 10
+reasonOf RepeatedOffer = bare 11
+reasonOf NoOfferSupported = bare 12
+reasonOf ReplyIsFirst = bare 13
+reasonOf ReplyNotOffered = bare 14
+reasonOf RenewedList = bare 15
+reasonOf (AttributeBounds i) = located 16 i
+reasonOf KdfLength = bare 17
+reasonOf KdfInput = bare 18
+reasonOf NetworkName = bare 19
+reasonOf AttributeType = bare 20
+reasonOf IdLength = bare 21
+reasonOf KekLength = bare 22
+reasonOf KeyToWrapLength = bare 23
+reasonOf KeyAttributeLength = bare 24
+reasonOf ReservedByte = bare 25
+reasonOf EncType = bare 26
+reasonOf IvField = bare 27
+reasonOf Integrity = bare 28
+reasonOf KdfInputPadding = bare 29
+reasonOf NetworkNameDiffers = bare 30
+reasonOf DomainLabel = bare 31
+reasonOf LabelSyntax = bare 32
+reasonOf HandoverKeyLength = bare 33
+reasonOf IdentifierLength = bare 34
+reasonOf PacketLength = bare 35
+reasonOf PacketAttributeBounds = bare 36
+reasonOf MacAttribute = bare 37
+reasonOf MacDiffers = bare 38
+reasonOf BundleCount = bare 39
+reasonOf BundleContents = bare 40
+reasonOf BundleEnd = bare 41
+reasonOf RepeatedKeyId = bare 42
+reasonOf AkaInputLength = bare 43
+reasonOf NetworkNameLength = bare 44
+reasonOf IdentityLength = bare 45
+reasonOf SlotsFull = bare 46
+reasonOf NoSuchSlot = bare 47
+reasonOf ParentNotLive = bare 48
+reasonOf TooDeep = bare 49
+reasonOf KeyIdUnlikeContents = bare 50
+
+-- the number of a reason; its place, and 0 where it carries none
+abbrev pub numberIn : Reason → ℕ
+numberIn (reason n place) = n
+
+abbrev pub placeIn : Reason → ℕ
+placeIn (reason n noPlace) = 0
+placeIn (reason n (placeAt i)) = i
 
 -- what the tests of a call come to, as the definitions say it
 abbrev pub checkedAs : Checked → Check

@@ -4,18 +4,18 @@ ghost use mathlib.Core.Path.{_≡_};
 ghost use lib.ListN.{length};
 ghost use Rattle.refusal.specs.Checks.{within, _andThen_, check1, check6};
 ghost use Rattle.refusal.specs.Checks;
-ghost use Rattle.refusal.specs.Answers.{numberOf, reasonOf, checkedAs, answerOf, answerTo, bufferAfter};
+ghost use Rattle.refusal.specs.Answers.{reasonOf, checkedAs, answerOf, answerTo, bufferAfter};
 
 // Why a call refuses. A refusal is document 01's term: a numbered answer that leaves every lent buffer as it was. Each variant has the words of
 // its paper: 1 to 28 those of document 01, 29 to 50 those of document 02, with the request in brackets. No call gives a number of a request
-// that has not landed. `numberOf` of specs/Answers.antt gives each its number.
+// that has not landed. `reasonOf` of specs/Answers.antt gives each its number, and the place that it carries.
 pub enum Refusal {
     // root key (EMSK, VRK, VMSK) not 64 to 128 bytes
     RootKeyLength,
     // label not 1 to 255 bytes
     LabelLength,
-    // a label byte outside 32 to 126
-    LabelByte,
+    // a label byte outside 32 to 126; the position of the first such byte in the label
+    LabelByte(usize),
     // optional data over 2,048 bytes
     DataLength,
     // key length not 1 to 8,160
@@ -40,8 +40,8 @@ pub enum Refusal {
     ReplyNotOffered,
     // renewed list is not the choice followed by the original
     RenewedList,
-    // attribute without a length byte, of length 0, or past the area's end
-    AttributeBounds,
+    // attribute without a length byte, of length 0, or past the area's end; the attribute's offset from the area's first byte
+    AttributeBounds(usize),
     // AT_KDF whose length is not 1
     KdfLength,
     // AT_KDF_INPUT whose length disagrees with its name length, or whose padding is not zero
@@ -122,64 +122,6 @@ pub enum Checked {
 pub enum Written {
     Wrote(usize),
     Refused(Refusal),
-}
-
-// The number of a refusal.
-pub fn number(why: Refusal) -> u32
-    ensures { λ r. ⌜ r ≡ numberOf why ⌝ }
-{
-    match why {
-        Refusal::RootKeyLength => 1,
-        Refusal::LabelLength => 2,
-        Refusal::LabelByte => 3,
-        Refusal::DataLength => 4,
-        Refusal::KeyLength => 5,
-        Refusal::Room => 6,
-        Refusal::ServerId => 7,
-        Refusal::Domain => 8,
-        Refusal::SessionId => 9,
-        Refusal::OfferCount => 10,
-        Refusal::RepeatedOffer => 11,
-        Refusal::NoOfferSupported => 12,
-        Refusal::ReplyIsFirst => 13,
-        Refusal::ReplyNotOffered => 14,
-        Refusal::RenewedList => 15,
-        Refusal::AttributeBounds => 16,
-        Refusal::KdfLength => 17,
-        Refusal::KdfInput => 18,
-        Refusal::NetworkName => 19,
-        Refusal::AttributeType => 20,
-        Refusal::IdLength => 21,
-        Refusal::KekLength => 22,
-        Refusal::KeyToWrapLength => 23,
-        Refusal::KeyAttributeLength => 24,
-        Refusal::ReservedByte => 25,
-        Refusal::EncType => 26,
-        Refusal::IvField => 27,
-        Refusal::Integrity => 28,
-        Refusal::KdfInputPadding => 29,
-        Refusal::NetworkNameDiffers => 30,
-        Refusal::DomainLabel => 31,
-        Refusal::LabelSyntax => 32,
-        Refusal::HandoverKeyLength => 33,
-        Refusal::IdentifierLength => 34,
-        Refusal::PacketLength => 35,
-        Refusal::PacketAttributeBounds => 36,
-        Refusal::MacAttribute => 37,
-        Refusal::MacDiffers => 38,
-        Refusal::BundleCount => 39,
-        Refusal::BundleContents => 40,
-        Refusal::BundleEnd => 41,
-        Refusal::RepeatedKeyId => 42,
-        Refusal::AkaInputLength => 43,
-        Refusal::NetworkNameLength => 44,
-        Refusal::IdentityLength => 45,
-        Refusal::SlotsFull => 46,
-        Refusal::NoSuchSlot => 47,
-        Refusal::ParentNotLive => 48,
-        Refusal::TooDeep => 49,
-        Refusal::KeyIdUnlikeContents => 50,
-    }
 }
 
 // Whether x is from lo to hi, both counted.

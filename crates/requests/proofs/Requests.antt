@@ -6,13 +6,15 @@ use mathlib.Core.List.{List}
 use native.Mathlib.Nat.{not-suc-le-zero}
 use Rattle.refusal.specs.Checks.{unless, _andThen_, within}
 use Rattle.refusal.proofs.Passing.{then-pass}
-use Rattle.charset.specs.Bytes.{every, labelByte}
-use Rattle.identifiers.specs.Checks.{labelCheck}
+use Rattle.slices.specs.Same.{sameList}
+use Rattle.charset.specs.Bytes.{every, scanFrom, labelByte, domainByte}
+use Rattle.identifiers.specs.FixedLabels.{vrkLabel, dsrkLabel}
+use Rattle.identifiers.specs.Checks.{labelCheck, check31, check8}
 use Rattle.hmac.specs.Rfc2104.{hmacSha256}
 use Rattle.hmac.proofs.Laws.{hmacSha256-length}
 use Rattle.prf_plus.specs.PrfPlus.{block, prfPlus}
 use Rattle.prf_plus.proofs.Laws.{count-le, block-of-input, prfPlus-length}
-use Rattle.requests.specs.Requests.{Request, BlockOf, lengthOf, checkOf, vrkLabel, textOf, inputOf, keyOf}
+use Rattle.requests.specs.Requests.{Request, BlockOf, lengthOf, checkOf, textOf, inputOf, keyOf}
 use Rattle.requests.specs.Statements.{KeyOfBlocks, VrkIsUsage, SomeAccepted}
 use Rattle.requests.proofs.Accepting.{sound}
 
@@ -33,9 +35,9 @@ key-of-blocks emsk r = (
 
 -- a VRK's label, data and length pass the tests of a usage request
 pub vrk-is-usage : VrkIsUsage
-unfolding checkOf labelCheck vrkLabel unless within every labelByte textOf inputOf keyOf
+unfolding checkOf labelCheck check31 vrkLabel dsrkLabel sameList unless within scanFrom labelByte textOf inputOf keyOf
 vrk-is-usage emsk room = (simp then-pass, refl, refl, λ i. refl)
 
 pub some-accepted : SomeAccepted
-unfolding checkOf labelCheck _andThen_ unless within every labelByte
-some-accepted = (refl, refl, refl)
+unfolding checkOf labelCheck check31 check8 dsrkLabel sameList _andThen_ unless within scanFrom labelByte every domainByte
+some-accepted = (refl, refl, refl, refl, refl, refl, refl)

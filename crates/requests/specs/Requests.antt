@@ -1,5 +1,5 @@
 -- Requests for keys under an EMSK: when one is accepted, the bytes handed to HMAC for each of its blocks, its key, and what the call
--- answers and leaves (document 01, "Usage keys"). The contracts of the calls under an EMSK and the separation of their keys speak of
+-- answers and leaves (document 01, "Usage keys"; document 02, request 6). The contracts of the calls under an EMSK and the separation of their keys speak of
 -- these same definitions.
 -- Assumes nothing.
 use Prim.Native.Nat.{ℕ, _≤_}
@@ -7,39 +7,42 @@ use mathlib.Core.List.{List, []}
 use mathlib.Core.Path.{_≡_}
 use Rattle.refusal.specs.Checks.{Check, pass, _andThen_, check1, check6}
 use Rattle.refusal.specs.Answers.{Answer, answerTo, bufferAfter}
-use Rattle.slices.specs.Ascii.{ascii}
-use Rattle.identifiers.specs.Checks.{labelCheck}
+use Rattle.identifiers.specs.FixedLabels.{vrkLabel, dsrkLabel}
+use Rattle.identifiers.specs.Checks.{labelCheck, check31, check8}
 use Rattle.hmac.specs.Rfc2104.{hmacSha256}
 use Rattle.prf_plus.specs.PrfPlus.{blockCount, blockInput, prfPlus, check5}
 use Rattle.requests.specs.Rfc5295.{usageText, check4}
 
--- the label of a VRK (source document 001, section 4.1)
-unfoldable pub vrkLabel : List ℕ
-vrkLabel = ascii "EAP Visited domain Root Key"
-
 -- a usage request (document 01's term): a label, optional data (none is data of length 0), the key length n, and the room in the output
--- buffer. Asking for a VRK counts as one. The EMSK is beside it, so that "under one EMSK" is one variable
+-- buffer. Asking for a VRK counts as one, and asking for the root key of a domain is a request beside them (document 02, request 6). The EMSK is
+-- no part of it, so that "under one EMSK" is one variable
 pub data Request : Type 0 where
   forUsage : (label extra : List ℕ) (n room : ℕ) → Request
   forVrk : (room : ℕ) → Request
+  forDomain : (domain : List ℕ) (room : ℕ) → Request
 
--- its label, its optional data and its key length; a VRK has its fixed label, no data and n = 64
+-- its label, its optional data and its key length. A VRK has its fixed label, no data and n = 64; a domain root key (RFC 5295, section 4) has
+-- its fixed label, the domain as data and n = 64
 abbrev pub labelOf : Request → List ℕ
 labelOf (forUsage label extra n room) = label
 labelOf (forVrk room) = vrkLabel
+labelOf (forDomain domain room) = dsrkLabel
 
 abbrev pub dataOf : Request → List ℕ
 dataOf (forUsage label extra n room) = extra
 dataOf (forVrk room) = []
+dataOf (forDomain domain room) = domain
 
 abbrev pub lengthOf : Request → ℕ
 lengthOf (forUsage label extra n room) = n
 lengthOf (forVrk room) = 64
+lengthOf (forDomain domain room) = 64
 
--- the order of its tests: 1, 2, 3, 4, 5, 6 for a usage key (`labelCheck` is 2, 3); 1, 6 for a VRK
+-- the order of its tests: 1, 2, 3, 31, 4, 5, 6 for a usage key (`labelCheck` is 2, 3); 1, 6 for a VRK; 1, 8, 6 for a domain root key
 unfoldable pub checkOf : List ℕ → Request → Check
-checkOf emsk (forUsage label extra n room) = check1 emsk andThen labelCheck label andThen check4 extra andThen check5 n andThen check6 n room
+checkOf emsk (forUsage label extra n room) = check1 emsk andThen labelCheck label andThen check31 label andThen check4 extra andThen check5 n andThen check6 n room
 checkOf emsk (forVrk room) = check1 emsk andThen check6 64 room
+checkOf emsk (forDomain domain room) = check1 emsk andThen check8 domain andThen check6 64 room
 
 -- accepted under an EMSK: exactly when no number of its order holds
 abbrev pub Accepted : List ℕ → Request → Type 0

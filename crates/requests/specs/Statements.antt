@@ -1,16 +1,19 @@
--- What is proved of requests under an EMSK (document 01, demand 3, "Usage keys", "Visited keys"). The proofs are `separated` and `gate-texts`
--- of proofs/Separation.antt, and `key-of-blocks`, `vrk-is-usage` and `some-accepted` of proofs/Requests.antt.
+-- What is proved of requests under an EMSK (document 01, demand 3, "Usage keys", "Visited keys"; document 02, request 6). The proofs are `separated`
+-- and `gate-texts` of proofs/Separation.antt, those of the two statements on domains in proofs/Domains.antt, and `key-of-blocks`, `vrk-is-usage` and
+-- `some-accepted` of proofs/Requests.antt.
 -- Assumes nothing.
 use Prim.Native.Nat.{ℕ, _≤_}
 use mathlib.Core.Path.{_≡_}
+use mathlib.Core.Bool.{Bool, true, false}
 use mathlib.Core.Logic.{_↔_}
 use mathlib.Core.List.{List, [], _∷_}
 use lib.ListN.{length, take, replicate}
 use Rattle.slices.specs.Ascii.{ascii}
-use Rattle.refusal.specs.Checks.{refuse, bare}
+use Rattle.refusal.specs.Checks.{refuse, bare, located}
 use Rattle.hmac.specs.Rfc2104.{hmacSha256}
 use Rattle.prf_plus.specs.PrfPlus.{blockCount, block, blocks}
-use Rattle.requests.specs.Requests.{Request, forUsage, forVrk, labelOf, dataOf, lengthOf, checkOf, Accepted, BlockOf, vrkLabel, textOf, inputOf, keyOf}
+use Rattle.identifiers.specs.FixedLabels.{vrkLabel, dsrkLabel}
+use Rattle.requests.specs.Requests.{Request, forUsage, forVrk, forDomain, labelOf, dataOf, lengthOf, checkOf, Accepted, BlockOf, textOf, inputOf, keyOf}
 
 -- Demand 3: for any EMSK, any two requests accepted under it and any block of each, the bytes handed to HMAC are equal exactly when
 -- label, optional data, key length and block number are all equal. Nothing is assumed of HMAC or SHA-256
@@ -20,6 +23,36 @@ Separated =
     → Accepted emsk r₁ → Accepted emsk r₂
     → (i j : ℕ) → BlockOf r₁ i → BlockOf r₂ j
     → (inputOf emsk r₁ i ≡ inputOf emsk r₂ j) ↔ ((labelOf r₁ ≡ labelOf r₂) × (dataOf r₁ ≡ dataOf r₂) × (lengthOf r₁ ≡ lengthOf r₂) × (i ≡ j))
+
+-- Usage requests and requests for a domain are kept apart, which demand 3 alone does not say: two accepted requests of which a block each has the
+-- same bytes are both for a domain, or neither is
+abbrev pub ForDomain : Request → Bool
+ForDomain (forUsage label extra n room) = false
+ForDomain (forVrk room) = false
+ForDomain (forDomain domain room) = true
+
+abbrev pub KindsApart : Type 0
+KindsApart =
+    (emsk : List ℕ) (r s : Request)
+    → Accepted emsk r → Accepted emsk s
+    → (i j : ℕ) → BlockOf r i → BlockOf s j
+    → inputOf emsk r i ≡ inputOf emsk s j → ForDomain r ≡ ForDomain s
+
+-- Of two accepted requests for a domain, a block each has the same bytes exactly when domain and block number are equal. So the owner's two yards, whose
+-- VMSKs are one (`VmskSeam` of the crate visited), have domain root keys of their own: no block of the one has the bytes of a block of the other
+abbrev pub DomainsApart : Type 0
+DomainsApart =
+    (emsk domain₁ domain₂ : List ℕ) (room₁ room₂ : ℕ)
+    → Accepted emsk (forDomain domain₁ room₁) → Accepted emsk (forDomain domain₂ room₂)
+    → (i j : ℕ) → BlockOf (forDomain domain₁ room₁) i → BlockOf (forDomain domain₂ room₂) j
+    → (inputOf emsk (forDomain domain₁ room₁) i ≡ inputOf emsk (forDomain domain₂ room₂) j) ↔ ((domain₁ ≡ domain₂) × (i ≡ j))
+
+abbrev pub YardsApart : Type 0
+YardsApart =
+    (emsk : List ℕ) (room₁ room₂ : ℕ)
+    → Accepted emsk (forDomain (ascii "2.example") room₁) → Accepted emsk (forDomain (ascii ".example") room₂)
+    → (i j : ℕ) → BlockOf (forDomain (ascii "2.example") room₁) i → BlockOf (forDomain (ascii ".example") room₂) j
+    → inputOf emsk (forDomain (ascii "2.example") room₁) i ≡ inputOf emsk (forDomain (ascii ".example") room₂) j → ⊥
 
 -- The inputs that demand 3 speaks of are those of the blocks of demand 2's key. The key is the first n bytes of the request's blocks, one after
 -- the other; each block is HMAC of its input; the key has n bytes; and an accepted request has at most 255 blocks, so that a block number is a byte
@@ -42,12 +75,17 @@ VrkIsUsage =
     × ((i : ℕ) → inputOf emsk (forVrk room) i ≡ inputOf emsk (forUsage vrkLabel [] 64 room) i)
 
 -- Some requests are accepted, and others are refused with the first number that holds: a label of one letter; no label; a label with a tab,
--- where the key length is wrong too
+-- where the key length is wrong too; the domain label, where it is wrong too; the two yards' domains; a domain with an underscore, where there is no
+-- room either
 abbrev pub SomeAccepted : Type 0
 SomeAccepted =
     Accepted (replicate 64 7) (forUsage (ascii "a") [] 64 64)
     × (checkOf (replicate 64 7) (forUsage [] [] 64 64) ≡ refuse (bare 2))
-    × (checkOf (replicate 64 7) (forUsage (0x61 ∷ 0x09 ∷ []) [] 0 64) ≡ refuse (bare 3))
+    × (checkOf (replicate 64 7) (forUsage (0x61 ∷ 0x09 ∷ []) [] 0 64) ≡ refuse (located 3 1))
+    × (checkOf (replicate 64 7) (forUsage dsrkLabel [] 0 64) ≡ refuse (bare 31))
+    × Accepted (replicate 64 7) (forDomain (ascii "2.example") 64)
+    × Accepted (replicate 64 7) (forDomain (ascii ".example") 64)
+    × (checkOf (replicate 64 7) (forDomain (ascii "2_example") 0) ≡ refuse (bare 8))
 
 -- the worked example of docs/SEPARATION.md: without the zero byte the two texts would be one
 abbrev pub GateTexts : Type 0

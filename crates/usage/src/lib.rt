@@ -1,12 +1,14 @@
 // Usage keys (RFC 5295; source document 000, section 3; document 01, "Usage keys"): n bytes of prf+ under the EMSK, with a text S of the
-// label, a zero byte, optional data and n. The crate `requests` has the definitions.
+// label, a zero byte, optional data and n. The label of a domain root key is refused (document 02, request 6). The crate `requests` has the
+// definitions.
 ghost use mathlib.Core.Path.{_≡_};
 ghost use lib.ListN.{length};
 ghost use Rattle.refusal.specs.Checks.{_andThen_, check1};
 ghost use Rattle.refusal.specs.Answers.{checkedAs, answerOf};
-ghost use Rattle.identifiers.specs.Checks.{labelCheck};
+ghost use Rattle.identifiers.specs.Checks.{labelCheck, check31};
 ghost use Rattle.requests.specs.Rfc5295.{check4};
 ghost use Rattle.requests.specs.Requests.{forUsage, requestAnswer, requestBuffer};
+use identifiers::check_domain_label;
 use identifiers::check_label;
 use refusal::Checked;
 use refusal::Refusal;
@@ -15,14 +17,16 @@ use refusal::Written;
 // The most bytes of optional data.
 const MOST_DATA: usize = 2048;
 
-// The tests that come before those of the expansion: 1, 2, 3, 4.
+// The tests that come before those of the expansion: 1, 2, 3, 31, 4.
 fn check_inputs(emsk: &[u8], label: &[u8], data: &[u8]) -> Checked
-    ensures { λ r. ⌜ checkedAs r ≡ (check1 (now (emsk .entry)) andThen labelCheck (now (label .entry)) andThen check4 (now («data» .entry))) ⌝ }
+    ensures { λ r. ⌜ checkedAs r ≡ (check1 (now (emsk .entry)) andThen labelCheck (now (label .entry)) andThen check31 (now (label .entry)) andThen check4 (now («data» .entry))) ⌝ }
 {
     let key = refusal::check_root_key(emsk);
     let name = check_label(label);
+    let own = check_domain_label(label);
     let extra = refusal::unless(data.len() <= MOST_DATA, Refusal::DataLength);
-    refusal::then_check(refusal::then_check(key, name), extra)
+    let named = refusal::then_check(refusal::then_check(key, name), own);
+    refusal::then_check(named, extra)
 }
 
 // Writes the usage key of a label, optional data and a length n: n bytes at the start of out. The expansion tests 5 and 6.

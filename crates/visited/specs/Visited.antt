@@ -4,7 +4,7 @@
 use Prim.Native.Nat.{ℕ}
 use mathlib.Core.List.{List, _++_}
 use Rattle.refusal.specs.Checks.{Check, _andThen_, check1, check6}
-use Rattle.slices.specs.Ascii.{ascii}
+use Rattle.identifiers.specs.FixedLabels.{visitedReauthLabel}
 use Rattle.identifiers.specs.Checks.{check7, check8}
 use Rattle.hmac.specs.Rfc2104.{hmacSha256}
 use Rattle.prf_plus.specs.PrfPlus.{prfPlus}
@@ -23,7 +23,7 @@ vmskKey vrk server domain = prfPlus hmacSha256 vrk (vmskText server domain) 64
 
 -- the text S of a V-rRK: its label alone
 unfoldable pub reauthText : List ℕ
-reauthText = ascii "EAP Re-authentication Root Key"
+reauthText = visitedReauthLabel
 
 -- the order of its tests: 1, 6
 unfoldable pub reauthCheck : List ℕ → ℕ → Check

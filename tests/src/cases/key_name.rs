@@ -1,6 +1,6 @@
 //! Key names: bounds of every length, every value of a label's byte, the refusals, random requests.
 
-use super::{label, with_byte};
+use super::{bad_labels, label, with_byte};
 use crate::call::{bytes_or_refusal, Call, Expected, Group, Ordered};
 use crate::ffi::{self, Outcome};
 use crate::guard::Lender;
@@ -13,7 +13,7 @@ impl Call for KeyName {
     type Answer = Outcome;
 
     fn expected(&self) -> Expected<Outcome> {
-        bytes_or_refusal(self.name())
+        bytes_or_refusal(self.name()).with_label(&self.label)
     }
 
     fn run(&self, lender: &mut Lender) -> Outcome {
@@ -87,5 +87,9 @@ fn label_bytes(group: &mut Group) {
             call.session_id = vec![byte].into();
             group.compare(&call);
         }
+    }
+    let accepted = request(&mut group.rng);
+    for label in bad_labels(&mut group.rng) {
+        group.compare(&KeyName { label, ..accepted.clone() });
     }
 }

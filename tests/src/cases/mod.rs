@@ -29,6 +29,21 @@ fn label(rng: &mut Rng) -> Bytes {
     rng.bytes_in(len, 32, 126).into()
 }
 
+/// Labels of 1, 9, 255 and 256 bytes with a bad byte at each place in turn, alone and before others: the first is told.
+fn bad_labels(rng: &mut Rng) -> Vec<Bytes> {
+    let mut labels = Vec::new();
+    for len in [1, 9, 255, 256] {
+        for first in 0..len {
+            let byte = rng.pick(&[0, 9, 31, 127, 128, 255]);
+            let alone = with_byte(&rng.bytes_in(len, 32, 126), first, byte);
+            let rest = rng.bytes(len - first - 1);
+            labels.push([&alone[..=first], &rest[..]].concat().into());
+            labels.push(alone);
+        }
+    }
+    labels
+}
+
 /// The bytes with one of them changed.
 fn with_byte(bytes: &[u8], at: usize, byte: u8) -> Bytes {
     let mut changed = Bytes::from(bytes);

@@ -1,6 +1,6 @@
 //! Usage keys: document 01's run cases, the bounds, the refusals, random requests, and keys that must differ.
 
-use super::{label, root_key, with_byte, ROOT_KEY_LENGTHS};
+use super::{bad_labels, label, root_key, with_byte, ROOT_KEY_LENGTHS};
 use crate::bytes::Bytes;
 use crate::call::{bytes_or_refusal, Call, Expected, Group, Ordered};
 use crate::ffi::{self, Outcome};
@@ -14,7 +14,7 @@ impl Call for UsageKey {
     type Answer = Outcome;
 
     fn expected(&self) -> Expected<Outcome> {
-        bytes_or_refusal(self.key())
+        bytes_or_refusal(self.key()).with_label(&self.label)
     }
 
     fn run(&self, lender: &mut Lender) -> Outcome {
@@ -149,6 +149,10 @@ fn label_bytes(group: &mut Group) {
             call.data = vec![byte].into();
             group.compare(&call);
         }
+    }
+    let accepted = request(&mut group.rng);
+    for label in bad_labels(&mut group.rng) {
+        group.compare(&UsageKey { label, ..accepted.clone() });
     }
 }
 

@@ -1,4 +1,4 @@
-//! The second program's own reading of document 01: for each call the numbers of its order and what it writes.
+//! The second program's own reading of the papers: for each call the numbers of its order and what it writes.
 
 pub mod area;
 pub mod key_attribute;
@@ -8,7 +8,7 @@ pub mod prf;
 pub mod usage;
 pub mod visited;
 
-/// A number of document 01, "Refusal numbers".
+/// A number of document 01, "Refusal numbers", or of document 02.
 pub type Refusal = u32;
 
 /// The numbers that a call's order lists, in that order, each with whether it holds for the call's input.
@@ -36,7 +36,7 @@ fn wrong_label_length(label: &[u8]) -> bool {
     !(1..=255).contains(&label.len())
 }
 
-/// 3: a label byte outside 32 to 126.
-fn wrong_label_byte(label: &[u8]) -> bool {
-    label.iter().any(|byte| !(32..=126).contains(byte))
+/// 3: a label byte outside 32 to 126. The refusal carries the position of the first one, counted from 0 (document 02, request 1).
+pub fn bad_label_byte(label: &[u8]) -> Option<usize> {
+    label.iter().position(|byte| !(32..=126).contains(byte))
 }

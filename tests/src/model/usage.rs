@@ -1,7 +1,7 @@
 //! Usage keys, RFC 5295 as document 01 reads it.
 
 use super::prf::prf_plus;
-use super::{accepted_by, wrong_label_byte, wrong_label_length, wrong_root_key, Order, Refusal};
+use super::{accepted_by, bad_label_byte, wrong_label_length, wrong_root_key, Order, Refusal};
 use crate::bytes::Bytes;
 
 /// A usage request: an EMSK, a label, optional data, n and an output buffer.
@@ -19,7 +19,7 @@ impl UsageKey {
         vec![
             (1, wrong_root_key(&self.emsk)),
             (2, wrong_label_length(&self.label)),
-            (3, wrong_label_byte(&self.label)),
+            (3, bad_label_byte(&self.label).is_some()),
             (4, self.data.len() > 2048),
             (5, !(1..=8160).contains(&self.n)),
             (6, (self.room as u64) < self.n),

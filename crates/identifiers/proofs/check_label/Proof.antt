@@ -16,8 +16,8 @@ enum-told c = search needs
 enum-told-2 : tie.Need-enum-told-2
 enum-told-2 c = search needs
 
-enum-told-3 : tie.Need-enum-told-3
-enum-told-3 c = search needs
+enum-known-i : tie.Need-enum-known-i
+enum-known-i c = search needs
 
 returns : tie.Need-returns
 returns c = ap formCheck (sym (c .enum-told .given .1) ∙ c .before .before .form-of .ensures) ∙ label-form _
@@ -26,9 +26,9 @@ returns-2 : tie.Need-returns-2
 returns-2 c = ap formCheck (sym (c .enum-told2 .given .1) ∙ c .before .before .form-of .ensures) ∙ label-form _
 
 returns-3 : tie.Need-returns-3
-returns-3 c = ap formCheck (sym (c .enum-told3 .given .1) ∙ c .before .before .form-of .ensures) ∙ label-form _
+returns-3 c = ap formCheck (sym (c .before .i .given .1) ∙ c .before .before .before .form-of .ensures) ∙ label-form _
 
 pub check-label-spec : {M : Type 1} → statement M
 check-label-spec =
     tie.close
-    (tie.spec form-of-requires enum-told enum-told-2 enum-told-3 returns returns-2 returns-3)
+    (tie.spec form-of-requires enum-told enum-told-2 enum-known-i returns returns-2 returns-3)

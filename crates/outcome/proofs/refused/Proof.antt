@@ -7,8 +7,11 @@ use Rattle.outcome.proofs.refused.Tie as tie
 number-requires : tie.Need-number-requires
 number-requires c κs = search needs
 
+place-requires : tie.Need-place-requires
+place-requires c κs = search needs
+
 returns : tie.Need-returns
-returns c = simp (c .number .ensures)
+returns c = simp (c .before .number .ensures, c .place .ensures)
 
 pub refused-spec : {M : Type 1} → statement M
-refused-spec = tie.close (tie.spec number-requires returns)
+refused-spec = tie.close (tie.spec number-requires place-requires returns)

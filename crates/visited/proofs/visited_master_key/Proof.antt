@@ -6,7 +6,8 @@ use denote.Ref.{now}
 use lib.ListN.{length}
 use Rattle.refusal.proofs.Answering.{answer-by}
 use Rattle.visited.specs.Visited.{vmskCheck}
-use Rattle.visited.proofs.Tests.{then-room, master-buffer}
+use Rattle.requests.proofs.Rooms.{then-room}
+use Rattle.visited.proofs.Tests.{master-buffer}
 use Rattle.visited.proofs.visited_master_key.Statement.{statement}
 use Rattle.visited.proofs.visited_master_key.Tie as tie
 

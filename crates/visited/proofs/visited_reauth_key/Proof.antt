@@ -5,8 +5,9 @@ use borrow.Author.Needs.{needs}
 use denote.Ref.{now}
 use lib.ListN.{length}
 use Rattle.refusal.proofs.Answering.{answer-by, buffer-by}
+use Rattle.identifiers.specs.FixedLabels.{visitedReauthLabel}
 use Rattle.visited.specs.Visited.{reauthText, reauthCheck, reauthKey}
-use Rattle.visited.proofs.Tests.{then-room}
+use Rattle.requests.proofs.Rooms.{then-room}
 use Rattle.visited.proofs.visited_reauth_key.Statement.{statement}
 use Rattle.visited.proofs.visited_reauth_key.Tie as tie
 
@@ -29,7 +30,7 @@ same-length : tie.Need-same-length
 same-length c = search needs
 
 returns : tie.Need-returns
-unfolding reauthCheck reauthKey reauthText
+unfolding reauthCheck reauthKey reauthText visitedReauthLabel
 returns c =
     let e = c .before .before in
     let k = e .before .before .before .before .before .before .before in

@@ -5,9 +5,10 @@ use borrow.Author.Needs.{needs}
 use denote.Ref.{now}
 use lib.ListN.{length}
 use Rattle.refusal.proofs.Answering.{answer-by, buffer-by}
+use Rattle.identifiers.specs.FixedLabels.{vrkLabel}
 use Rattle.requests.specs.Rfc5295.{usageText}
-use Rattle.requests.specs.Requests.{Request, forVrk, vrkLabel, checkOf, textOf, keyOf, requestAnswer, requestBuffer}
-use Rattle.visited.proofs.Tests.{then-room}
+use Rattle.requests.specs.Requests.{Request, forVrk, checkOf, textOf, keyOf, requestAnswer, requestBuffer}
+use Rattle.requests.proofs.Rooms.{then-room}
 use Rattle.visited.proofs.visited_root_key.Statement.{statement}
 use Rattle.visited.proofs.visited_root_key.Tie as tie
 

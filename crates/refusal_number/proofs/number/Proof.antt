@@ -1,8 +1,8 @@
--- `refusal::number` meets its contract.
+-- `refusal_number::number` meets its contract.
 -- Assumes nothing.
 use borrow.Author.Needs.{needs}
-use Rattle.refusal.proofs.number.Statement.{statement}
-use Rattle.refusal.proofs.number.Tie as tie
+use Rattle.refusal_number.proofs.number.Statement.{statement}
+use Rattle.refusal_number.proofs.number.Tie as tie
 
 enum-told : tie.Need-enum-told
 enum-told c = search needs

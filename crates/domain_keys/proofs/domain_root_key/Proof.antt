@@ -1,0 +1,49 @@
+-- `domain_keys::domain_root_key` meets its contract: its tests and its text are those of the request for a domain.
+-- Assumes nothing.
+use mathlib.Core.Path.{refl}
+use borrow.Author.Needs.{needs}
+use denote.Ref.{now}
+use lib.ListN.{length}
+use Rattle.refusal.proofs.Answering.{answer-by, buffer-by}
+use Rattle.identifiers.specs.FixedLabels.{dsrkLabel}
+use Rattle.requests.specs.Rfc5295.{usageText}
+use Rattle.requests.specs.Requests.{Request, forDomain, checkOf, textOf, keyOf, requestAnswer, requestBuffer}
+use Rattle.requests.proofs.Rooms.{then-room}
+use Rattle.domain_keys.proofs.domain_root_key.Statement.{statement}
+use Rattle.domain_keys.proofs.domain_root_key.Tie as tie
+
+check-inputs-requires : tie.Need-check-inputs-requires
+check-inputs-requires c κs = tt
+
+slice-aggregate-expand : tie.Need-slice-aggregate-expand
+slice-aggregate-expand c = refl
+
+slice-aggregate-expand-2 : tie.Need-slice-aggregate-expand-2
+slice-aggregate-expand-2 c = refl
+
+expand-requires : tie.Need-expand-requires
+expand-requires c κs = tt
+
+same-length : tie.Need-same-length
+same-length c = search needs
+
+returns : tie.Need-returns
+unfolding checkOf requestAnswer requestBuffer keyOf textOf usageText dsrkLabel
+returns c =
+    let e = c .before .before in
+    let k = e .before .before .before .before .before .before in
+    let s = k .before .before .before .before .args in
+    let r : Request = forDomain (now (s .domain)) (length (now (s .out))) in
+    let tests = then-room (length (now (s .out))) (k .check-inputs .ensures) in
+    (answer-by 64 tests (e .expand .ensures .0), buffer-by 64 (keyOf (now (s .emsk)) r) (now (s .out)) tests (e .expand .ensures .1))
+
+pub domain-root-key-spec : {M : Type 1} → statement M
+domain-root-key-spec =
+    tie.close
+    (tie.spec
+    check-inputs-requires
+    slice-aggregate-expand
+    slice-aggregate-expand-2
+    expand-requires
+    same-length
+    returns)

@@ -1,0 +1,14 @@
+-- `refusal::check_room` meets its contract.
+-- Assumes nothing.
+use borrow.Author.Needs.{needs}
+use Rattle.refusal.proofs.check_room.Statement.{statement}
+use Rattle.refusal.proofs.check_room.Tie as tie
+
+unless-requires : tie.Need-unless-requires
+unless-requires c κs = search needs
+
+returns : tie.Need-returns
+returns c = c .unless .ensures
+
+pub check-room-spec : {M : Type 1} → statement M
+check-room-spec = tie.close (tie.spec unless-requires returns)

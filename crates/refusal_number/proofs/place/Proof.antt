@@ -1,0 +1,24 @@
+-- `refusal_number::place` meets its contract.
+-- Assumes nothing.
+use borrow.Author.Needs.{needs}
+use Rattle.refusal_number.proofs.Places.{unplaced}
+use Rattle.refusal_number.proofs.place.Statement.{statement}
+use Rattle.refusal_number.proofs.place.Tie as tie
+
+enum-known-why : tie.Need-enum-known-why
+enum-known-why c = search needs
+
+enum-known-why-2 : tie.Need-enum-known-why-2
+enum-known-why-2 c = search needs
+
+returns : tie.Need-returns
+returns c = simp (c .before .why .given .1)
+
+returns-2 : tie.Need-returns-2
+returns-2 c = simp (c .before .why2 .given .1)
+
+returns-3 : tie.Need-returns-3
+returns-3 c = unplaced (c .before .args .why) (c .match .keys3)
+
+pub place-spec : {M : Type 1} → statement M
+place-spec = tie.close (tie.spec enum-known-why enum-known-why-2 returns returns-2 returns-3)
