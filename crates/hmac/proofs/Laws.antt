@@ -1,16 +1,18 @@
 -- HMAC-SHA-256 by the hash values after a key's two blocks is RFC 2104's (`KeptValuesGiveMac` of rfc2104), and a MAC has 32 bytes.
 -- Assumes nothing.
 use Prim.Native.Nat.{ℕ, _≤_}
-use mathlib.Core.Path.{_≡_}
+use mathlib.Core.Path.{_≡_, _∙_}
 use mathlib.Core.List.{List, _++_}
 use lib.Dec.{lit≤}
 use lib.ListN.{length}
+use Rattle.fips180.specs.Stream.{Progress}
 use Rattle.rfc2104.specs.Rfc2104.{masked, keyBlock, ipad, opad, hmac}
 use Rattle.rfc2104.proofs.Laws as laws
 use Rattle.sha256_block.specs.Fips180.{sha256, compress, H0, digest}
+use Rattle.sha256.specs.Stream.{startedAfter, absorbed, finished}
 use Rattle.sha256.proofs.Stream.{sha256-length}
 use Rattle.hmac.specs.Rfc2104.{hmacSha256}
-use Rattle.hmac.specs.Keyed.{keyValue, macByValues}
+use Rattle.hmac.specs.Keyed.{keyValue, hashAfter, macByValues}
 
 -- the hash value that the code computes from a key's block
 pub key-value : (key : List ℕ) (pad : ℕ) {block v : List ℕ} → block ≡ keyBlock sha256 key → v ≡ compress H0 (masked block pad) → v ≡ keyValue key pad
@@ -28,3 +30,9 @@ kept-values-give-mac = laws.kept-values-give-mac compress H0 digest digest-fits
 pub hmacSha256-length : (key message : List ℕ) → length (hmacSha256 key message) ≡ 32
 unfolding hmacSha256 hmac
 hmacSha256-length key message = sha256-length (masked (keyBlock sha256 key) opad ++ sha256 (masked (keyBlock sha256 key) ipad ++ message))
+
+-- the MAC of a text from the two hash values of a key: s is the inner hash begun, d its digest, r the outer hash
+pub mac-from-values : (key text : List ℕ) {inner outer d r : List ℕ} {s : Progress} → inner ≡ keyValue key ipad → outer ≡ keyValue key opad
+    → s ≡ startedAfter inner → d ≡ finished (absorbed s text) → r ≡ hashAfter outer d → r ≡ hmacSha256 key text
+mac-from-values key text {outer = outer} ei eo es ed er =
+    laws.mac-by-hashes compress digest outer text es ed er ∙ (λ i. macByValues (ei i) (eo i) text) ∙ kept-values-give-mac key text

@@ -1,5 +1,6 @@
-// HMAC-SHA-256 (RFC 2104). `mac` is the MAC of one message. A caller that has a message in parts, or many under one key, keeps the
-// hash values after the key's two blocks in a `Keyed` (section 4). It begins each message's hash with the inner value, and closes it.
+// HMAC-SHA-256 (RFC 2104). `mac` is the MAC of one message, `mac_of_parts` that of one in up to six parts. A caller that has many under one
+// key keeps the hash values after the key's two blocks in a `Keyed` (section 4). It begins each message's hash with the inner value, and
+// closes it.
 ghost use mathlib.Core.Path.{_≡_};
 ghost use mathlib.Core.List.{_++_};
 ghost use Prim.Native.Nat.{_-_, _≤_};
@@ -103,4 +104,22 @@ pub fn mac(key: &[u8], message: &[u8]) -> [u8; Sha256::DIGEST]
     let k = key_block(key);
     let digest = hash_after(key_value(k, IPAD), message);
     outer_hash(key_value(k, OPAD), digest)
+}
+
+// The MAC of a message in six parts, which are not joined. A message of fewer has empty ones.
+pub fn mac_of_parts<'a>(
+    key: &[u8],
+    a: &'a [u8],
+    b: &'a [u8],
+    c: &'a [u8],
+    d: &'a [u8],
+    e: &'a [u8],
+    f: &'a [u8],
+) -> [u8; Sha256::DIGEST]
+    ensures { λ r. ⌜ r ≡ hmacSha256 (now (key .entry)) (now (a .entry) ++ (now (b .entry) ++ (now (c .entry) ++ (now (d .entry) ++ (now (e .entry) ++ now (f .entry)))))) ⌝ }
+{
+    let k = Keyed::new(key);
+    let inner = k.inner;
+    let digest = Sha256::after(inner).finish_with(a, b, c, d, e, f);
+    k.close(digest)
 }

@@ -10,6 +10,7 @@ ghost use Rattle.outcome.specs.Outcomes.{outcomeOf};
 ghost use Rattle.requests.specs.Requests.{forUsage, forVrk, forDomain, requestAnswer, requestBuffer};
 ghost use Rattle.visited.specs.Visited.{vmskCheck, vmskKey, reauthCheck, reauthKey};
 ghost use Rattle.domain_keys.specs.Rfc5296.{rrkCheck, rrkKey};
+ghost use Rattle.aka_keys.specs.Rfc5448.{akaCheck, keyMaterial};
 ghost use Rattle.key_name.specs.Ndf64.{nameCheck, nameOf};
 ghost use Rattle.offer_peer.specs.Answers.{firstRound, serverAnswer, serverBuffer, renewedAnswer};
 ghost use Rattle.offers_c.specs.Outcomes.{firstRoundOutcome, renewedOutcome};
@@ -51,7 +52,7 @@ pub extern "C" fn kv_hmac_sha256(key: &[u8], message: &[u8], out: &mut [u8]) -> 
     hash_c::hmac_sha256(key, message, out)
 }
 
-// ---- usage keys, the keys of the visited domain, the keys of a domain, key names
+// ---- usage keys, the keys of the visited domain, the keys of a domain, the keys of EAP-AKA', key names
 
 // RFC 5295: the usage key of a label, optional data and a length n under an EMSK, n bytes.
 #[no_mangle]
@@ -116,6 +117,22 @@ pub extern "C" fn kv_domain_reauth_key(dsrk: &[u8], out: &mut [u8]) -> Outcome
     ensures buffer { λ _. ⌜ now (out .exit) ≡ bufferAfter (rrkCheck (now (dsrk .entry)) (length (now (out .entry)))) 64 (rrkKey (now (dsrk .entry))) (now (out .entry)) ⌝ }
 {
     keys_c::domain_reauth_key(dsrk, out)
+}
+
+// RFC 5448: K_encr, K_aut, K_re, MSK and EMSK of EAP-AKA' from CK and IK, 208 bytes.
+#[no_mangle]
+pub extern "C" fn kv_aka_keys<'a>(
+    ck: &[u8],
+    ik: &[u8],
+    name: &'a [u8],
+    sqn_xor_ak: &'a [u8],
+    identity: &'a [u8],
+    out: &mut [u8],
+) -> Outcome
+    ensures answer { λ r. ⌜ r ≡ outcomeOf (answerTo (akaCheck (now (ck .entry)) (now (ik .entry)) (now (name .entry)) (now («sqn_xor_ak» .entry)) (now (identity .entry)) (length (now (out .entry)))) 208) ⌝ }
+    ensures buffer { λ _. ⌜ now (out .exit) ≡ bufferAfter (akaCheck (now (ck .entry)) (now (ik .entry)) (now (name .entry)) (now («sqn_xor_ak» .entry)) (now (identity .entry)) (length (now (out .entry)))) 208 (keyMaterial (now (ck .entry)) (now (ik .entry)) (now (name .entry)) (now («sqn_xor_ak» .entry)) (now (identity .entry))) (now (out .entry)) ⌝ }
+{
+    keys_c::aka_keys(ck, ik, name, sqn_xor_ak, identity, out)
 }
 
 // Source document 001: the name of a Session-ID and a label, 8 bytes.

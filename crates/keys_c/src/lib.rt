@@ -1,12 +1,12 @@
-// The calls of the C interface that derive a key or name one: kv_usage_key, the three of the visited domain, the two of a
-// domain, and kv_key_name. Each calls the
-// function of the crate that does the work and returns its answer as a kv_outcome.
+// The calls of the C interface that derive a key or name one: kv_usage_key, the three of the visited domain, the two of a domain, kv_aka_keys
+// and kv_key_name. Each calls the function of the crate that does the work and returns its answer as a kv_outcome.
 ghost use mathlib.Core.Path.{_≡_};
 ghost use lib.ListN.{length};
 ghost use Rattle.refusal.specs.Answers.{answerTo, bufferAfter};
 ghost use Rattle.requests.specs.Requests.{forUsage, forVrk, forDomain, requestAnswer, requestBuffer};
 ghost use Rattle.visited.specs.Visited.{vmskCheck, vmskKey, reauthCheck, reauthKey};
 ghost use Rattle.domain_keys.specs.Rfc5296.{rrkCheck, rrkKey};
+ghost use Rattle.aka_keys.specs.Rfc5448.{akaCheck, keyMaterial};
 ghost use Rattle.key_name.specs.Ndf64.{nameCheck, nameOf};
 ghost use Rattle.outcome.specs.Outcomes.{outcomeOf};
 use outcome::Outcome;
@@ -68,6 +68,21 @@ pub fn domain_reauth_key(dsrk: &[u8], out: &mut [u8]) -> Outcome
     ensures buffer { λ _. ⌜ now (out .exit) ≡ bufferAfter (rrkCheck (now (dsrk .entry)) (length (now (out .entry)))) 64 (rrkKey (now (dsrk .entry))) (now (out .entry)) ⌝ }
 {
     outcome::returned(domain_keys::domain_reauth_key(dsrk, out))
+}
+
+// RFC 5448: K_encr, K_aut, K_re, MSK and EMSK of EAP-AKA' from CK and IK, 208 bytes.
+pub fn aka_keys<'a>(
+    ck: &[u8],
+    ik: &[u8],
+    name: &'a [u8],
+    sqn_xor_ak: &'a [u8],
+    identity: &'a [u8],
+    out: &mut [u8],
+) -> Outcome
+    ensures answer { λ r. ⌜ r ≡ outcomeOf (answerTo (akaCheck (now (ck .entry)) (now (ik .entry)) (now (name .entry)) (now («sqn_xor_ak» .entry)) (now (identity .entry)) (length (now (out .entry)))) 208) ⌝ }
+    ensures buffer { λ _. ⌜ now (out .exit) ≡ bufferAfter (akaCheck (now (ck .entry)) (now (ik .entry)) (now (name .entry)) (now («sqn_xor_ak» .entry)) (now (identity .entry)) (length (now (out .entry)))) 208 (keyMaterial (now (ck .entry)) (now (ik .entry)) (now (name .entry)) (now («sqn_xor_ak» .entry)) (now (identity .entry))) (now (out .entry)) ⌝ }
+{
+    outcome::returned(aka_keys::aka_keys(ck, ik, name, sqn_xor_ak, identity, out))
 }
 
 // Source document 001: the name of a Session-ID and a label, 8 bytes.

@@ -1,0 +1,3 @@
+mod Joining
+mod Deriving
+pub mod Shown

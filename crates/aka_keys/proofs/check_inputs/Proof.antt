@@ -1,0 +1,49 @@
+-- `aka_keys::check_inputs` meets its contract.
+-- Assumes nothing.
+use borrow.Author.Needs.{needs}
+use Rattle.aka_keys.specs.Rfc5448.{inputCheck}
+use Rattle.aka_keys.proofs.check_inputs.Statement.{statement}
+use Rattle.aka_keys.proofs.check_inputs.Tie as tie
+
+unless-requires : tie.Need-unless-requires
+unless-requires c κs = search needs
+
+in-range-requires : tie.Need-in-range-requires
+in-range-requires c κs = search needs
+
+unless-requires-2 : tie.Need-unless-requires-2
+unless-requires-2 c κs = search needs
+
+in-range-requires-2 : tie.Need-in-range-requires-2
+in-range-requires-2 c κs = search needs
+
+unless-requires-3 : tie.Need-unless-requires-3
+unless-requires-3 c κs = search needs
+
+then-check-requires : tie.Need-then-check-requires
+then-check-requires c κs = search needs
+
+then-check-requires-2 : tie.Need-then-check-requires-2
+then-check-requires-2 c κs = search needs
+
+returns : tie.Need-returns
+unfolding inputCheck
+returns c =
+    let first = c .before in
+    let user = first .before in
+    let network = user .before .before in
+    let lengths = network .before .before in
+    rw (c .then-check2 .ensures, first .then-check .ensures, user .unless3 .ensures, user .before .in-range2 .ensures, network .unless2 .ensures, network .before .in-range .ensures, lengths .unless .ensures)
+
+pub check-inputs-spec : {M : Type 1} → statement M
+check-inputs-spec =
+    tie.close
+    (tie.spec
+    unless-requires
+    in-range-requires
+    unless-requires-2
+    in-range-requires-2
+    unless-requires-3
+    then-check-requires
+    then-check-requires-2
+    returns)

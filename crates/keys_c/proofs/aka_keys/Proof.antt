@@ -1,0 +1,12 @@
+-- `keys_c::aka_keys` meets its contract.
+-- Assumes nothing.
+use Rattle.outcome.proofs.Handing.{handed}
+use borrow.Author.Needs.{needs}
+use Rattle.keys_c.proofs.aka_keys.Statement.{statement}
+use Rattle.keys_c.proofs.aka_keys.Tie as tie
+
+returns : tie.Need-returns
+returns c = let p = c .before .before .before in (handed (p .aka-keys .result) (c .returned .ensures) (p .aka-keys .ensures .0), p .aka-keys .ensures .1)
+
+pub aka-keys-spec : {M : Type 1} → statement M
+aka-keys-spec = tie.close (tie.spec (λ c κs. search needs) (λ c κs. search needs) (λ c. search needs) returns)
