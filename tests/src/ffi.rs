@@ -144,4 +144,8 @@ extern "C" {
         out: *mut u8,
         out_len: usize,
     ) -> KeyAttribute;
+
+    pub fn kv_write_bundle(attributes: *const u8, attributes_len: usize, out: *mut u8, out_len: usize) -> Outcome;
+
+    pub fn kv_read_bundle(file: *const u8, file_len: usize, out: *mut u8, out_len: usize) -> Outcome;
 }
