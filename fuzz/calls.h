@@ -21,6 +21,8 @@ enum call {
     READ_AREA,
     WRITE_KEY_ATTRIBUTE,
     READ_KEY_ATTRIBUTE,
+    WRITE_BUNDLE,
+    READ_BUNDLE,
     CALLS
 };
 

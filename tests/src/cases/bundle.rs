@@ -209,7 +209,7 @@ const READ_FAULTS: &[Fault<ReadBundle>] = &[
     (40, |call| set(call, 19, 0)),
     (40, |call| set(call, 38, 1)),
     (41, |call| call.file.push(0)),
-    (41, |call| drop(call.file.pop())),
+    (41, |call| call.file.truncate(call.file.len().saturating_sub(1))),
     (42, |call| repeat_id(call)),
     (24, |call| set_body(call, 1, 0)),
     (24, |call| set_body(call, 1, 100)),
