@@ -15,6 +15,9 @@
     (BIT(KV_ATTRIBUTE_BOUNDS) | BIT(KV_KDF_LENGTH) | BIT(KV_KDF_INPUT) | BIT(KV_NETWORK_NAME) | BIT(KV_OFFER_COUNT))
 #define FRAME_REFUSALS \
     (BIT(KV_KEY_ATTRIBUTE_LENGTH) | BIT(KV_ATTRIBUTE_TYPE) | BIT(KV_RESERVED_BYTE) | BIT(KV_ENC_TYPE) | BIT(KV_IV_FIELD))
+#define BUNDLE_REFUSALS \
+    (BIT(KV_BUNDLE_COUNT) | BIT(KV_BUNDLE_CONTENTS) | BIT(KV_BUNDLE_END) | BIT(KV_REPEATED_KEY_ID) | FRAME_REFUSALS | \
+     BIT(KV_KEY_ID_UNLIKE_CONTENTS))
 
 #define ANY { 0, MOST_BYTES }
 #define ROOT_KEY { 64, 128 }
@@ -22,6 +25,7 @@
 #define DOMAIN { 1, 253 }
 #define OFFERS { 1, 16 }
 #define SIXTEEN { 16, 16 }
+#define BUNDLE { 98, 17410 }
 
 #define BYTES .width = 1
 #define VALUES .width = 2
@@ -61,6 +65,10 @@ const shape shapes[CALLS] = {
                                           BIT(KV_KEY_TO_WRAP_LENGTH) | BIT(KV_ROOM) },
     [READ_KEY_ATTRIBUTE] = { .name = "kv_read_key_attribute", .slices = 2, BYTES, .counts = { SIXTEEN, { 76, 252 } }, OUT_BYTES(192),
                              .refusals = BIT(KV_KEK_LENGTH) | FRAME_REFUSALS | BIT(KV_ROOM) | BIT(KV_INTEGRITY) },
+    [WRITE_BUNDLE] = { .name = "kv_write_bundle", .slices = 1, BYTES, .counts = { { 76, 16128 } }, OUT_BYTES(17410),
+                       .refusals = FRAME_REFUSALS | BIT(KV_BUNDLE_COUNT) | BIT(KV_REPEATED_KEY_ID) | BIT(KV_ROOM) },
+    [READ_BUNDLE] = { .name = "kv_read_bundle", .slices = 1, BYTES, .counts = { BUNDLE }, OUT_BYTES(16128),
+                      .refusals = BUNDLE_REFUSALS | BIT(KV_ROOM) },
     /* the slots are the bytes of a slice, and the name is a number */
     [PUT_SLOT] = { .name = "kv_put_slot", .slices = 1, BYTES, .counts = { ANY }, .numbers = { 8 }, .refusals = BIT(KV_SLOTS_FULL) },
     [DROP_SLOT] = { .name = "kv_drop_slot", .slices = 1, BYTES, .counts = { ANY }, .numbers = { 8 }, .refusals = BIT(KV_NO_SUCH_SLOT) },
@@ -166,6 +174,8 @@ static void call(const request *asked, void *const in[SLICES], void *out, answer
                                                    d, dn, out, room), 1);
         break;
     case READ_KEY_ATTRIBUTE: take_key_attribute(given, kv_read_key_attribute(a, an, b, bn, out, room)); break;
+    case WRITE_BUNDLE: take_outcome(given, kv_write_bundle(a, an, out, room), 1); break;
+    case READ_BUNDLE: take_outcome(given, kv_read_bundle(a, an, out, room), 1); break;
     case PUT_SLOT: take_slots(asked, given, slots, kv_put_slot(slots, name_of(numbers[0]))); break;
     case DROP_SLOT: take_slots(asked, given, slots, kv_drop_slot(slots, numbers[0])); break;
     case LIVE_SLOTS: given->fields[0] = kv_live_slots(slots); break;

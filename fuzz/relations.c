@@ -14,6 +14,7 @@
 #define LONGER 60
 #define LONGEST_ATTRIBUTE 252
 #define LONGEST_KEY 192
+#define LARGEST_BUNDLE 17410
 
 static int within(size_t least, size_t count, size_t most) { return least <= count && count <= most; }
 
@@ -288,6 +289,26 @@ static void check_opened(const request *asked, const answer *given)
            "written again is not the same bytes");
 }
 
+/* A bundle reads back to the attributes that it was made of. */
+static void check_bundle(const request *asked, const answer *given)
+{
+    static uint8_t file[LARGEST_BUNDLE], attributes[LARGEST_BUNDLE];
+    memcpy(file, given->out, given->written);
+    kv_outcome read = kv_read_bundle(file, given->written, attributes, asked->in[0].count);
+    expect(read.refusal == KV_ACCEPTED && read.value == asked->in[0].count, asked, "a bundle does not read back");
+    expect(same(attributes, asked->in[0].values, asked->in[0].count), asked, "a bundle reads back to other attributes");
+}
+
+/* The attributes of a bundle, written again, are the same file. */
+static void check_unpacked(const request *asked, const answer *given)
+{
+    static uint8_t file[LARGEST_BUNDLE], attributes[LARGEST_BUNDLE];
+    memcpy(attributes, given->out, given->written);
+    kv_outcome written = kv_write_bundle(attributes, given->written, file, asked->in[0].count);
+    expect(written.refusal == KV_ACCEPTED && written.value == asked->in[0].count, asked, "what was read is not written again");
+    expect(same(file, asked->in[0].values, asked->in[0].count), asked, "what was read is written as another file");
+}
+
 /* The slot that a put took was the lowest free one and has the name; dropped, it is free again. */
 static void check_put(const request *asked, const answer *given)
 {
@@ -329,6 +350,8 @@ void check_relations(const request *asked, const answer *given)
     case READ_AREA: check_area(asked, given); break;
     case WRITE_KEY_ATTRIBUTE: check_attribute(asked, given); break;
     case READ_KEY_ATTRIBUTE: check_opened(asked, given); break;
+    case WRITE_BUNDLE: check_bundle(asked, given); break;
+    case READ_BUNDLE: check_unpacked(asked, given); break;
     case PUT_SLOT: check_put(asked, given); break;
     case DROP_SLOT: check_drop(asked, given); break;
     case LIVE_SLOTS: expect(given->fields[0] <= KV_SLOTS, asked, "counts more slots than there are"); break;

@@ -34,6 +34,9 @@
  * Key attributes. A key travels to a neighbour wrapped in a RADIUS Key attribute: the sender calls kv_write_key_attribute,
  * the receiver calls kv_read_key_attribute, and both hold the same KEK.
  *
+ * Bundles. When a box moves, its Key attributes travel in one file, a bundle: kv_write_bundle makes it of the attributes packed
+ * end to end, and kv_read_bundle gives them back so. No KEK is wanted for either.
+ *
  * Slots. A controller keeps the names of its live keys in 64 slots, which are a value of the caller's: kv_put_slot and
  * kv_drop_slot take the slots and return the slots after the call.
  *
@@ -119,6 +122,9 @@
 #define KV_WRAPPED_KEY_MAX 192
 #define KV_KEY_ATTRIBUTE_MORE 60  /* a Key attribute is so much longer than its key */
 #define KV_KEY_ATTRIBUTE_MAX 252
+#define KV_BUNDLE_KEYS_MAX 64     /* attributes of a bundle */
+#define KV_BUNDLE_MAX 17410       /* the largest bundle */
+#define KV_BUNDLE_BODIES_MAX 16128 /* room for the attributes of any bundle, packed end to end */
 #define KV_SLOTS 64               /* slots for live keys, numbered from 0 */
 
 /* The fixed labels, as texts of C: the length of one is its sizeof less 1. */
@@ -381,6 +387,28 @@ KV_LAYOUT(sizeof(kv_key_attribute) == 52 && offsetof(kv_key_attribute, type) == 
  * 27 IV field not eight bytes A6; 6 `out` has no room for the key; 28 the unwrapping does not yield the initial value. */
 KV_USE_RESULT kv_key_attribute kv_read_key_attribute(const uint8_t *kek, size_t kek_len, const uint8_t *attribute,
                                                      size_t attribute_len, uint8_t *out, size_t out_len);
+
+/* A bundle (document 02, request 9): a file of Key attributes with its table of contents first. By byte: 0 the count of the
+ * attributes, 1 to 64, in two bytes; then for each attribute a line of 20 bytes, its Key ID (16), its offset from the file's
+ * first byte (2) and its length (2); then the attributes in the same order, with no gap. Numbers are high byte first. No Key ID
+ * stands twice. The largest bundle has 17,410 bytes. The attributes are checked as kv_read_key_attribute checks them before the
+ * KEK is used: a bundle says nothing of whether a key can be unwrapped, and it is not authenticated.
+ *
+ * What is written reads back to the same attributes. What is read, written again, is the same file, byte for byte. */
+
+/* Writes the bundle of attributes that are packed end to end, each as long as its length byte says. Returns the file's length,
+ * which is that of the attributes and 2 and 20 for each of them.
+ * Refusals: first attribute by attribute 24 no length byte, a length byte that leads past the end, or a length that is not 60
+ * plus a multiple of 8 from 16 to 192; 20 type 0; 25 reserved byte not zero; 26 Enc Type not 0; 27 IV field not eight bytes A6.
+ * Then 39 not 1 to 64 attributes; 42 repeated Key ID; 6 `out` has no room for the file. */
+KV_USE_RESULT kv_outcome kv_write_bundle(const uint8_t *attributes, size_t attributes_len, uint8_t *out, size_t out_len);
+
+/* Reads a bundle, and writes its attributes, packed end to end. Returns how many bytes these are.
+ * Refusals, each settled for the whole file before the next: 39 under two bytes, or a count not 1 to 64; 40 contents cut short,
+ * or an offset that is not the end of the attribute before (for the first, the end of the contents); 41 the file does not end
+ * with the last attribute; 42 repeated Key ID in the contents. Then attribute by attribute 24, 20, 25, 26 and 27 as above, and
+ * 50 its Key ID is not that of its line. Then 6 `out` has no room for the attributes. */
+KV_USE_RESULT kv_outcome kv_read_bundle(const uint8_t *file, size_t file_len, uint8_t *out, size_t out_len);
 
 /* Slots for live keys. Each of the 64 is free or holds the name of a key, which is any 8 bytes, as kv_key_name writes them.
  * The slots are passed and returned by value, so no call alters a byte of the caller's: a program keeps the `slots` that a

@@ -180,6 +180,10 @@ extern "C" {
         out_len: usize,
     ) -> KeyAttribute;
 
+    pub fn kv_write_bundle(attributes: *const u8, attributes_len: usize, out: *mut u8, out_len: usize) -> Outcome;
+
+    pub fn kv_read_bundle(file: *const u8, file_len: usize, out: *mut u8, out_len: usize) -> Outcome;
+
     pub fn kv_put_slot(slots: Slots, name: Name) -> SlotsOutcome;
 
     pub fn kv_drop_slot(slots: Slots, number: u64) -> SlotsOutcome;

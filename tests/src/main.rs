@@ -75,6 +75,9 @@ fn main() -> ExitCode {
         ["kv_read_key_attribute"] "kv_read_key_attribute" => cases::key_attribute::read;
         ["kv_write_key_attribute", "kv_read_key_attribute"] "key attributes, there and back"
             => cases::key_attribute::round_trips;
+        ["kv_write_bundle"] "kv_write_bundle" => cases::bundle::write;
+        ["kv_read_bundle"] "kv_read_bundle" => cases::bundle::read;
+        ["kv_write_bundle", "kv_read_bundle"] "bundles, there and back" => cases::bundle::round_trips;
         ["kv_put_slot"] "kv_put_slot" => cases::slots::put;
         ["kv_drop_slot"] "kv_drop_slot" => cases::slots::drop;
         ["kv_live_slots"] "kv_live_slots" => cases::slots::live;
@@ -95,6 +98,8 @@ fn tell_apart() {
         ("kv_answer_offer, kv_check_renewed", cases::offers::APART),
         ("kv_read_area", cases::area::APART),
         ("kv_read_key_attribute", cases::key_attribute::APART),
+        ("kv_write_bundle", cases::bundle::WRITE_APART),
+        ("kv_read_bundle", cases::bundle::READ_APART),
     ];
     println!("pairs of refusals that cannot hold together (all others are tried):");
     for (calls, pairs) in lists {

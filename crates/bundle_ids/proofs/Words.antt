@@ -6,13 +6,14 @@ use mathlib.Core.Bool.{Bool, true, false, _&&_, and-true}
 use mathlib.Core.List.{List, [], _∷_}
 use native.Mathlib.Nat.{add-zero}
 use native.Mathlib.Omega.{arith}
-use borrow.Author.Tests.{eq-eqb, ne-eqb, eqb-true}
+use borrow.Author.Tests.{eq-eqb, eqb-true}
 use lib.Dec.{eqb}
 use lib.ListN.{length, getD, drop, length-drop, drop-of-length-le}
 use lib.Seq.{getD-drop, drop-drop}
 use Rattle.slices.specs.Numbers.{fromBe32}
 use Rattle.slices.specs.Same.{sameList}
 use Rattle.slices.proofs.Truth.{and-left, and-right, same-truth}
+use Rattle.slices.proofs.Same.{same-equal}
 use Rattle.bundle_ids.specs.Internal.{wordAt, BytesAt}
 
 -- four bytes are the same where their words are
@@ -62,6 +63,14 @@ word-drop i a = simp (getD-drop, add-zero)
 bytes-drop : (i : ℕ) (a : List ℕ) → BytesAt a i → BytesAt (drop i a) 0
 bytes-drop i a m = simp (getD-drop, add-zero) m
 
+-- lists with a word that differs are not the same
+pub words-differ : (a b : List ℕ) (i : ℕ) {x y : ℕ} → x ≡ wordAt a i → y ≡ wordAt b i → (x ≡ y → ⊥) → false ≡ sameList a b
+words-differ a b i {x} {y} p q ne = go (sameList a b) refl
+  where
+    go : (t : Bool) → sameList a b ≡ t → false ≡ sameList a b
+    go true e = elim (ne (p ∙ ap (λ (l : List ℕ). wordAt l i) (same-equal a b e) ∙ sym q)) [ ]
+    go false e = sym e
+
 -- one word more, where those before it are the same; x and y are the words
 module _ (a b : List ℕ) (i : ℕ) {x y : ℕ} (h : i + 4 ≤ length a) (k : i + 4 ≤ length b) (m : (x ≡ wordAt a i) × BytesAt a i) (n : (y ≡ wordAt b i) × BytesAt b i)
     (inv : sameList a b ≡ sameList (drop i a) (drop i b)) where
@@ -74,12 +83,20 @@ module _ (a b : List ℕ) (i : ℕ) {x y : ℕ} (h : i + 4 ≤ length a) (k : i 
   pub words-on : x ≡ y → sameList a b ≡ sameList (drop (i + 4) a) (drop (i + 4) b)
   words-on e = word-next ∙ rw (eq-eqb x y e)
 
-  pub words-differ : (x ≡ y → ⊥) → false ≡ sameList a b
-  words-differ e = sym (word-next ∙ rw (ne-eqb x y e))
+  pub words-last : sameList (drop (i + 4) a) (drop (i + 4) b) ≡ true → eqb x y ≡ sameList a b
+  words-last e = sym (word-next ∙ rw e (and-true (eqb x y)))
 
-  pub words-last : length a ≡ i + 4 → length b ≡ i + 4 → eqb x y ≡ sameList a b
-  unfolding sameList
-  words-last p q =
-      let p′ : length a ≤ i + 4 = omega arith in
-      let q′ : length b ≤ i + 4 = omega arith in
-      sym (word-next ∙ rw (drop-of-length-le a p′, drop-of-length-le b q′) (and-true _))
+-- where lists end with the same word, they are the same from there on
+pub word-ends : (a b : List ℕ) (i : ℕ) {x y : ℕ} → length a ≡ i + 4 → length b ≡ i + 4 → (x ≡ wordAt a i) × BytesAt a i → (y ≡ wordAt b i) × BytesAt b i → x ≡ y
+    → sameList (drop i a) (drop i b) ≡ true
+unfolding sameList
+word-ends a b i p q m n e =
+    let da = length-drop i a in
+    let db = length-drop i b in
+    let ha : 4 ≤ length (drop i a) = omega arith in
+    let hb : 4 ≤ length (drop i b) = omega arith in
+    let la : length (drop i a) ≤ 4 = omega arith in
+    let lb : length (drop i b) ≤ 4 = omega arith in
+    let w : wordAt (drop i a) 0 ≡ wordAt (drop i b) 0 = word-drop i a ∙ sym (m .0) ∙ e ∙ n .0 ∙ sym (word-drop i b) in
+    first-word (drop i a) (drop i b) ha hb (bytes-drop i a (m .1)) (bytes-drop i b (n .1))
+    ∙ rw (eq-eqb (wordAt (drop i a) 0) (wordAt (drop i b) 0) w, drop-of-length-le (drop i a) la, drop-of-length-le (drop i b) lb)

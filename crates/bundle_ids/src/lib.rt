@@ -16,7 +16,8 @@ fn word_at(s: &[u8], at: usize) -> u32
     from_be32(s[at + 3], s[at + 2], s[at + 1], s[at])
 }
 
-// Whether two Key IDs are the same. It stops at the first word that differs, since Key IDs are public. Of what is no Key ID, all bytes are compared.
+// Whether two Key IDs are the same. It stops at the first word that differs, since Key IDs are public; the last word comes first, since IDs that are counted up
+// differ there. Of what is no Key ID, all bytes are compared.
 pub fn same_id(a: &[u8], b: &[u8]) -> bool
     ensures { λ r. ⌜ r ≡ sameList (now (a .entry)) (now (b .entry)) ⌝ }
 {
@@ -26,14 +27,14 @@ pub fn same_id(a: &[u8], b: &[u8]) -> bool
     if b.len() != 16 {
         return same_bytes(a, b);
     }
+    if word_at(a, 12) != word_at(b, 12) {
+        return false;
+    }
     if word_at(a, 0) != word_at(b, 0) {
         return false;
     }
     if word_at(a, 4) != word_at(b, 4) {
         return false;
     }
-    if word_at(a, 8) != word_at(b, 8) {
-        return false;
-    }
-    word_at(a, 12) == word_at(b, 12)
+    word_at(a, 8) == word_at(b, 8)
 }

@@ -8,7 +8,7 @@ use native.Mathlib.Omega.{arith}
 use borrow.Author.Tests.{le-leb, lt-leb, leb-true}
 use lib.Dec.{leb}
 use lib.ListN.{length, take, drop, getD, length-drop, length-take, length-append, take-append-drop, drop-of-length-le}
-use lib.Seq.{drop-drop, length-take-le, take-append-le, drop-append-le}
+use lib.Seq.{drop-drop, getD-drop, getD-take, length-take-le, take-append-le, drop-append-le}
 use Rattle.refusal.specs.Checks.{Reason, Check, pass, refuse, _andThen_}
 use Rattle.slices.specs.Same.{sameList}
 use Rattle.refusal.proofs.Passing.{first-refuses}
@@ -55,9 +55,8 @@ pub record Step (bytes : List ℕ) (at n : ℕ) : Type 0 where
   pub inside : at + n ≤ length bytes
   pub next : packed (drop at bytes) ≡ take n (drop at bytes) ∷ packed (drop (at + n) bytes)
 
-pub step : (bytes : List ℕ) (at n : ℕ) → at < length bytes → n ≡ bodyLength (take (length bytes - at) (drop at bytes)) → Step bytes at n
-step bytes at n h e =
-    let q : n ≡ bodyLength (drop at bytes) = e ∙ ap bodyLength (rest-drop at bytes) in
+pub step-at : (bytes : List ℕ) (at n : ℕ) → at < length bytes → n ≡ bodyLength (drop at bytes) → Step bytes at n
+step-at bytes at n h q =
     let d = length-drop at bytes in
     let s = body-some (drop at bytes) (omega arith) in
     let f = body-fits (drop at bytes) in
@@ -67,6 +66,10 @@ step bytes at n h e =
       inside = omega arith;
       next = rw (← q, drop-drop n at bytes) at p;
     }
+
+-- by the part from there on, as it is lent
+pub step : (bytes : List ℕ) (at n : ℕ) → at < length bytes → n ≡ bodyLength (take (length bytes - at) (drop at bytes)) → Step bytes at n
+step bytes at n h e = step-at bytes at n h (e ∙ ap bodyLength (rest-drop at bytes))
 
 -- nothing is left at the end
 pub none-left : (bytes : List ℕ) (at : ℕ) → length bytes ≤ at → packed (drop at bytes) ≡ []
@@ -153,6 +156,17 @@ repeats-on here bytes at n s o e inv = inv ∙ rw (s .next, ← o, e)
 pub repeats-not : (bytes : List ℕ) (at : ℕ) {whole : Bool} → length bytes ≤ at → whole ≡ idRepeats (map keyIdIn (packed (drop at bytes))) → false ≡ whole
 unfolding idRepeats
 repeats-not bytes at h inv = sym (inv ∙ rw (none-left bytes at h))
+
+-- the length byte of a body that passes counts its bytes
+pub byte-counts : (bytes : List ℕ) (at : ℕ) → at < length bytes → framesCheck (packed (drop at bytes)) ≡ pass → getD bytes (at + 1) 0 ≡ bodyLength (drop at bytes)
+byte-counts bytes at h c =
+    let n : ℕ = bodyLength (drop at bytes) in
+    let s = step-at bytes at n h refl in
+    let z = first-sized bytes at n s c in
+    let fits : n ≤ length (drop at bytes) = body-fits (drop at bytes) in
+    let size = length-take-le n (drop at bytes) fits in
+    let two : 1 < n = omega (arith, z .low) in
+    sym (getD-drop at bytes 1 0) ∙ sym (getD-take n (drop at bytes) 1 0 two) ∙ z .counted ∙ size
 
 -- a body has at least 76 bytes
 pub body-long : (bytes : List ℕ) (at n : ℕ) → Step bytes at n → framesCheck (packed (drop at bytes)) ≡ pass → at + 76 ≤ length bytes

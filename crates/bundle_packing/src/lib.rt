@@ -1,7 +1,7 @@
 // Key attributes packed end to end, as the writer of a bundle takes them (document 02, request 9): taken apart, and the writer's tests of them.
 ghost use mathlib.Core.Path.{_≡_};
 ghost use mathlib.Core.List.{map};
-ghost use Prim.Native.Nat.{_≤_};
+ghost use Prim.Native.Nat.{_≤_, _<_};
 ghost use lib.ListN.{length, drop};
 ghost use Rattle.refusal.specs.Checks.{pass};
 ghost use Rattle.refusal.specs.Answers.{answerOf, answerTo};
@@ -51,6 +51,15 @@ fn count_bodies(bytes: &[u8]) -> Written
     Written::Wrote(n)
 }
 
+// The same of the attribute at an offset, where it passes: its length byte.
+fn length_at(bytes: &[u8], at: usize) -> usize
+    requires { ⌜ at < length (now bytes) ⌝ }
+    requires { ⌜ framesCheck (packed (drop at (now bytes))) ≡ pass ⌝ }
+    ensures { λ r. ⌜ r ≡ bodyLength (drop at (now (bytes .entry))) ⌝ }
+{
+    bytes[at + 1] as usize
+}
+
 // Whether a Key ID stands in the attributes from an offset on.
 fn id_stands(id: &[u8], bytes: &[u8], from: usize) -> bool
     requires { ⌜ from ≤ length (now bytes) ⌝ }
@@ -65,7 +74,7 @@ fn id_stands(id: &[u8], bytes: &[u8], from: usize) -> bool
         if same_id(&bytes[start..end], id) {
             return true;
         }
-        let length = body_length(&bytes[at..]);
+        let length = length_at(bytes, at);
         at += length;
     }
     false

@@ -20,6 +20,7 @@ ghost use Rattle.key_frame.specs.KeyFrame.{fieldsOf};
 ghost use Rattle.key_writer.specs.KeyWriter.{writeAnswer, writeBuffer};
 ghost use Rattle.key_reader.specs.KeyReader.{reading, readBuffer};
 ghost use Rattle.key_attribute_c.specs.Outcomes.{keyOutcome};
+ghost use Rattle.bundle_rules.specs.Bundle as Bundle;
 ghost use Rattle.slot_rules.specs.Table.{liveCount};
 ghost use Rattle.slot_rules.specs.Calls.{putAnswer, putTable, dropAnswer, dropTable};
 ghost use Rattle.slot_rules.specs.Stored.{tableOf, putStored, dropStored};
@@ -222,6 +223,26 @@ pub extern "C" fn kv_read_key_attribute(
     ensures buffer { λ _. ⌜ now (out .exit) ≡ readBuffer (now (kek .entry)) (now (attribute .entry)) (now (out .entry)) ⌝ }
 {
     key_attribute_c::read_key_attribute(kek, attribute, out)
+}
+
+// ---- bundles of Key attributes
+
+// Document 02, request 9: the file of Key attributes that are packed end to end.
+#[no_mangle]
+pub extern "C" fn kv_write_bundle(attributes: &[u8], out: &mut [u8]) -> Outcome
+    ensures answer { λ r. ⌜ r ≡ outcomeOf (Bundle.writeAnswer (now (attributes .entry)) (length (now (out .entry)))) ⌝ }
+    ensures buffer { λ _. ⌜ now (out .exit) ≡ Bundle.writeBuffer (now (attributes .entry)) (now (out .entry)) ⌝ }
+{
+    bundle_c::write_bundle(attributes, out)
+}
+
+// Document 02, request 9: the Key attributes of a file, packed end to end.
+#[no_mangle]
+pub extern "C" fn kv_read_bundle(file: &[u8], out: &mut [u8]) -> Outcome
+    ensures answer { λ r. ⌜ r ≡ outcomeOf (Bundle.readAnswer (now (file .entry)) (length (now (out .entry)))) ⌝ }
+    ensures buffer { λ _. ⌜ now (out .exit) ≡ Bundle.readBuffer (now (file .entry)) (now (out .entry)) ⌝ }
+{
+    bundle_c::read_bundle(file, out)
 }
 
 // ---- slots

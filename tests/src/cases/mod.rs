@@ -1,6 +1,7 @@
 //! The inputs, by topic.
 
 pub mod area;
+pub mod bundle;
 pub mod domain;
 pub mod exports;
 pub mod hash;

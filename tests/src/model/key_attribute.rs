@@ -70,16 +70,10 @@ pub struct Fields {
 
 impl ReadKey {
     pub fn tests(&self) -> Order {
-        vec![
-            (22, self.kek.len() != 16),
-            (24, self.wrong_length()),
-            (20, self.attribute.first() == Some(&0)),
-            (25, self.is_not(2, 0)),
-            (26, self.is_not(3, 0)),
-            (27, (44..WRAPPED_AT).any(|at| self.is_not(at, 0xa6))),
-            (6, self.room + OVERHEAD < self.attribute.len()),
-            (28, self.spoilt()),
-        ]
+        let mut order = vec![(22, self.kek.len() != 16)];
+        order.extend(frame(&self.attribute));
+        order.extend([(6, self.room + OVERHEAD < self.attribute.len()), (28, self.spoilt())]);
+        order
     }
 
     pub fn fields(&self) -> Result<Fields, Refusal> {
@@ -93,17 +87,6 @@ impl ReadKey {
             lifetime: number(at(40, 44)),
             key: self.unwrapped().ok_or(28u32)?.into(),
         })
-    }
-
-    /// 24: under 2 bytes, length byte unequal to the bytes lent, or not 60 plus a key's length.
-    fn wrong_length(&self) -> bool {
-        let lent = self.attribute.len();
-        lent < OVERHEAD || usize::from(self.attribute[1]) != lent || !is_key_length(lent - OVERHEAD)
-    }
-
-    /// Whether the attribute has such a byte, and another than this stands there.
-    fn is_not(&self, at: usize, byte: u8) -> bool {
-        self.attribute.get(at).is_some_and(|&found| found != byte)
     }
 
     /// 28: unwrapping does not yield the initial value. Under a KEK of another length, or of bytes that are not blocks
@@ -121,6 +104,25 @@ impl ReadKey {
     fn unwrapped(&self) -> Option<Vec<u8>> {
         unwrap(&sixteen(&self.kek), self.wrapped())
     }
+}
+
+/// The numbers of an attribute that need no KEK.
+pub fn frame(attribute: &[u8]) -> Order {
+    // whether the attribute has such a byte, and another than this stands there
+    let is_not = |at: usize, byte: u8| attribute.get(at).is_some_and(|&found| found != byte);
+    vec![
+        (24, wrong_length(attribute)),
+        (20, attribute.first() == Some(&0)),
+        (25, is_not(2, 0)),
+        (26, is_not(3, 0)),
+        (27, (44..WRAPPED_AT).any(|at| is_not(at, 0xa6))),
+    ]
+}
+
+/// 24: under 2 bytes, length byte unequal to the bytes lent, or not 60 plus a key's length.
+fn wrong_length(attribute: &[u8]) -> bool {
+    let lent = attribute.len();
+    lent < OVERHEAD || usize::from(attribute[1]) != lent || !is_key_length(lent - OVERHEAD)
 }
 
 /// 23: a key to wrap has a multiple of 8 from 16 to 192 bytes.

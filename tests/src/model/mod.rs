@@ -1,6 +1,7 @@
 //! The second program's own reading of the papers: for each call the numbers of its order and what it writes.
 
 pub mod area;
+pub mod bundle;
 pub mod domain;
 pub mod key_attribute;
 pub mod key_name;

@@ -1,12 +1,13 @@
 -- `bundle_ids::same_id` meets its contract.
 -- Assumes nothing.
 use mathlib.Core.Path.{_≡_, refl}
+use mathlib.Core.Bool.{true}
 use native.Mathlib.Omega.{arith}
 use denote.Ref.{now}
 use lib.ListN.{drop}
 use borrow.Author.Needs.{needs}
 use Rattle.slices.specs.Same.{sameList}
-use Rattle.bundle_ids.proofs.Words.{words-on, words-differ, words-last}
+use Rattle.bundle_ids.proofs.Words.{words-on, words-differ, words-last, word-ends}
 use Rattle.bundle_ids.proofs.same_id.Statement.{statement}
 use Rattle.bundle_ids.proofs.same_id.Tie as tie
 
@@ -29,17 +30,17 @@ word-at-requires-2 : tie.Need-word-at-requires-2
 word-at-requires-2 c κs = search needs
 
 returns-3 : tie.Need-returns-3
-returns-3 c = words-differ _ _ 0 (omega arith) (omega arith) (c .before .before .word-at .ensures) (c .before .word-at2 .ensures) refl (c .if3 .taken)
+returns-3 c = words-differ _ _ 12 (c .before .before .word-at .ensures .0) (c .before .word-at2 .ensures .0) (c .if3 .taken)
 
--- the first word, the first two and the first three are the same
-one : (c : tie.Else3) → let x = c .before .before .before .before .before .before .before .args in sameList (now (x .a)) (now (x .b)) ≡ sameList (drop 4 (now (x .a))) (drop 4 (now (x .b)))
-one c = words-on _ _ 0 (omega arith) (omega arith) (c .before .before .word-at .ensures) (c .before .word-at2 .ensures) refl (c .if3 .left)
+-- the last word is the same, then the first, then the second
+last : (c : tie.Else3) → let x = c .before .before .before .before .before .before .before .args in sameList (drop 12 (now (x .a))) (drop 12 (now (x .b))) ≡ true
+last c = let x = c .before .before .before .before .before .before .before .args in word-ends (now (x .a)) (now (x .b)) 12 (omega arith) (omega arith) (c .before .before .word-at .ensures) (c .before .word-at2 .ensures) (c .if3 .left)
 
-two : (c : tie.Else4) → let x = c .before .before .before .before .before .before .before .before .before .before .args in sameList (now (x .a)) (now (x .b)) ≡ sameList (drop 8 (now (x .a))) (drop 8 (now (x .b)))
-two c = words-on _ _ 4 (omega arith) (omega arith) (c .before .before .word-at3 .ensures) (c .before .word-at4 .ensures) (one (c .before .before .before)) (c .if4 .left)
+one : (c : tie.Else4) → let x = c .before .before .before .before .before .before .before .before .before .before .args in sameList (now (x .a)) (now (x .b)) ≡ sameList (drop 4 (now (x .a))) (drop 4 (now (x .b)))
+one c = words-on _ _ 0 (omega arith) (omega arith) (c .before .before .word-at3 .ensures) (c .before .word-at4 .ensures) refl (c .if4 .left)
 
-three : (c : tie.Else5) → let x = c .before .before .before .before .before .before .before .before .before .before .before .before .before .args in sameList (now (x .a)) (now (x .b)) ≡ sameList (drop 12 (now (x .a))) (drop 12 (now (x .b)))
-three c = words-on _ _ 8 (omega arith) (omega arith) (c .before .before .word-at5 .ensures) (c .before .word-at6 .ensures) (two (c .before .before .before)) (c .if5 .left)
+two : (c : tie.Else5) → let x = c .before .before .before .before .before .before .before .before .before .before .before .before .before .args in sameList (now (x .a)) (now (x .b)) ≡ sameList (drop 8 (now (x .a))) (drop 8 (now (x .b)))
+two c = words-on _ _ 4 (omega arith) (omega arith) (c .before .before .word-at5 .ensures) (c .before .word-at6 .ensures) (one (c .before .before .before)) (c .if5 .left)
 
 word-at-requires-3 : tie.Need-word-at-requires-3
 word-at-requires-3 c κs = search needs
@@ -48,7 +49,7 @@ word-at-requires-4 : tie.Need-word-at-requires-4
 word-at-requires-4 c κs = search needs
 
 returns-4 : tie.Need-returns-4
-returns-4 c = words-differ _ _ 4 (omega arith) (omega arith) (c .before .before .word-at3 .ensures) (c .before .word-at4 .ensures) (one (c .before .before .before)) (c .if4 .taken)
+returns-4 c = words-differ _ _ 0 (c .before .before .word-at3 .ensures .0) (c .before .word-at4 .ensures .0) (c .if4 .taken)
 
 word-at-requires-5 : tie.Need-word-at-requires-5
 word-at-requires-5 c κs = search needs
@@ -57,7 +58,7 @@ word-at-requires-6 : tie.Need-word-at-requires-6
 word-at-requires-6 c κs = search needs
 
 returns-5 : tie.Need-returns-5
-returns-5 c = words-differ _ _ 8 (omega arith) (omega arith) (c .before .before .word-at5 .ensures) (c .before .word-at6 .ensures) (two (c .before .before .before)) (c .if5 .taken)
+returns-5 c = words-differ _ _ 4 (c .before .before .word-at5 .ensures .0) (c .before .word-at6 .ensures .0) (c .if5 .taken)
 
 word-at-requires-7 : tie.Need-word-at-requires-7
 word-at-requires-7 c κs = search needs
@@ -66,7 +67,7 @@ word-at-requires-8 : tie.Need-word-at-requires-8
 word-at-requires-8 c κs = search needs
 
 returns-6 : tie.Need-returns-6
-returns-6 c = words-last _ _ 12 (omega arith) (omega arith) (c .before .word-at7 .ensures) (c .word-at8 .ensures) (three (c .before .before)) (omega arith) (omega arith)
+returns-6 c = words-last _ _ 8 (omega arith) (omega arith) (c .before .word-at7 .ensures) (c .word-at8 .ensures) (two (c .before .before)) (last (c .before .before .before .before .before .before .before .before))
 
 pub same-id-spec : {M : Type 1} → statement M
 same-id-spec =

@@ -10,7 +10,7 @@ use lib.ListN.{take}
 use mathlib.Core.List.{map}
 use Rattle.refusal.specs.Checks.{pass}
 use Rattle.bundle_rules.specs.Bundle.{keyIdIn, idStands, bodyLength, packed, framesCheck}
-use Rattle.bundle_packing.proofs.Walking.{Step, step, later-pass, id-part, body-long, stands-here, stands-on, stands-not}
+use Rattle.bundle_packing.proofs.Walking.{Step, step, step-at, later-pass, id-part, body-long, stands-here, stands-on, stands-not}
 use Rattle.bundle_packing.proofs.id_stands.Statement.{statement}
 use Rattle.bundle_packing.proofs.id_stands.Tie as tie
 
@@ -54,20 +54,11 @@ returns c =
     let l = k .before .loop in
     stands-here _ _ _ (l .at) _ (here k) (id-part _ (l .at) _ (here k) (l .inv .1)) (sym (c .before .same-id .ensures) ∙ c .if1 .taken) (l .inv .2)
 
-sub-body-length : tie.Need-sub-body-length Inv-loop μ-loop
-sub-body-length c = omega arith
+length-at-requires : tie.Need-length-at-requires Inv-loop μ-loop
+length-at-requires c κs = (omega arith, c .before .before .before .before .loop .inv .1)
 
-part-body-length-start : tie.Need-part-body-length-start Inv-loop μ-loop
-part-body-length-start c = omega arith
-
-part-body-length-end : tie.Need-part-body-length-end Inv-loop μ-loop
-part-body-length-end c = omega arith
-
-body-length-requires : tie.Need-body-length-requires Inv-loop μ-loop
-body-length-requires c κs = search needs
-
-made : (c : tie.After-body-length Inv-loop μ-loop) → Step (now (c .before .before .before .before .before .before .before .before .before .args .bytes)) (c .before .before .before .before .before .before .loop .at) (c .body-length .result)
-made c = step _ _ _ (omega arith) (c .body-length .ensures)
+made : (c : tie.After-length-at Inv-loop μ-loop) → Step (now (c .before .before .before .before .before .before .before .before .args .bytes)) (c .before .before .before .before .before .loop .at) (c .length-at .result)
+made c = step-at _ _ _ (omega arith) (c .length-at .ensures)
 
 add-at : tie.Need-add-at Inv-loop μ-loop
 add-at c = omega (arith, made c .inside)
@@ -77,10 +68,10 @@ loop-less c = omega (arith, made c .some, made c .inside)
 
 loop-again : tie.Need-loop-again Inv-loop μ-loop
 loop-again c =
-    let l = c .before .before .before .before .before .before .loop in (
+    let l = c .before .before .before .before .before .loop in (
       omega (arith, made c .inside),
       later-pass _ (l .at) _ (made c) (l .inv .1),
-      stands-on _ _ _ (l .at) _ (made c) (id-part _ (l .at) _ (made c) (l .inv .1)) (sym (c .before .before .before .same-id .ensures) ∙ c .before .before .if1 .left) (l .inv .2),
+      stands-on _ _ _ (l .at) _ (made c) (id-part _ (l .at) _ (made c) (l .inv .1)) (sym (c .before .before .same-id .ensures) ∙ c .before .if1 .left) (l .inv .2),
     )
 
 returns-2 : tie.Need-returns-2 Inv-loop μ-loop
@@ -100,10 +91,7 @@ id-stands-spec =
     part-same-id-end
     same-id-requires
     returns
-    sub-body-length
-    part-body-length-start
-    part-body-length-end
-    body-length-requires
+    length-at-requires
     add-at
     loop-less
     loop-again

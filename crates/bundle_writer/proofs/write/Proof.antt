@@ -1,6 +1,17 @@
 -- `bundle_writer::write` meets its contract.
 -- Assumes nothing.
+use Prim.Native.Nat.{_≤_}
+use mathlib.Core.Path.{_≡_, sym, ap, _∙_}
+use native.Mathlib.Omega.{arith}
+use denote.Ref.{now}
+use lib.ListN.{length}
 use borrow.Author.Needs.{needs}
+use Rattle.refusal.specs.Checks.{pass}
+use Rattle.refusal.specs.Answers.{answerOf}
+use Rattle.key_frame.proofs.Told.{told-count, told-refusal}
+use Rattle.bundle_rules.specs.Bundle.{packed, packedCheck}
+use Rattle.bundle_writer.proofs.Parts.{written-file, count-length}
+use Rattle.bundle_writer.proofs.Writing.{frames-of, count-high, bytes-few, write-early, write-room, write-passes, write-refused, write-done}
 use Rattle.bundle_writer.proofs.write.Statement.{statement}
 use Rattle.bundle_writer.proofs.write.Tie as tie
 
@@ -13,17 +24,25 @@ enum-known-why c = search needs
 enum-known-n : tie.Need-enum-known-n
 enum-known-n c = search needs
 
+-- the attributes pass, and n is their count
+counted : (c : tie.After-known-told2) → let a = now (c .before .before .before .before .before .before .args .attributes) in (packedCheck a ≡ pass) × (c .before .n .given .0 .0 ≡ length (packed a))
+counted c = told-count _ _ _ (sym (ap answerOf (c .before .n .given .1)) ∙ c .before .before .before .check-packed .ensures)
+
+-- so that there are not many
+few : (c : tie.After-known-told2) → (c .before .n .given .0 .0 ≤ 64) × (length (now (c .before .before .before .before .before .before .args .attributes)) ≤ 16128)
+few c = let k = counted c in (omega (arith, k .1, count-high _ (k .0)), bytes-few _ (k .0))
+
 mul-contents : tie.Need-mul-contents
-mul-contents c = ?
+mul-contents c = omega (arith, few c .0)
 
 add-contents : tie.Need-add-contents
-add-contents c = ?
+add-contents c = omega (arith, few c .0)
 
 add-size : tie.Need-add-size
-add-size c = ?
+add-size c = omega (arith, few c .0, few c .1)
 
 returns : tie.Need-returns
-returns c = ?
+returns c = let k = counted (c .before) in write-refused _ _ (write-room _ _ _ (k .0) (k .1) (c .if1 .taken))
 
 be16-requires : tie.Need-be16-requires
 be16-requires c κs = search needs
@@ -35,19 +54,26 @@ put-at-requires : tie.Need-put-at-requires
 put-at-requires c κs = search needs
 
 put-lines-requires : tie.Need-put-lines-requires
-put-lines-requires c κs = ?
+put-lines-requires c κs =
+    let k = counted (c .before .before .before .before .before .before .before .before) in
+    let n = count-length _ _ _ _ (c .before .before .before .before .before .before .be16 .ensures) (omega (arith, c .before .before .before .before .before .before .before .if1 .left)) (c .before .before .before .put-at .ensures) in
+    (frames-of _ (k .0), (sym (k .1), omega (arith, c .before .before .before .before .before .before .before .if1 .left)))
 
 put-at-requires-2 : tie.Need-put-at-requires-2
 put-at-requires-2 c κs = search needs
 
 returns-2 : tie.Need-returns-2
-returns-2 c = ?
+returns-2 c = write-refused _ _ (write-early _ _ (told-refusal _ _ _ (sym (ap answerOf (c .before .why .given .1)) ∙ c .before .before .before .check-packed .ensures)))
 
 same-length : tie.Need-same-length
 same-length c = search needs
 
 returns-3 : tie.Need-returns-3
-returns-3 c = ?
+returns-3 c =
+    let a = c .before .before .before .before .before .before .before .before .before .before .before .before .before .before .before .before .before .before .before .before .before .args in
+    let k = counted (c .before .before .before .before .before .before .before .before .before .before .before .before .before .before .before) in
+    let file = written-file (now (a .attributes)) (now (a .out)) _ _ _ _ _ (frames-of _ (k .0)) (sym (k .1)) (c .before .before .before .before .before .before .before .before .before .before .before .before .before .be16 .ensures) (c .before .before .before .before .before .before .before .before .before .before .put-at .ensures) (c .before .before .before .before .before .before .put-lines .ensures) (c .before .before .put-at2 .ensures) in
+    write-done _ _ _ _ (k .1) (write-passes _ _ _ (k .0) (k .1) (c .before .before .before .before .before .before .before .before .before .before .before .before .before .before .if1 .left)) file
 
 pub write-spec : {M : Type 1} → statement M
 write-spec =

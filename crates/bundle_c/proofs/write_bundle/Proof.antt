@@ -1,0 +1,12 @@
+-- `bundle_c::write_bundle` meets its contract.
+-- Assumes nothing.
+use Rattle.outcome.proofs.Handing.{handed}
+use borrow.Author.Needs.{needs}
+use Rattle.bundle_c.proofs.write_bundle.Statement.{statement}
+use Rattle.bundle_c.proofs.write_bundle.Tie as tie
+
+returns : tie.Need-returns
+returns c = let p = c .before .before .before in (handed (p .write .result) (c .returned .ensures) (p .write .ensures .0), p .write .ensures .1)
+
+pub write-bundle-spec : {M : Type 1} → statement M
+write-bundle-spec = tie.close (tie.spec (λ c κs. search needs) (λ c κs. search needs) (λ c. search needs) returns)
