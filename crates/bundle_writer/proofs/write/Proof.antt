@@ -8,7 +8,7 @@ use lib.ListN.{length}
 use borrow.Author.Needs.{needs}
 use Rattle.refusal.specs.Checks.{pass}
 use Rattle.refusal.specs.Answers.{answerOf}
-use Rattle.key_frame.proofs.Told.{told-count, told-refusal}
+use Rattle.refusal.proofs.Answering.{told-count, told-refusal}
 use Rattle.bundle_rules.specs.Bundle.{packed, packedCheck}
 use Rattle.bundle_writer.proofs.Parts.{written-file, count-length}
 use Rattle.bundle_writer.proofs.Writing.{frames-of, count-high, bytes-few, write-early, write-room, write-passes, write-refused, write-done}
