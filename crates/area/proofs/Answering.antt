@@ -7,7 +7,7 @@ use borrow.Author.Tests.{le-leb, lt-leb}
 use lib.ListN.{length, take, drop}
 use Rattle.refusal.specs.Checks.{Reason, bare, unless}
 use Rattle.area_format.specs.Area.{attributes, whole, refusal, readOn, reading, answered, refused, areaAnswer, areaBuffer}
-use Rattle.slices.specs.Same.{sameList}
+use Rattle.area_format.specs.Names.{sameFields}
 use Rattle.area_format.specs.declared.Name.the-variants.{Missing}
 
 -- room for 17 is checked first
@@ -29,6 +29,6 @@ module _ (area own out : List ℕ) (room : 17 ≤ length out) where
   refused-so x e = (rw (with-room area (length out) room, ← e), rw (with-room area (length out) room, ← e))
 
   pub answered-so : (offers : List ℕ) (at len : ℕ) → whole offers at len ≡ readOn [] Missing (attributes area)
-      → (answered (length offers) at len (sameList (take len (drop at area)) own) ≡ areaAnswer area own (length out)) × (offers ++ drop (length offers) out ≡ areaBuffer area out)
+      → (answered (length offers) at len (sameFields (take len (drop at area)) own) ≡ areaAnswer area own (length out)) × (offers ++ drop (length offers) out ≡ areaBuffer area out)
   unfolding areaAnswer areaBuffer
   answered-so offers at len e = (rw (with-room area (length out) room, ← e), rw (with-room area (length out) room, ← e))

@@ -8,7 +8,7 @@ ghost use Rattle.refusal.specs.Answers.{reasonOf};
 ghost use Rattle.area_format.specs.Area.{Standing, standing, faultAt, readOn, attributes, areaAnswer, areaBuffer};
 ghost use Rattle.area_format.specs.Area;
 ghost use Rattle.area_format.specs.declared.Name.the-variants.{Missing};
-ghost use Rattle.slices.specs.Same.{sameList};
+ghost use Rattle.area_format.specs.Names.{sameFields};
 ghost use Rattle.area.specs.Area.{areaAnswerOf};
 ghost use Rattle.area.specs.Internal.{addedCount, addedOn, walkedCount, walkedAs};
 use area_format::Attribute;
@@ -17,9 +17,9 @@ use area_format::Fault;
 use area_format::Name;
 use area_reader::Step;
 use area_reader::read_at;
+use network_name::same_fields;
 use refusal::Refusal;
 use slices::copy_values;
-use slices::same_bytes;
 
 // What the walk has met so far: the count of the offers, which it keeps in a buffer beside this, and the name.
 struct Seen {
@@ -40,7 +40,7 @@ enum Walked {
 }
 
 // What an area that is read whole holds: the count of its offers, the name's offset from the area's first byte, its length in bytes,
-// and whether it is the peer's own name.
+// and whether it agrees with the peer's own name, field by field.
 pub struct Offered {
     pub count: usize,
     pub name_at: usize,
@@ -156,16 +156,16 @@ fn walk(area: &[u8], kept: &mut [u16]) -> Walked
     }
 }
 
-// Whether the name of so many bytes at an offset of the area is the peer's own.
+// Whether the name of so many bytes at an offset of the area agrees with the peer's own.
 fn is_own_name(area: &[u8], at: usize, len: Bytes, own_name: &[u8]) -> bool
     requires { ⌜ at + len .0 ≤ length (now area) ⌝ }
-    ensures { λ r. ⌜ r ≡ sameList (take (len .0) (drop at (now (area .entry)))) (now («own_name» .entry)) ⌝ }
+    ensures { λ r. ⌜ r ≡ sameFields (take (len .0) (drop at (now (area .entry)))) (now («own_name» .entry)) ⌝ }
 {
     let end = at + len.0;
-    same_bytes(&area[at..end], own_name)
+    same_fields(&area[at..end], own_name)
 }
 
-// Reads an attribute area: writes its offers to `out`, in order, and tells where its name stands and whether that is `own_name`.
+// Reads an attribute area: writes its offers to `out`, in order, and tells where its name stands and whether that agrees with `own_name`.
 pub fn read_area(area: &[u8], own_name: &[u8], out: &mut [u16]) -> AreaRead
     ensures answer { λ r. ⌜ areaAnswerOf r ≡ areaAnswer (now (area .entry)) (now («own_name» .entry)) (length (now (out .entry))) ⌝ }
     ensures buffer { λ _. ⌜ now (out .exit) ≡ areaBuffer (now (area .entry)) (now (out .entry)) ⌝ }

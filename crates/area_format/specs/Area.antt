@@ -8,7 +8,6 @@ use lib.ListN.{length, getD, take, drop}
 use lib.Dec.{leb, ltb, eqb}
 use Rattle.refusal.specs.Checks.{Reason, bare, located, Check, pass, refuse, check6}
 use Rattle.slices.specs.Numbers.{be16At}
-use Rattle.slices.specs.Same.{sameList}
 use Rattle.area_format.specs.declared.Attribute.{Attribute}
 use Rattle.area_format.specs.declared.Attribute.the-variants.{Offer, Named, Other, Faulty}
 use Rattle.area_format.specs.declared.Fault.{Fault}
@@ -17,6 +16,7 @@ use Rattle.area_format.specs.declared.Words.{Words}
 use Rattle.area_format.specs.declared.Bytes.{Bytes}
 use Rattle.area_format.specs.declared.Name.{Name}
 use Rattle.area_format.specs.declared.Name.the-variants.{Missing, Found}
+use Rattle.area_format.specs.Names.{sameFields}
 
 -- An attribute is read off the bytes from its first to the area's end: its type, its length in four-byte words, and the number in the two
 -- bytes that follow, high byte first (the value of an AT_KDF, the name length of an AT_KDF_INPUT).
@@ -122,14 +122,14 @@ unfoldable pub reading : List ℕ → ℕ → Reading
 reading area room = guarded (check6 17 room) (readOn [] Missing (attributes area))
 
 -- the answer of a call, by document 01's number and values: the count of the offers, the name's offset from the area's first byte, its length, and
--- whether it is the peer's own; or a refusal
+-- whether it agrees with the peer's own; or a refusal
 pub data AreaAnswer : Type 0 where
   answered : (count nameAt nameLen : ℕ) (same : Bool) → AreaAnswer
   refused : Reason → AreaAnswer
 
--- what the call answers to a reading, the peer's own name being lent. A different name is reported and the answer given all the same.
+-- what the call answers to a reading, the peer's own name being lent. A differing name is reported and the answer given all the same.
 abbrev pub answerTo : List ℕ → List ℕ → Reading → AreaAnswer
-answerTo area own (whole offers at len) = answered (length offers) at len (sameList (take len (drop at area)) own)
+answerTo area own (whole offers at len) = answered (length offers) at len (sameFields (take len (drop at area)) own)
 answerTo area own (refusal x) = refused x
 
 -- the buffer after a reading: the offers, and after them what stood there; on a refusal all that stood there

@@ -7,6 +7,7 @@ use mathlib.Core.Bool.{true, false}
 use mathlib.Core.List.{List, [], _∷_, _++_}
 use lib.ListN.{replicate}
 use Rattle.refusal.specs.Checks.{bare, located}
+use Rattle.area_format.specs.Names.{sameFields}
 use Rattle.area_format.specs.Area.{AreaAnswer, answered, refused, areaAnswer, areaBuffer}
 
 -- 18 01 00 02, 18 01 00 01, 17 02 00 03 57 4C 4E 00
@@ -46,3 +47,28 @@ Cases =
     × (answerFor wln ≡ refused (bare 10))
     × (answerFor (times 17 two ++ wln) ≡ answered 17 72 3 false)
     × (answerFor (times 18 two ++ wln) ≡ refused (bare 10))
+
+-- Names of document 02, request 4: FOO, FOO: and FOO:BAR, BAR alone after a colon, and the colon alone
+abbrev pub foo : List ℕ
+foo = 0x46 ∷ 0x4F ∷ 0x4F ∷ []
+
+abbrev pub bar : List ℕ
+bar = 0x42 ∷ 0x41 ∷ 0x52 ∷ []
+
+abbrev pub colon : List ℕ
+colon = 0x3A ∷ []
+
+-- "" is one empty field, and "FOO:" has a second, empty one. The last three: agreeing is not transitive.
+abbrev pub NameCases : Type 0
+NameCases =
+    (sameFields [] [] ≡ true)
+    × (sameFields [] colon ≡ true)
+    × (sameFields [] (colon ++ bar) ≡ true)
+    × (sameFields [] (foo ++ colon ++ bar) ≡ false)
+    × (sameFields (foo ++ colon) foo ≡ true)
+    × (sameFields (foo ++ colon) (foo ++ colon ++ bar) ≡ false)
+    × (sameFields foo bar ≡ false)
+    × (sameFields foo (foo ++ bar) ≡ false)
+    × (sameFields (foo ++ colon ++ bar) foo ≡ true)
+    × (sameFields foo (foo ++ colon ++ foo) ≡ true)
+    × (sameFields (foo ++ colon ++ bar) (foo ++ colon ++ foo) ≡ false)

@@ -1,3 +1,4 @@
 pub mod Area
 pub mod Cases
+pub mod Names
 pub mod Statements

@@ -10,31 +10,31 @@ use Rattle.area.proofs.is_own_name.Tie as tie
 add-end : tie.Need-add-end
 add-end c = search needs
 
-sub-same-bytes : tie.Need-sub-same-bytes
-sub-same-bytes c = search needs
+sub-same-fields : tie.Need-sub-same-fields
+sub-same-fields c = search needs
 
-part-same-bytes-start : tie.Need-part-same-bytes-start
-part-same-bytes-start c = search needs
+part-same-fields-start : tie.Need-part-same-fields-start
+part-same-fields-start c = search needs
 
-part-same-bytes-end : tie.Need-part-same-bytes-end
-part-same-bytes-end c = search needs
+part-same-fields-end : tie.Need-part-same-fields-end
+part-same-fields-end c = search needs
 
-same-bytes-requires : tie.Need-same-bytes-requires
-same-bytes-requires c κs = search needs
+same-fields-requires : tie.Need-same-fields-requires
+same-fields-requires c κs = search needs
 
 returns : tie.Need-returns
 returns c =
     let a = c .before .before .before .before .before .args in
     let n : a .at + a .len .0 - a .at ≡ a .len .0 = omega arith in
-    rw (c .same-bytes .ensures, n)
+    rw (c .same-fields .ensures, n)
 
 pub is-own-name-spec : {M : Type 1} → statement M
 is-own-name-spec =
     tie.close
     (tie.spec
     add-end
-    sub-same-bytes
-    part-same-bytes-start
-    part-same-bytes-end
-    same-bytes-requires
+    sub-same-fields
+    part-same-fields-start
+    part-same-fields-end
+    same-fields-requires
     returns)
