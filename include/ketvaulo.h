@@ -92,9 +92,9 @@
 #include <stdint.h>
 
 /* The version of this interface. CHANGELOG.md says what changed for a caller. */
-#define KV_VERSION "1.1.0"
+#define KV_VERSION "1.2.0"
 #define KV_VERSION_MAJOR 1
-#define KV_VERSION_MINOR 1
+#define KV_VERSION_MINOR 2
 #define KV_VERSION_PATCH 0
 
 /* Sizes and limits. Lengths are in bytes, counts in values. */
