@@ -1,6 +1,6 @@
 /* The calls of include/ketvaulo.h that are measured, in C over another library's hash, expansion and key wrap (peer.h): the same tests
  * in the same order, the layout of the Key attribute and, over no library at all, the reader of the attribute area, written by hand as
- * eap_sim_parse_attr of wpa_supplicant is. */
+ * eap_sim_parse_attr of wpa_supplicant is, and the bundles. */
 #include "ketvaulo.h"
 #include "peer.h"
 #include <string.h>
@@ -101,10 +101,9 @@ kv_outcome kv_write_key_attribute(uint8_t type, uint32_t app_id, const uint8_t *
     return wrote(60 + key_len);
 }
 
-static uint32_t attribute_refusal(size_t kek_len, const uint8_t *attribute, size_t attribute_len, size_t out_len)
+/* The tests of a Key attribute that need no KEK. */
+static uint32_t frame_refusal(const uint8_t *attribute, size_t attribute_len)
 {
-    if (kek_len != 16)
-        return KV_KEK_LENGTH;
     if (attribute_len < 76 || attribute_len > 252 || (attribute_len - 60) % 8 || attribute[1] != attribute_len)
         return KV_KEY_ATTRIBUTE_LENGTH;
     if (attribute[0] == 0)
@@ -115,7 +114,15 @@ static uint32_t attribute_refusal(size_t kek_len, const uint8_t *attribute, size
         return KV_ENC_TYPE;
     if (memcmp(attribute + 44, "\xa6\xa6\xa6\xa6\xa6\xa6\xa6\xa6", 8))
         return KV_IV_FIELD;
-    return out_len < attribute_len - 60 ? KV_ROOM : KV_ACCEPTED;
+    return KV_ACCEPTED;
+}
+
+static uint32_t attribute_refusal(size_t kek_len, const uint8_t *attribute, size_t attribute_len, size_t out_len)
+{
+    if (kek_len != 16)
+        return KV_KEK_LENGTH;
+    uint32_t refusal = frame_refusal(attribute, attribute_len);
+    return refusal ? refusal : out_len < attribute_len - 60 ? KV_ROOM : KV_ACCEPTED;
 }
 
 kv_key_attribute kv_read_key_attribute(const uint8_t *kek, size_t kek_len, const uint8_t *attribute, size_t attribute_len, uint8_t *out,
@@ -200,4 +207,80 @@ kv_area kv_read_area(const uint8_t *area, size_t area_len, const uint8_t *own_na
     uint32_t refusal = walk(area, area_len, own_name, own_name_len, out, out_len, &found);
     found.refusal = refusal;
     return found;
+}
+
+/* ---- bundles, over no library at all */
+static size_t get16(const uint8_t *at) { return (size_t)at[0] << 8 | at[1]; }
+static void put16(uint8_t *at, size_t x) { at[0] = (uint8_t)(x >> 8), at[1] = (uint8_t)x; }
+
+kv_outcome kv_write_bundle(const uint8_t *attributes, size_t attributes_len, uint8_t *out, size_t out_len)
+{
+    const uint8_t *end = attributes + attributes_len, *a, *b;
+    size_t count = 0;
+    uint32_t refusal;
+    for (a = attributes; a < end; a += a[1], count++) {
+        size_t left = (size_t)(end - a);
+        if (left < 2 || a[1] > left)
+            return refused(KV_KEY_ATTRIBUTE_LENGTH);
+        if ((refusal = frame_refusal(a, a[1])))
+            return refused(refusal);
+    }
+    if (count < 1 || count > 64)
+        return refused(KV_BUNDLE_COUNT);
+    for (a = attributes; a < end; a += a[1])
+        for (b = a + a[1]; b < end; b += b[1])
+            if (memcmp(a + 24, b + 24, 16) == 0)
+                return refused(KV_REPEATED_KEY_ID);
+    size_t contents = 2 + 20 * count;
+    if (out_len < contents + attributes_len)
+        return refused(KV_ROOM);
+    put16(out, count);
+    uint8_t *line = out + 2;
+    for (a = attributes; a < end; a += a[1], line += 20) {
+        memcpy(line, a + 24, 16);
+        put16(line + 16, contents + (size_t)(a - attributes));
+        put16(line + 18, a[1]);
+    }
+    memcpy(out + contents, attributes, attributes_len);
+    return wrote(contents + attributes_len);
+}
+static uint32_t bundle_refusal(const uint8_t *file, size_t file_len)
+{
+    if (file_len < 2 || get16(file) < 1 || get16(file) > 64)
+        return KV_BUNDLE_COUNT;
+    size_t count = get16(file), end = 2 + 20 * count;
+    if (file_len < end)
+        return KV_BUNDLE_CONTENTS;
+    const uint8_t *last = file + end, *a, *b;
+    for (a = file + 2; a < last; a += 20) {
+        if (get16(a + 16) != end)
+            return KV_BUNDLE_CONTENTS;
+        end += get16(a + 18);
+    }
+    if (end != file_len)
+        return KV_BUNDLE_END;
+    for (a = file + 2; a < last; a += 20)
+        for (b = a + 20; b < last; b += 20)
+            if (memcmp(a, b, 16) == 0)
+                return KV_REPEATED_KEY_ID;
+    for (a = file + 2; a < last; a += 20) {
+        const uint8_t *body = file + get16(a + 16);
+        uint32_t refusal = frame_refusal(body, get16(a + 18));
+        if (refusal)
+            return refusal;
+        if (memcmp(body + 24, a, 16))
+            return KV_KEY_ID_UNLIKE_CONTENTS;
+    }
+    return KV_ACCEPTED;
+}
+kv_outcome kv_read_bundle(const uint8_t *file, size_t file_len, uint8_t *out, size_t out_len)
+{
+    uint32_t refusal = bundle_refusal(file, file_len);
+    if (refusal)
+        return refused(refusal);
+    size_t contents = 2 + 20 * get16(file);
+    if (out_len < file_len - contents)
+        return refused(KV_ROOM);
+    memcpy(out, file + contents, file_len - contents);
+    return wrote(file_len - contents);
 }

@@ -10,6 +10,8 @@ static const uint8_t kek[16] = {0, 1, 2, 3, 4, 5, 6, 7, 8, 9, 10, 11, 12, 13, 14
 static const uint8_t key16[16] = {0x00, 0x11, 0x22, 0x33, 0x44, 0x55, 0x66, 0x77, 0x88, 0x99, 0xaa, 0xbb, 0xcc, 0xdd, 0xee, 0xff};
 static const uint8_t kek_id[16] = "kek-of-the-yard", key_id[16] = "key-of-the-gate";
 static uint8_t attribute16[76], attribute192[252];
+enum { BUNDLED = 64 };
+static uint8_t attributes[BUNDLED * 252], bundle[2 + BUNDLED * (20 + 252)];
 uint8_t area[4 * OFFERS + 4 + NAME + 3];
 const uint8_t own_name[NAME] = {'w', 'l', 'a', 'n', '.', 'y', 'a', 'r', 'd', '.', 'e', 'x', 'a', 'm', 'p', 'l', 'e'};
 
@@ -22,7 +24,7 @@ static void fill(uint8_t *at, size_t n, uint32_t seed)
 }
 
 /* ---- answers */
-uint8_t out[8192];
+uint8_t out[17410];
 uint16_t offers[17];
 static kv_outcome outcome;
 static kv_key_attribute attribute;
@@ -57,6 +59,9 @@ static void read_192(void) { attribute = kv_read_key_attribute(kek, 16, attribut
 
 static void area_17(void) { found = kv_read_area(area, sizeof area, own_name, NAME, offers, 17); }
 
+static void bundle_write_64(void) { outcome = kv_write_bundle(attributes, sizeof attributes, out, sizeof out); }
+static void bundle_read_64(void) { outcome = kv_read_bundle(bundle, sizeof bundle, out, sizeof out); }
+
 const struct job jobs[JOBS] = {
     {"none", none},
     {"sha256-64", sha256_64},
@@ -72,6 +77,8 @@ const struct job jobs[JOBS] = {
     {"read-16", read_16},
     {"read-192", read_192},
     {"area-17", area_17},
+    {"bundle-write-64", bundle_write_64},
+    {"bundle-read-64", bundle_read_64},
 };
 
 void prepare_jobs(void)
@@ -91,6 +98,11 @@ void prepare_jobs(void)
     memcpy(area + 4 * OFFERS + 4, own_name, NAME);
     write(key16, 16, attribute16, sizeof attribute16);
     write(key192, 192, attribute192, sizeof attribute192);
+    for (int i = 0; i < BUNDLED; i++) { /* Key IDs that are counted up */
+        memcpy(attributes + 252 * i, attribute192, 252);
+        attributes[252 * i + 39] = (uint8_t)i;
+    }
+    outcome = kv_write_bundle(attributes, sizeof attributes, bundle, sizeof bundle);
 }
 
 static void show_bytes(const uint8_t *at, size_t n, void (*put)(const char *))

@@ -18,7 +18,7 @@ void prepare_jobs(void);
 void show_job(const struct job *job, void (*put)(const char *text));
 
 /* Inputs that growth.c uses too. */
-extern uint8_t emsk[128], data[2048], out[8192];
+extern uint8_t emsk[128], data[2048], out[17410];
 extern uint16_t offers[17];
 extern const uint8_t label20[20];
 enum { OFFERS = 17, NAME = 17 };

@@ -74,6 +74,17 @@ int main(void)
     IS(wrap(KV_ID_LEN, KV_KEK_LEN, KV_WRAPPED_KEY_MIN - 8, sizeof out), KV_KEY_TO_WRAP_LENGTH);
     IS(wrap(KV_ID_LEN, KV_KEK_LEN, KV_WRAPPED_KEY_MAX + 8, sizeof out), KV_KEY_TO_WRAP_LENGTH);
 
+    static uint8_t attributes[(KV_BUNDLE_KEYS_MAX + 1) * KV_KEY_ATTRIBUTE_MAX], file[KV_BUNDLE_MAX + KV_KEY_ATTRIBUTE_MAX + 20];
+    for (size_t i = 0; i < KV_BUNDLE_KEYS_MAX + 1; i++) {
+        uint8_t *attribute = attributes + i * KV_KEY_ATTRIBUTE_MAX;
+        attribute[0] = 1, attribute[1] = KV_KEY_ATTRIBUTE_MAX, attribute[24] = (uint8_t)i;
+        memset(attribute + 44, 0xa6, 8);
+    }
+    GIVES(kv_write_bundle(attributes, KV_BUNDLE_BODIES_MAX, file, KV_BUNDLE_MAX), KV_BUNDLE_MAX);
+    IS(kv_write_bundle(attributes, sizeof attributes, file, sizeof file), KV_BUNDLE_COUNT);
+    GIVES(kv_read_bundle(file, KV_BUNDLE_MAX, attributes, KV_BUNDLE_BODIES_MAX), KV_BUNDLE_BODIES_MAX);
+    IS(kv_read_bundle(file, KV_BUNDLE_MAX, attributes, KV_BUNDLE_BODIES_MAX - 1), KV_ROOM);
+
     kv_slots slots = { 0 };
     kv_name named = { { 'a' } };
     for (int i = 0; i < KV_SLOTS; i++) {
