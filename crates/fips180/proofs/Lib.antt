@@ -11,4 +11,3 @@ pub mod Stream
 pub mod Absorbing
 pub mod Closing
 pub mod Marked
-pub mod Copies

@@ -1,4 +1,2 @@
 pub mod Stream
-pub mod Copies
-mod Digests
 mod Parts

@@ -11,18 +11,9 @@ ghost use Rattle.sha256.specs.Stream.{progress, started, startedAfter, a
 ghost use Rattle.fips180.specs.Internal.{begunBlock};
 ghost use Rattle.sha256.specs.Internal.{parts, closing, partAt};
 use sha256_block::compress_blocks;
-
-// The first hash value (5.3.3).
-const H0: [u32; 8] = [
-    0x6a09e667,
-    0xbb67ae85,
-    0x3c6ef372,
-    0xa54ff53a,
-    0x510e527f,
-    0x9b05688c,
-    0x1f83d9ab,
-    0x5be0cd19,
-];
+use sha256_value::H0;
+use sha256_value::of_blocks;
+use sha256_value::to_bytes;
 
 // A hash in progress: the hash value after the whole blocks absorbed, the block that is being filled, and the count of all bytes.
 pub struct Sha256 {
@@ -37,18 +28,6 @@ fn put(bytes: &mut [u8], at: usize, part: &[u8])
     ensures { λ _. ⌜ now (bytes .exit) ≡ paste (now (bytes .entry)) at (now (part .entry)) (length (now (part .entry))) ⌝ }
 {
     bytes::copy(part, &mut bytes[at..]);
-}
-
-// The digest, from the last hash value.
-fn to_bytes(h: [u32; 8]) -> [u8; 32]
-    ensures { λ r. ⌜ r ≡ Fips180.digest h ⌝ }
-{
-    let mut r: [u8; 32] = [0; 32];
-    for j in 0..8 {
-        let word = slices::be32(h[j]);
-        put(&mut r, 4 * j, &word);
-    }
-    r
 }
 
 // Ends the message after the block's first `at` bytes: a bit 1, and zeros.
@@ -251,25 +230,11 @@ pub fn digest_of_two(first: &[u8], second: &[u8]) -> [u8; 32]
     Sha256::new().absorb(first).absorb(second).finish()
 }
 
-// The hash value after one block.
-pub fn value_of(block: [u8; 64]) -> [u32; 8]
-    ensures { λ r. ⌜ r ≡ Fips180.compress Fips180.H0 block ⌝ }
-{
-    compress_blocks(H0, &block)
-}
-
-// The hash value after the message's whole blocks.
-fn whole(message: &[u8]) -> [u32; 8]
-    ensures { λ r. ⌜ r ≡ Fips180.blocks (length (now (message .entry)) / 64) Fips180.H0 (now (message .entry)) ⌝ }
-{
-    compress_blocks(H0, message)
-}
-
 // The hash of a message.
 pub fn digest(message: &[u8]) -> [u8; 32]
     ensures { λ r. ⌜ r ≡ Fips180.sha256 (now (message .entry)) ⌝ }
 {
-    let h = whole(message);
+    let h = of_blocks(message);
     let mut block: [u8; 64] = [0; 64];
     begin(&mut block, message);
     last_digest(h, &mut block, message.len() as u64)

@@ -13,7 +13,7 @@ use lib.Seq.{length-paste, length-take-le}
 use Rattle.hmac.specs.Rfc2104.{hmacSha256}
 use Rattle.hmac.proofs.Laws.{hmacSha256-length}
 use Rattle.prf_plus.specs.PrfPlus.{blocks, prfPlus, blockCount}
-use Rattle.sha256.proofs.Copies.{copied-part}
+use Rattle.slices.proofs.Copies.{copied-part}
 use Rattle.prf_plus.proofs.Parts.{next-under-key}
 use Rattle.prf_plus.proofs.Steps.{next-out, closer}
 use Rattle.prf_plus.proofs.fill.Statement.{statement}

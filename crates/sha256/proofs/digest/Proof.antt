@@ -11,8 +11,8 @@ use borrow.Author.Needs.{needs}
 use Rattle.sha256.proofs.digest.Statement.{statement}
 use Rattle.sha256.proofs.digest.Tie as tie
 
-whole-requires : tie.Need-whole-requires
-whole-requires c κs = search needs
+of-blocks-requires : tie.Need-of-blocks-requires
+of-blocks-requires c κs = search needs
 
 begin-requires : tie.Need-begin-requires
 begin-requires c κs = search needs
@@ -25,7 +25,7 @@ unfolding sha256
 returns c =
     let m = now (c .before .before .before .before .before .before .args .message) in
     let f : length m < 2 ^ 64 = omega arith in
-    at-once compress m H0 digest f (c .before .before .begin .ensures) (c .before .before .before .before .whole .ensures) (c .last-digest .ensures)
+    at-once compress m H0 digest f (c .before .before .begin .ensures) (c .before .before .before .before .of-blocks .ensures) (c .last-digest .ensures)
 
 pub digest-spec : {M : Type 1} → statement M
-digest-spec = tie.close (tie.spec whole-requires begin-requires last-digest-requires returns)
+digest-spec = tie.close (tie.spec of-blocks-requires begin-requires last-digest-requires returns)

@@ -1,13 +1,13 @@
--- `sha256::to_bytes` meets its contract. The loop's invariant: the first j words are written (proofs/Digests.antt, `next-word`).
+-- `sha256_value::to_bytes` meets its contract. The loop's invariant: the first j words are written (proofs/Digests.antt, `next-word`).
 -- Assumes nothing.
 use mathlib.Core.Path.{_≡_, refl, sym, ap, _∙_}
 use Prim.Native.Nat.{ℕ, _+_, _-_, _*_, _≤_}
 use native.Mathlib.Omega.{arith}
 use borrow.Author.Needs.{needs}
-use lib.ListN.{length}
-use Rattle.sha256.proofs.Digests.{written, written-length, next-word, none-written, all-written}
-use Rattle.sha256.proofs.to_bytes.Statement.{statement}
-use Rattle.sha256.proofs.to_bytes.Tie as tie
+use lib.ListN.{length, length-take, length-drop}
+use Rattle.sha256_value.proofs.Digests.{written, written-length, next-word, none-written, all-written}
+use Rattle.sha256_value.proofs.to_bytes.Statement.{statement}
+use Rattle.sha256_value.proofs.to_bytes.Tie as tie
 
 abbrev Inv-loop : tie.InvT-loop
 Inv-loop h r₀ j₀ r j = (j ≤ 8) × (length r ≡ 32) × (r ≡ written h j)
@@ -27,21 +27,26 @@ array-read-be32 c = search needs
 be32-requires : tie.Need-be32-requires Inv-loop μ-loop
 be32-requires c κs = search needs
 
-slice-aggregate-put : tie.Need-slice-aggregate-put Inv-loop μ-loop
-slice-aggregate-put c = sym (c .before .before .before .loop .inv .1)
+slice-aggregate-copy : tie.Need-slice-aggregate-copy Inv-loop μ-loop
+slice-aggregate-copy c = search needs
 
-mul-put : tie.Need-mul-put Inv-loop μ-loop
-mul-put c = search needs
+mul-r : tie.Need-mul-r Inv-loop μ-loop
+mul-r c = search needs
 
-slice-aggregate-put-2 : tie.Need-slice-aggregate-put-2 Inv-loop μ-loop
-slice-aggregate-put-2 c = search needs
+sub-copy : tie.Need-sub-copy Inv-loop μ-loop
+sub-copy c = search needs
 
-put-requires : tie.Need-put-requires Inv-loop μ-loop
-put-requires c κs =
-    let p = c .before .before .before .before in
+part-r-start : tie.Need-part-r-start Inv-loop μ-loop
+part-r-start c = search needs
+
+part-r-end : tie.Need-part-r-end Inv-loop μ-loop
+part-r-end c = search needs
+
+copy-requires : tie.Need-copy-requires Inv-loop μ-loop
+copy-requires c κs =
     let w : length (c .before .before .be32 .result) ≡ 4 = search needs in
-    let r : length (p .loop .r) ≡ 32 = p .loop .inv .1 in
-    omega arith
+    let r : length (c .before .before .before .before .loop .r) ≡ 32 = c .before .before .before .before .loop .inv .1 in
+    simp (length-take, length-drop) (omega arith)
 
 add-j : tie.Need-add-j Inv-loop μ-loop
 add-j c = search needs
@@ -53,7 +58,7 @@ loop-again : tie.Need-loop-again Inv-loop μ-loop
 loop-again c =
     let p = c .before .before .before .before .before .before in
     let h = p .before .args .t1 in
-    let next = next-word h (p .loop .j) (omega arith) (p .loop .inv .2) (c .before .before .before .before .be32 .ensures) (c .before .put .ensures) in
+    let next = next-word h (p .loop .j) 32 (omega arith) (sym (p .loop .inv .1)) (p .loop .inv .2) (c .before .before .before .before .be32 .ensures) (c .before .copy .ensures .1) in
     (omega arith, ap length next ∙ written-length h (p .loop .j + 1) (omega arith), next)
 
 returns : tie.Need-returns Inv-loop μ-loop
@@ -71,10 +76,12 @@ to-bytes-spec =
     mul-be32
     array-read-be32
     be32-requires
-    slice-aggregate-put
-    mul-put
-    slice-aggregate-put-2
-    put-requires
+    slice-aggregate-copy
+    mul-r
+    sub-copy
+    part-r-start
+    part-r-end
+    copy-requires
     add-j
     loop-less
     loop-again

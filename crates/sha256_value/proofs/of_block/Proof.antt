@@ -1,12 +1,12 @@
--- `sha256::value_of` meets its contract: one block compressed.
+-- `sha256_value::of_block` meets its contract: one block compressed.
 -- Assumes nothing.
 use mathlib.Core.Path.{_≡_, _∙_}
 use lib.ListN.{length}
 use Rattle.sha256_block.specs.Fips180.{H0, compress}
 use Rattle.fips180.proofs.Blocks.{one-block}
 use borrow.Author.Needs.{needs}
-use Rattle.sha256.proofs.value_of.Statement.{statement}
-use Rattle.sha256.proofs.value_of.Tie as tie
+use Rattle.sha256_value.proofs.of_block.Statement.{statement}
+use Rattle.sha256_value.proofs.of_block.Tie as tie
 
 slice-aggregate-compress-blocks : tie.Need-slice-aggregate-compress-blocks
 slice-aggregate-compress-blocks c = search needs
@@ -21,6 +21,6 @@ returns c =
     let l : length b ≡ 64 = search needs in
     c .compress-blocks .ensures ∙ one-block compress H0 b l
 
-pub value-of-spec : {M : Type 1} → statement M
-value-of-spec =
+pub of-block-spec : {M : Type 1} → statement M
+of-block-spec =
     tie.close (tie.spec slice-aggregate-compress-blocks compress-blocks-requires returns)

@@ -1,0 +1,16 @@
+-- `sha256_value::of_blocks` meets its contract: its table is the first hash value.
+-- Assumes nothing.
+use Rattle.sha256_block.specs.Fips180.{H0}
+use borrow.Author.Needs.{needs}
+use Rattle.sha256_value.proofs.of_blocks.Statement.{statement}
+use Rattle.sha256_value.proofs.of_blocks.Tie as tie
+
+compress-blocks-requires : tie.Need-compress-blocks-requires
+compress-blocks-requires c κs = search needs
+
+returns : tie.Need-returns
+unfolding H0
+returns c = c .compress-blocks .ensures
+
+pub of-blocks-spec : {M : Type 1} → statement M
+of-blocks-spec = tie.close (tie.spec compress-blocks-requires returns)
