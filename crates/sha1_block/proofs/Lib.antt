@@ -1,2 +1,2 @@
 mod Schedule
-mod Rounds
+pub mod Rounds

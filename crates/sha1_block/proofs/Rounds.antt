@@ -2,7 +2,7 @@
 -- Assumes nothing.
 use mathlib.Core.Path.{_≡_, refl, sym, ap, _∙_}
 use mathlib.Core.List.{List}
-use Prim.Native.Nat.{ℕ, zero, suc, _+_, _<_, _≤_}
+use Prim.Native.Nat.{ℕ, zero, suc, _+_, _*_, _/_, _%_, _<_, _≤_}
 use native.Mathlib.Nat.{add-zero, add-suc, add-assoc}
 use native.Mathlib.Omega.{arith}
 use lib.ListN.{getD}
@@ -14,6 +14,7 @@ use Rattle.fips180.proofs.Sha1Rounds.{round-by-cases}
 use Rattle.fips180.proofs.Window.{window-at}
 use Rattle.sha1_round.specs.Variables.{stepBy}
 use Rattle.sha1_rounds.specs.Rounds.{runs}
+use Rattle.sha1_block.specs.Statements.{WordInPlace, RoundByWindow}
 
 -- n rounds from round t on, of one function and constant, with the words in the window from place j on
 module _ (f : ℕ → ℕ → ℕ → ℕ) (k : ℕ) (h b : List ℕ) (t p j : ℕ) (place : p + j ≡ t) where
@@ -55,3 +56,14 @@ no-round h b e = e
 pub all-rounds : (h b : List ℕ) {s v : List ℕ} → v ≡ s → s ≡ rounds h b 80 → sums h v ≡ compress h b
 unfolding compress
 all-rounds h b ev e = ap (sums h) (ev ∙ e)
+
+-- the window's words, by the number of the round
+pub word-in-place : WordInPlace
+word-in-place b t =
+    let few : t % 16 < 16 = omega arith in
+    let e : t / 16 * 16 + t % 16 ≡ t = omega arith in
+    window-at (W b) (t / 16 * 16) (t % 16) few ∙ ap (W b) e
+
+pub round-by-window : RoundByWindow
+unfolding rounds
+round-by-window h b t = ap (λ (w : ℕ). round t w (rounds h b t)) (sym (word-in-place b t))

@@ -1,7 +1,7 @@
 // SHA-1's compression (FIPS 180-4): the hash value after the whole blocks of a message.
 ghost use mathlib.Core.Path.{_≡_};
 ghost use mathlib.Core.List.{List};
-ghost use Prim.Native.Nat.{ℕ, _+_, _*_, _/_, _<_, _≤_};
+ghost use Prim.Native.Nat.{ℕ, _+_, _-_, _*_, _/_, _<_, _≤_};
 ghost use lib.ListN.{getD, length, set};
 ghost use Rattle.fips180.specs.Words.{word};
 ghost use Rattle.fips180.specs.Sha1 as Sha1;
@@ -82,6 +82,15 @@ fn refill(w: &mut [u32; 16])
     put_next(w, 12, 7, 1, 15);
 }
 
+// The words of a group of sixteen rounds, of which a block has five: at first the block's own, then the next sixteen of the schedule.
+fn group_words(w: &mut [u32; 16], g: u32)
+    ensures { λ _. ⌜ ((b : List ℕ) → now (w .entry) ≡ window (Sha1.W b) (g * 16 - 16) → now (w .exit) ≡ window (Sha1.W b) (g * 16)) ⌝ }
+{
+    if 0 < g {
+        refill(w);
+    }
+}
+
 // The hash value and the working variables, word by word.
 fn sum(h: [u32; 5], s: [u32; 5]) -> [u32; 5]
     ensures { λ r. ⌜ r ≡ Sha1.sums h s ⌝ }
@@ -102,17 +111,18 @@ fn compress(h: [u32; 5], b: &[u8]) -> [u32; 5]
 {
     let mut w = load(b);
     let s0 = kept(h);
+    group_words(&mut w, 0);
     let s16 = rounds_0_to_15(s0, &w);
-    refill(&mut w);
+    group_words(&mut w, 1);
     let s20 = rounds_16_to_19(s16, &w);
     let s32 = rounds_20_to_31(s20, &w);
-    refill(&mut w);
+    group_words(&mut w, 2);
     let s40 = rounds_32_to_39(s32, &w);
     let s48 = rounds_40_to_47(s40, &w);
-    refill(&mut w);
+    group_words(&mut w, 3);
     let s60 = rounds_48_to_59(s48, &w);
     let s64 = rounds_60_to_63(s60, &w);
-    refill(&mut w);
+    group_words(&mut w, 4);
     let s80 = rounds_64_to_79(s64, &w);
     sum(h, variables_of(s80))
 }

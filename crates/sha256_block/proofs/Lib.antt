@@ -1,2 +1,2 @@
-pub mod Schedule
-mod Rounds
+mod Schedule
+pub mod Rounds

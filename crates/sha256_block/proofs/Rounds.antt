@@ -1,15 +1,17 @@
 -- Sixteen rounds at a time: the rounds of a group, and the four groups of a block.
 -- Assumes nothing.
 use mathlib.Core.Path.{_≡_, refl, sym, ap, _∙_}
-use mathlib.Core.List.{List, [], _∷_}
-use Prim.Native.Nat.{ℕ, zero, suc, _+_, _-_, _*_, _%_, _<_, _≤_}
-use native.Mathlib.Nat.{add-zero, zero-add, add-suc, suc-add, le-of-suc-le-suc, not-suc-le-zero}
+use mathlib.Core.List.{List}
+use Prim.Native.Nat.{ℕ, zero, suc, _+_, _-_, _*_, _/_, _%_, _<_, _≤_}
+use native.Mathlib.Nat.{add-zero, add-suc}
 use native.Mathlib.Omega.{arith}
 use lib.ListN.{length, getD, set}
 use Rattle.tables.proofs.Filled.{filled-of}
+use Rattle.fips180.proofs.Window.{window-at}
 use Rattle.fips180.specs.Sha256.{K, W, round, rounds, sums, compress}
 use Rattle.sha256_rounds.specs.Rounds.{runs}
 use Rattle.sha256_block.specs.Internal.{window, ConstantsFrom}
+use Rattle.sha256_block.specs.Statements.{WordInPlace, RoundByWindow}
 
 -- a turn of the loop that looks up the constants of a group: the one at j is stored
 module _ (g j : ℕ) (k : List ℕ) (x : ℕ) (lt : j < 16) (few : g < 4) (len : length k ≡ 16) where
@@ -20,28 +22,13 @@ module _ (g j : ℕ) (k : List ℕ) (x : ℕ) (lt : j < 16) (few : g < 4) (len :
   put-constant before e =
       filled-of (λ (i y : ℕ). y ≡ getD K (g * 16 + i) 0) k j x 0 16 lt len (e ∙ ap (λ (m : ℕ). getD K m 0) round-number) before
 
--- m values of f, from f i on, and the one at place n
-listed : (ℕ → ℕ) → ℕ → ℕ → List ℕ
-listed f i zero = []
-listed f i (suc m) = f i ∷ listed f (suc i) m
-
-listed-at : (f : ℕ → ℕ) (m i n : ℕ) → n < m → getD (listed f i m) n 0 ≡ f (i + n)
-unfolding listed
-listed-at f zero i n h = absurd (not-suc-le-zero h)
-listed-at f (suc m) i zero h = ap f (sym (add-zero i))
-listed-at f (suc m) i (suc n) h = listed-at f m (suc i) n (le-of-suc-le-suc h) ∙ ap f (suc-add i n ∙ sym (add-suc i n))
-
-window-at : (b : List ℕ) (t n : ℕ) → n < 16 → getD (window b t) n 0 ≡ W b (t + n)
-unfolding window listed
-window-at b t n h = listed-at (λ (i : ℕ). W b (t + i)) 16 0 n h ∙ ap (λ (i : ℕ). W b (t + i)) (zero-add n)
-
 -- sixteen rounds from round t on, from the state and the words that they find
 module _ (h b k : List ℕ) (t : ℕ) (constants : ConstantsFrom t 16 k) where
   first : (n : ℕ) → n ≤ 16 → runs k (window b t) (rounds h b t) n ≡ rounds h b (t + n)
   unfolding runs rounds
   first zero le = ap (rounds h b) (sym (add-zero t))
   first (suc n) le =
-      (λ i. round (constants n le i) (window-at b t n le i) (first n (omega (arith, le)) i)) ∙ ap (rounds h b) (sym (add-suc t n))
+      (λ i. round (constants n le i) (window-at (W b) t n le i) (first n (omega (arith, le)) i)) ∙ ap (rounds h b) (sym (add-suc t n))
 
 -- a group, and the words that the next one finds
 pub group : (h b : List ℕ) (g : ℕ) (k : List ℕ) {w s r : List ℕ} → ConstantsFrom (g * 16) 16 k
@@ -59,3 +46,14 @@ no-round h b = refl
 pub all-rounds : (h b : List ℕ) {s : List ℕ} → s ≡ rounds h b 64 → sums h s ≡ compress h b
 unfolding compress
 all-rounds h b e = ap (sums h) e
+
+-- the window's words, by the number of the round
+pub word-in-place : WordInPlace
+word-in-place b t =
+    let few : t % 16 < 16 = omega arith in
+    let e : t / 16 * 16 + t % 16 ≡ t = omega arith in
+    window-at (W b) (t / 16 * 16) (t % 16) few ∙ ap (W b) e
+
+pub round-by-window : RoundByWindow
+unfolding rounds
+round-by-window h b t = ap (λ (w : ℕ). round (getD K t 0) w (rounds h b t)) (sym (word-in-place b t))

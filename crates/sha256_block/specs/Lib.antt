@@ -1,2 +1,3 @@
 pub mod Fips180
+pub mod Statements
 pub mod Internal

@@ -14,11 +14,14 @@ load-requires c κs = search needs
 kept-requires : tie.Need-kept-requires
 kept-requires c κs = search needs
 
+group-words-requires : tie.Need-group-words-requires
+group-words-requires c κs = search needs
+
 rounds-0-to-15-requires : tie.Need-rounds-0-to-15-requires
 rounds-0-to-15-requires c κs = search needs
 
-refill-requires : tie.Need-refill-requires
-refill-requires c κs = search needs
+group-words-requires-2 : tie.Need-group-words-requires-2
+group-words-requires-2 c κs = search needs
 
 rounds-16-to-19-requires : tie.Need-rounds-16-to-19-requires
 rounds-16-to-19-requires c κs = search needs
@@ -26,8 +29,8 @@ rounds-16-to-19-requires c κs = search needs
 rounds-20-to-31-requires : tie.Need-rounds-20-to-31-requires
 rounds-20-to-31-requires c κs = search needs
 
-refill-requires-2 : tie.Need-refill-requires-2
-refill-requires-2 c κs = search needs
+group-words-requires-3 : tie.Need-group-words-requires-3
+group-words-requires-3 c κs = search needs
 
 rounds-32-to-39-requires : tie.Need-rounds-32-to-39-requires
 rounds-32-to-39-requires c κs = search needs
@@ -35,8 +38,8 @@ rounds-32-to-39-requires c κs = search needs
 rounds-40-to-47-requires : tie.Need-rounds-40-to-47-requires
 rounds-40-to-47-requires c κs = search needs
 
-refill-requires-3 : tie.Need-refill-requires-3
-refill-requires-3 c κs = search needs
+group-words-requires-4 : tie.Need-group-words-requires-4
+group-words-requires-4 c κs = search needs
 
 rounds-48-to-59-requires : tie.Need-rounds-48-to-59-requires
 rounds-48-to-59-requires c κs = search needs
@@ -44,8 +47,8 @@ rounds-48-to-59-requires c κs = search needs
 rounds-60-to-63-requires : tie.Need-rounds-60-to-63-requires
 rounds-60-to-63-requires c κs = search needs
 
-refill-requires-4 : tie.Need-refill-requires-4
-refill-requires-4 c κs = search needs
+group-words-requires-5 : tie.Need-group-words-requires-5
+group-words-requires-5 c κs = search needs
 
 rounds-64-to-79-requires : tie.Need-rounds-64-to-79-requires
 rounds-64-to-79-requires c κs = search needs
@@ -70,15 +73,16 @@ returns c =
     let c20 = c32 .before .before in
     let r16 = c20 .before .before in
     let c16 = r16 .before .before in
-    let c0 = c16 .before .before in
+    let r0 = c16 .before .before in
+    let c0 = r0 .before .before in
     let a = c0 .before .before .before .args in
     let h = a .h in
     let b = now (a .b) in
-    let w0 = c0 .before .load .ensures in
-    let w16 = r16 .refill .ensures b 0 w0 in
-    let w32 = r32 .refill2 .ensures b 16 w16 in
-    let w48 = r48 .refill3 .ensures b 32 w32 in
-    let w64 = r64 .refill4 .ensures b 48 w48 in
+    let w0 = r0 .group-words .ensures b (c0 .before .load .ensures) in
+    let w16 = r16 .group-words2 .ensures b w0 in
+    let w32 = r32 .group-words3 .ensures b w16 in
+    let w48 = r48 .group-words4 .ensures b w32 in
+    let w64 = r64 .group-words5 .ensures b w48 in
     let s0 = no-round h b (c0 .kept .ensures) in
     let s16 = by-ch h b 0 0 0 16 w0 s0 refl (lit≤ tt) (lit≤ tt) (c16 .rounds-0-to-15 .ensures) in
     let s20 = by-ch h b 16 16 0 4 w16 s16 refl (lit≤ tt) (lit≤ tt) (c20 .rounds-16-to-19 .ensures) in
@@ -96,17 +100,18 @@ compress-spec =
     (tie.spec
     load-requires
     kept-requires
+    group-words-requires
     rounds-0-to-15-requires
-    refill-requires
+    group-words-requires-2
     rounds-16-to-19-requires
     rounds-20-to-31-requires
-    refill-requires-2
+    group-words-requires-3
     rounds-32-to-39-requires
     rounds-40-to-47-requires
-    refill-requires-3
+    group-words-requires-4
     rounds-48-to-59-requires
     rounds-60-to-63-requires
-    refill-requires-4
+    group-words-requires-5
     rounds-64-to-79-requires
     variables-of-requires
     sum-requires

@@ -1,9 +1,12 @@
--- `sha256_block::load` meets its contract: each word of the block is the schedule's (proofs/Schedule.antt, `loaded`).
+-- `sha256_block::load` meets its contract: each word of the block is the schedule's (`loaded` of fips180).
 -- Assumes nothing.
 use native.Mathlib.Nat.{le-trans}
 use lib.Dec.{lit≤}
 use denote.Ref.{now}
-use Rattle.sha256_block.proofs.Schedule.{loaded}
+use Rattle.fips180.specs.Words.{word}
+use Rattle.fips180.specs.Sha256.{W}
+use Rattle.fips180.proofs.Sha256Schedule.{early}
+use Rattle.fips180.proofs.Window.{loaded}
 use Rattle.sha256_block.proofs.load.Statement.{statement}
 use Rattle.sha256_block.proofs.load.Tie as tie
 
@@ -56,7 +59,9 @@ word-requires-16 : tie.Need-word-requires-16
 word-requires-16 c κs = le-trans (lit≤ tt) (c .before .before .before .before .before .before .before .before .before .before .before .before .before .before .before .before .pre)
 
 returns : tie.Need-returns
-returns c = loaded (now (c .before .before .before .before .before .before .before .before .before .before .before .before .before .before .before .before .before .args .b)) _ _ _ _ _ _ _ _ _ _ _ _ _ _ _ _ (c .before .before .before .before .before .before .before .before .before .before .before .before .before .before .before .word .ensures) (c .before .before .before .before .before .before .before .before .before .before .before .before .before .before .word2 .ensures) (c .before .before .before .before .before .before .before .before .before .before .before .before .before .word3 .ensures) (c .before .before .before .before .before .before .before .before .before .before .before .before .word4 .ensures) (c .before .before .before .before .before .before .before .before .before .before .before .word5 .ensures) (c .before .before .before .before .before .before .before .before .before .before .word6 .ensures) (c .before .before .before .before .before .before .before .before .before .word7 .ensures) (c .before .before .before .before .before .before .before .before .word8 .ensures) (c .before .before .before .before .before .before .before .word9 .ensures) (c .before .before .before .before .before .before .word10 .ensures) (c .before .before .before .before .before .word11 .ensures) (c .before .before .before .before .word12 .ensures) (c .before .before .before .word13 .ensures) (c .before .before .word14 .ensures) (c .before .word15 .ensures) (c .word16 .ensures)
+returns c =
+    let b = now (c .before .before .before .before .before .before .before .before .before .before .before .before .before .before .before .before .before .args .b) in
+    loaded (W b) (word b) (early b) _ _ _ _ _ _ _ _ _ _ _ _ _ _ _ _ (c .before .before .before .before .before .before .before .before .before .before .before .before .before .before .before .word .ensures) (c .before .before .before .before .before .before .before .before .before .before .before .before .before .before .word2 .ensures) (c .before .before .before .before .before .before .before .before .before .before .before .before .before .word3 .ensures) (c .before .before .before .before .before .before .before .before .before .before .before .before .word4 .ensures) (c .before .before .before .before .before .before .before .before .before .before .before .word5 .ensures) (c .before .before .before .before .before .before .before .before .before .before .word6 .ensures) (c .before .before .before .before .before .before .before .before .before .word7 .ensures) (c .before .before .before .before .before .before .before .before .word8 .ensures) (c .before .before .before .before .before .before .before .word9 .ensures) (c .before .before .before .before .before .before .word10 .ensures) (c .before .before .before .before .before .word11 .ensures) (c .before .before .before .before .word12 .ensures) (c .before .before .before .word13 .ensures) (c .before .before .word14 .ensures) (c .before .word15 .ensures) (c .word16 .ensures)
 
 pub load-spec : {M : Type 1} → statement M
 load-spec =
