@@ -1,2 +1,3 @@
 pub mod Forms
+pub mod Marks
 pub mod Labels
