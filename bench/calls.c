@@ -16,6 +16,20 @@ kv_outcome kv_sha256(const uint8_t *message, size_t message_len, uint8_t *out, s
     return wrote(32);
 }
 
+static int is_label(const uint8_t *label, size_t len, const char *text) { return len == strlen(text) && !memcmp(label, text, len); }
+
+static int label_breaches(const uint8_t *label, size_t len)
+{
+    size_t at_signs = 0, others = 0;
+    for (size_t i = 0; i < len; i++) {
+        at_signs += label[i] == '@';
+        others += label[i] == ' ' || label[i] == ',';
+    }
+    if (!others && at_signs < 2 && (at_signs || len <= 64) && label[0] != '@' && label[len - 1] != '@')
+        return 0;
+    return !is_label(label, len, KV_VRK_LABEL) && !is_label(label, len, KV_V_RRK_LABEL) && !is_label(label, len, KV_RRK_LABEL);
+}
+
 kv_outcome kv_usage_key(const uint8_t *emsk, size_t emsk_len, const uint8_t *label, size_t label_len, const uint8_t *data,
                         size_t data_len, uint64_t n, uint8_t *out, size_t out_len)
 {
@@ -26,6 +40,8 @@ kv_outcome kv_usage_key(const uint8_t *emsk, size_t emsk_len, const uint8_t *lab
     for (size_t i = 0; i < label_len; i++)
         if (label[i] < 32 || label[i] > 126)
             return (kv_outcome){KV_LABEL_BYTE, i};
+    if (label_breaches(label, label_len))
+        return refused(KV_LABEL_SYNTAX);
     if (label_len == 13 && !memcmp(label, KV_DSRK_LABEL, 13))
         return refused(KV_DOMAIN_LABEL);
     if (data_len > 2048)

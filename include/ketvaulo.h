@@ -105,7 +105,8 @@
 #define KV_DIGEST_LEN 32          /* what kv_sha256 and kv_hmac_sha256 write */
 #define KV_ROOT_KEY_MIN 64        /* an EMSK, VRK or VMSK that is lent */
 #define KV_ROOT_KEY_MAX 128
-#define KV_LABEL_MAX 255
+#define KV_LABEL_MAX 255          /* with an at-sign */
+#define KV_LABEL_PLAIN_MAX 64     /* without one */
 #define KV_DATA_MAX 2048          /* the optional data of a usage key */
 #define KV_USAGE_KEY_MAX 8160     /* the longest usage key */
 #define KV_VISITED_KEY_LEN 64     /* a VRK, VMSK or V-rRK that is written */
@@ -242,8 +243,13 @@ KV_USE_RESULT kv_outcome kv_hmac_sha256(const uint8_t *key, size_t key_len, cons
  * one zero byte, the data, and n as two bytes, high byte first. n counts bytes. No data is data of length 0. Requests
  * under one EMSK that differ in label, data or n never give the same bytes to HMAC. Writes n bytes and returns n.
  * Refusals, in this order: 1 EMSK not 64 to 128 bytes; 2 label not 1 to 255 bytes; 3 a label byte outside 32 to 126, with
- * the position of the first such byte, counted from 0, as `value`; 31 the label is KV_DSRK_LABEL, for which
- * kv_domain_root_key is the call; 4 data over 2,048 bytes; 5 n not 1 to 8,160; 6 `out` has fewer than n bytes. */
+ * the position of the first such byte, counted from 0, as `value`; 32 the label breaches the syntax of a label (below); 31
+ * the label is KV_DSRK_LABEL, for which kv_domain_root_key is the call; 4 data over 2,048 bytes; 5 n not 1 to 8,160; 6 `out`
+ * has fewer than n bytes.
+ *
+ * The syntax of a label, here and in kv_key_name: no space and no comma; at most one at-sign, which stands neither first nor
+ * last; and at most 64 bytes where there is no at-sign. With one it may have up to 255. Exempt are KV_VRK_LABEL, KV_V_RRK_LABEL
+ * and KV_RRK_LABEL as whole labels. */
 KV_USE_RESULT kv_outcome kv_usage_key(const uint8_t *emsk, size_t emsk_len, const uint8_t *label, size_t label_len,
                                       const uint8_t *data, size_t data_len, uint64_t n, uint8_t *out, size_t out_len);
 
@@ -290,7 +296,8 @@ KV_USE_RESULT kv_outcome kv_domain_reauth_key(const uint8_t *dsrk, size_t dsrk_l
  * KV_VRK_LABEL, and that of a VMSK's name is its server ID and then its domain; the draft names no V-rRK. Writes 8 bytes and
  * returns 8.
  * Refusals, in this order: 9 Session-ID not 1 to 255 bytes; 2 label not 1 to 255 bytes; 3 a label byte outside 32 to 126,
- * with the position of the first such byte, counted from 0, as `value`; 6 `out` has fewer than 8 bytes. */
+ * with the position of the first such byte, counted from 0, as `value`; 32 the label breaches the syntax of a label, as for
+ * kv_usage_key; 6 `out` has fewer than 8 bytes. */
 KV_USE_RESULT kv_outcome kv_key_name(const uint8_t *session_id, size_t session_id_len, const uint8_t *label,
                                      size_t label_len, uint8_t *out, size_t out_len);
 

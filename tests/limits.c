@@ -47,6 +47,9 @@ int main(void)
 
     GIVES(kv_sha256(bytes, 1, out, KV_DIGEST_LEN), KV_DIGEST_LEN);
     IS(kv_sha256(bytes, 1, out, KV_DIGEST_LEN - 1), KV_ROOM);
+    IS(usage(KV_ROOT_KEY_MIN, KV_LABEL_PLAIN_MAX, KV_DATA_MAX, KV_USAGE_KEY_MAX), KV_ACCEPTED);
+    IS(usage(KV_ROOT_KEY_MIN, KV_LABEL_PLAIN_MAX + 1, 0, 1), KV_LABEL_SYNTAX);
+    bytes[1] = '@';
     IS(usage(KV_ROOT_KEY_MIN, KV_LABEL_MAX, KV_DATA_MAX, KV_USAGE_KEY_MAX), KV_ACCEPTED);
     IS(usage(KV_ROOT_KEY_MAX, 1, 0, 1), KV_ACCEPTED);
     IS(usage(KV_ROOT_KEY_MIN - 1, 1, 0, 1), KV_ROOT_KEY_LENGTH);
@@ -54,6 +57,7 @@ int main(void)
     IS(usage(KV_ROOT_KEY_MIN, KV_LABEL_MAX + 1, 0, 1), KV_LABEL_LENGTH);
     IS(usage(KV_ROOT_KEY_MIN, 1, KV_DATA_MAX + 1, 1), KV_DATA_LENGTH);
     IS(usage(KV_ROOT_KEY_MIN, 1, 0, KV_USAGE_KEY_MAX + 1), KV_KEY_LENGTH);
+    bytes[1] = 'a';
     GIVES(kv_visited_root_key(bytes, KV_ROOT_KEY_MIN, out, KV_VISITED_KEY_LEN), KV_VISITED_KEY_LEN);
     IS(master(KV_SERVER_ID_MAX, KV_DOMAIN_MAX), KV_ACCEPTED);
     IS(master(KV_SERVER_ID_MAX + 1, 1), KV_SERVER_ID);

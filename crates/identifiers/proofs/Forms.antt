@@ -10,7 +10,7 @@ use Rattle.charset.specs.Bytes.{every, scanFrom, firstBad}
 use Rattle.charset.specs.declared.Scan.{Scan}
 use Rattle.charset.specs.declared.Scan.the-variants.{BadAt}
 use Rattle.identifiers.specs.Internal.{scanForm, formOf, isWellFormed}
-use Rattle.identifiers.specs.declared.Form.the-variants.{WrongLength}
+use Rattle.identifiers.specs.declared.Form.the-variants.{WellFormed, WrongLength}
 
 pub scan-every : (p : ℕ → Bool) (i : ℕ) (s : List ℕ) → isWellFormed (scanForm (scanFrom p i s)) ≡ every p s
 unfolding scanFrom every
@@ -38,3 +38,12 @@ wrong-length p longest s h = rw h
 pub scanned-form : (p : ℕ → Bool) (longest : ℕ) (s : List ℕ) {f : Scan} → within 1 longest (length s) ≡ true → f ≡ firstBad p s → scanForm f ≡ formOf p longest s
 unfolding formOf
 scanned-form p longest s h e = rw (h, e)
+
+-- a well-formed text has a length in range
+pub form-length : (p : ℕ → Bool) (longest : ℕ) (s : List ℕ) → WellFormed ≡ formOf p longest s → within 1 longest (length s) ≡ true
+unfolding formOf
+form-length p longest s e = go (within 1 longest (length s)) (firstBad p s) e
+  where
+    go : (t : Bool) (f : Scan) → WellFormed ≡ cond t (scanForm f) WrongLength → t ≡ true
+    go true f e = refl
+    go false f e = cc

@@ -1,12 +1,12 @@
 -- What a label's form says of its tests by number, and what a label that passes them keeps to.
 -- Assumes nothing.
 use Prim.Native.Nat.{ℕ, _≤_}
-use mathlib.Core.Path.{_≡_, refl, sym, _∙_}
-use mathlib.Core.Bool.{Bool, true, false, cond, not}
+use mathlib.Core.Path.{_≡_, refl, sym, ap, _∙_}
+use mathlib.Core.Bool.{Bool, true, false, cond, not, _||_}
 use mathlib.Core.List.{List}
 use native.Mathlib.Omega.{arith}
 use lib.ListN.{length}
-use Rattle.refusal.specs.Checks.{pass, refuse, bare, located, unless, _andThen_, within}
+use Rattle.refusal.specs.Checks.{Check, pass, refuse, bare, located, unless, _andThen_, within}
 use Rattle.refusal.proofs.Passing.{before-passed, last-passed, test-passed, test-holds, within-low, within-high}
 use Rattle.slices.specs.Same.{sameList}
 use Rattle.slices.proofs.Same.{same-exactly}
@@ -15,25 +15,47 @@ use Rattle.charset.specs.declared.Scan.{Scan}
 use Rattle.charset.specs.declared.Scan.the-variants.{Clean, BadAt}
 use Rattle.charset.proofs.Places.{first-place}
 use Rattle.identifiers.specs.FixedLabels.{vrkLabel, visitedReauthLabel, dsrkLabel, rrkLabel}
-use Rattle.identifiers.specs.Checks.{scanned3, labelCheck, check31}
+use Rattle.identifiers.specs.Syntax.{count, breaches, exempt}
+use Rattle.identifiers.specs.Checks.{scanned3, labelCheck, check31, check32}
 use Rattle.identifiers.specs.Statements.{LabelPlace, FixedLabelsPass, DomainLabelAlone}
 use Rattle.identifiers.specs.Internal.{scanForm, formOf, isWellFormed, formCheck}
-use Rattle.identifiers.specs.declared.Form.the-variants.{WrongLength}
+use Rattle.identifiers.specs.declared.Form.{Form}
+use Rattle.identifiers.specs.declared.Form.the-variants.{WellFormed, WrongLength, BadByte}
 use Rattle.identifiers.proofs.Forms.{scan-every}
 
--- each form of a label is refused with its number
-pub label-form : (label : List ℕ) → formCheck (formOf labelByte 255 label) ≡ labelCheck label
+-- each form of a label is refused with its number, and a well-formed label is left to 32
+pub label-form : (label : List ℕ) → (formCheck (formOf labelByte 255 label) andThen check32 label) ≡ labelCheck label
 unfolding formOf labelCheck unless _andThen_
 label-form label = go (within 1 255 (length label)) (firstBad labelByte label)
   where
-    go : (t : Bool) (f : Scan) → formCheck (cond t (scanForm f) WrongLength) ≡ (unless t (bare 2) andThen scanned3 f)
+    go : (t : Bool) (f : Scan) → (formCheck (cond t (scanForm f) WrongLength) andThen check32 label) ≡ (unless t (bare 2) andThen scanned3 f andThen check32 label)
     go true Clean = refl
     go true (BadAt i) = refl
     go false f = refl
 
+-- what a label's tests come to, by its form
+module _ (label : List ℕ) where
+  pub left-to-syntax : {c : Check} → WellFormed ≡ formOf labelByte 255 label → c ≡ check32 label → c ≡ labelCheck label
+  unfolding _andThen_
+  left-to-syntax e h = h ∙ ap (λ (f : Form). formCheck f andThen check32 label) e ∙ label-form label
+
+  pub length-refused : WrongLength ≡ formOf labelByte 255 label → refuse (bare 2) ≡ labelCheck label
+  unfolding _andThen_
+  length-refused e = ap (λ (f : Form). formCheck f andThen check32 label) e ∙ label-form label
+
+  pub byte-refused : {i : ℕ} → BadByte i ≡ formOf labelByte 255 label → refuse (located 3 i) ≡ labelCheck label
+  unfolding _andThen_
+  byte-refused e = ap (λ (f : Form). formCheck f andThen check32 label) e ∙ label-form label
+
+-- 32 is not 3
+by-syntax : (i : ℕ) (t : Bool) {f : Scan} → unless t (bare 32) ≡ refuse (located 3 i) → f ≡ BadAt i
+unfolding unless
+by-syntax i true e = cc
+by-syntax i false e = cc
+
 -- 3 is given at place i exactly when the length holds and the first bad byte is at i
 pub label-place : LabelPlace
-unfolding labelCheck unless _andThen_
+unfolding labelCheck check32 unless _andThen_
 label-place label i = (
   λ e.
       let h = told (within 1 255 (length label)) (firstBad labelByte label) e in
@@ -42,13 +64,13 @@ label-place label i = (
   λ h. let scan = first-place labelByte label i .1 (h .1, h .2, h .3) in rw (h .0, scan),
 )
   where
-    told : (t : Bool) (f : Scan) → (unless t (bare 2) andThen scanned3 f) ≡ refuse (located 3 i) → (t ≡ true) × (f ≡ BadAt i)
-    told true Clean e = (refl, cc)
+    told : (t : Bool) (f : Scan) → (unless t (bare 2) andThen scanned3 f andThen check32 label) ≡ refuse (located 3 i) → (t ≡ true) × (f ≡ BadAt i)
+    told true Clean e = (refl, by-syntax i (not (breaches label) || exempt label) e)
     told true (BadAt k) e = (refl, cc)
     told false f e = (cc, cc)
 
 pub fixed-labels-pass : FixedLabelsPass
-unfolding labelCheck unless within _andThen_ scanFrom labelByte vrkLabel visitedReauthLabel dsrkLabel rrkLabel
+unfolding labelCheck check32 breaches count exempt sameList unless within _andThen_ scanFrom labelByte vrkLabel visitedReauthLabel dsrkLabel rrkLabel
 fixed-labels-pass = (refl, refl, refl, refl)
 
 pub domain-label-alone : DomainLabelAlone
@@ -79,5 +101,6 @@ pub record GoodLabel (label : List ℕ) : Type 0 where
 pub good-label : (label : List ℕ) → labelCheck label ≡ pass → GoodLabel label
 unfolding labelCheck
 good-label label a =
-    let t = test-passed _ _ (before-passed _ _ a) in
-    record { low = within-low _ _ _ t; high = within-high _ _ _ t; bytes = sym (scan-every labelByte 0 label) ∙ scan-passed (firstBad labelByte label) (last-passed _ _ a) }
+    let b = before-passed _ _ a in
+    let t = test-passed _ _ (before-passed _ _ b) in
+    record { low = within-low _ _ _ t; high = within-high _ _ _ t; bytes = sym (scan-every labelByte 0 label) ∙ scan-passed (firstBad labelByte label) (last-passed _ _ b) }

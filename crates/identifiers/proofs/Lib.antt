@@ -1,2 +1,4 @@
 pub mod Forms
+pub mod Marks
+pub mod Breaches
 pub mod Labels

@@ -1,7 +1,7 @@
--- The tests of labels, server IDs and domains: document 01's numbers 2, 3, 7 and 8 ("Refusal numbers"), and document 02's 31.
+-- The tests of labels, server IDs and domains: document 01's numbers 2, 3, 7 and 8 ("Refusal numbers"), and document 02's 31 and 32.
 -- Assumes nothing.
 use Prim.Native.Nat.{ℕ}
-use mathlib.Core.Bool.{_&&_, not}
+use mathlib.Core.Bool.{_&&_, _||_, not}
 use mathlib.Core.List.{List}
 use lib.ListN.{length}
 use Rattle.refusal.specs.Checks.{Check, pass, refuse, bare, located, unless, within, _andThen_}
@@ -10,6 +10,7 @@ use Rattle.slices.specs.Same.{sameList}
 use Rattle.charset.specs.declared.Scan.{Scan}
 use Rattle.charset.specs.declared.Scan.the-variants.{Clean, BadAt}
 use Rattle.identifiers.specs.FixedLabels.{dsrkLabel}
+use Rattle.identifiers.specs.Syntax.{breaches, exempt}
 
 -- 2: label not 1 to 255 bytes
 abbrev pub check2 : List ℕ → Check
@@ -23,9 +24,13 @@ scanned3 (BadAt i) = refuse (located 3 i)
 abbrev pub check3 : List ℕ → Check
 check3 label = scanned3 (firstBad labelByte label)
 
--- the tests of a label, for usage keys and for names
+-- 32: a label that breaches the syntax of a label and is not exempt (document 02, request 7)
+unfoldable pub check32 : List ℕ → Check
+check32 label = unless (not (breaches label) || exempt label) (bare 32)
+
+-- the tests of a label, for usage keys and for names: 2, 3, 32
 unfoldable pub labelCheck : List ℕ → Check
-labelCheck label = check2 label andThen check3 label
+labelCheck label = check2 label andThen check3 label andThen check32 label
 
 -- 31: a usage request under the EMSK with the domain label (document 02, request 6)
 unfoldable pub check31 : List ℕ → Check

@@ -1,9 +1,11 @@
 -- What only the contracts of private functions need. Nothing here has to be believed.
 -- The form of a text, which says what is wrong with it first; the number that it is refused with is said by specs/Checks.antt.
 -- Assumes nothing.
-use Prim.Native.Nat.{ℕ}
-use mathlib.Core.Bool.{Bool, true, false, cond}
-use mathlib.Core.List.{List}
+use Prim.Native.Nat.{ℕ, _+_}
+use Prim.Native.Char.{code}
+use mathlib.Core.Bool.{Bool, true, false, cond, _||_}
+use mathlib.Core.List.{List, [], _∷_}
+use lib.Dec.{eqb}
 use lib.ListN.{length}
 use Rattle.refusal.specs.Checks.{Check, pass, refuse, bare, located, within}
 use Rattle.charset.specs.Bytes.{firstBad}
@@ -26,7 +28,16 @@ isWellFormed WellFormed = true
 isWellFormed WrongLength = false
 isWellFormed (BadByte i) = false
 
--- the test of a label by its form: 2, 3
+-- what a byte counts for the syntax of a label: an at-sign 1, a space and a comma 2 each. So a label whose marks are 2 or more has a space, a
+-- comma or a second at-sign, and of one whose marks are fewer they are its at-signs
+abbrev pub mark : ℕ → ℕ
+mark b = cond (eqb b (code "@")) 1 (cond (eqb b (code " ") || eqb b (code ",")) 2 0)
+
+unfoldable pub marks : List ℕ → ℕ
+marks [] = 0
+marks (x ∷ s) = mark x + marks s
+
+-- the tests of a label by its form, before 32: 2, 3
 abbrev pub formCheck : Form → Check
 formCheck WellFormed = pass
 formCheck WrongLength = refuse (bare 2)

@@ -1,4 +1,5 @@
 pub mod FixedLabels
+pub mod Syntax
 pub mod Checks
 pub mod Internal
 pub mod Statements

@@ -1,6 +1,7 @@
--- What is proved of a label's tests (document 02, requests 1 and 6). The proofs are in proofs/Labels.antt.
+-- What is proved of a label's tests (document 02, requests 1, 6 and 7). The proofs are in proofs/Labels.antt and proofs/Breaches.antt.
 -- Assumes nothing.
-use Prim.Native.Nat.{ℕ, _<_}
+use Prim.Native.Nat.{ℕ, _-_, _<_}
+use Prim.Native.Char.{code}
 use mathlib.Core.Path.{_≡_}
 use mathlib.Core.Bool.{true, false}
 use mathlib.Core.Logic.{_↔_}
@@ -9,6 +10,7 @@ use lib.ListN.{length, getD}
 use Rattle.refusal.specs.Checks.{pass, refuse, located, within}
 use Rattle.charset.specs.Bytes.{labelByte}
 use Rattle.identifiers.specs.FixedLabels.{vrkLabel, visitedReauthLabel, dsrkLabel, rrkLabel}
+use Rattle.identifiers.specs.Syntax.{breaches}
 use Rattle.identifiers.specs.Checks.{labelCheck, check31}
 
 -- A label is refused with 3 at place i exactly when its length is 1 to 255 and i, counted from 0, is the position of its first bad byte
@@ -25,3 +27,22 @@ FixedLabelsPass = (labelCheck vrkLabel ≡ pass) × (labelCheck visitedReauthLab
 -- 31 is given for the domain label, and for no other
 abbrev pub DomainLabelAlone : Type 0
 DomainLabelAlone = (label : List ℕ) → (check31 label ≡ pass) ↔ (label ≡ dsrkLabel → ⊥)
+
+-- A byte stands in a text: at some position; twice: at two
+abbrev pub Has : ℕ → List ℕ → Type 0
+Has b s = (i : ℕ) × (i < length s) × (getD s i 0 ≡ b)
+
+abbrev pub Twice : ℕ → List ℕ → Type 0
+Twice b s = (i : ℕ) × (j : ℕ) × (i < j) × (j < length s) × (getD s i 0 ≡ b) × (getD s j 0 ≡ b)
+
+-- The breaches of request 7, one by one. The test finds exactly these
+pub data Breach (label : List ℕ) : Type 0 where
+  space : Has (code " ") label → Breach label
+  comma : Has (code ",") label → Breach label
+  long-without-at : 64 < length label → (Has (code "@") label → ⊥) → Breach label
+  second-at : Twice (code "@") label → Breach label
+  at-first : getD label 0 0 ≡ code "@" → Breach label
+  at-last : getD label (length label - 1) 0 ≡ code "@" → Breach label
+
+abbrev pub BreachesExactly : Type 0
+BreachesExactly = (label : List ℕ) → (breaches label ≡ true) ↔ Breach label

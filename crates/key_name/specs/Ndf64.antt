@@ -12,7 +12,7 @@ use Rattle.sha256_block.specs.Fips180.{sha256}
 abbrev pub check9 : List ℕ → Check
 check9 session = unless (within 1 255 (length session)) (bare 9)
 
--- the order of the tests: 9, 2, 3, 6 (`labelCheck` is 2, 3)
+-- the order of the tests: 9, 2, 3, 32, 6 (`labelCheck` is 2, 3, 32)
 unfoldable pub nameCheck : List ℕ → List ℕ → ℕ → Check
 nameCheck session label room = check9 session andThen labelCheck label andThen check6 8 room
 

@@ -14,7 +14,7 @@ use refusal::Written;
 // The number of bytes in a name.
 const NAME: usize = 8;
 
-// The tests of a name that come before that of the room: 9, 2, 3.
+// The tests of a name that come before that of the room: 9, 2, 3, 32.
 fn check_inputs(session: &[u8], label: &[u8]) -> Checked
     ensures { λ r. ⌜ checkedAs r ≡ (check9 (now (session .entry)) andThen labelCheck (now (label .entry))) ⌝ }
 {
@@ -23,7 +23,7 @@ fn check_inputs(session: &[u8], label: &[u8]) -> Checked
     refusal::then_check(id, text)
 }
 
-// Writes the name of a Session-ID and a label: 8 bytes at the start of out. Nothing is hashed if 9, 2 or 3 refuses.
+// Writes the name of a Session-ID and a label: 8 bytes at the start of out. Nothing is hashed if 9, 2, 3 or 32 refuses.
 pub fn key_name(session: &[u8], label: &[u8], out: &mut [u8]) -> Written
     ensures answer { λ r. ⌜ answerOf r ≡ answerTo (nameCheck (now (session .entry)) (now (label .entry)) (length (now (out .entry)))) 8 ⌝ }
     ensures buffer { λ _. ⌜ now (out .exit) ≡ bufferAfter (nameCheck (now (session .entry)) (now (label .entry)) (length (now (out .entry)))) 8 (nameOf (now (session .entry)) (now (label .entry))) (now (out .entry)) ⌝ }

@@ -4,12 +4,14 @@ use Prim.Native.Nat.{ℕ, zero, suc}
 use mathlib.Core.Path.{_≡_, refl}
 use mathlib.Core.List.{List}
 use native.Mathlib.Nat.{not-suc-le-zero}
-use Rattle.refusal.specs.Checks.{unless, _andThen_, within}
+use Rattle.refusal.specs.Checks.{pass, unless, _andThen_, within}
 use Rattle.refusal.proofs.Passing.{then-pass}
 use Rattle.slices.specs.Same.{sameList}
 use Rattle.charset.specs.Bytes.{every, scanFrom, labelByte, domainByte}
-use Rattle.identifiers.specs.FixedLabels.{vrkLabel, dsrkLabel}
-use Rattle.identifiers.specs.Checks.{labelCheck, check31, check8}
+use Rattle.identifiers.specs.FixedLabels.{vrkLabel, visitedReauthLabel, dsrkLabel, rrkLabel}
+use Rattle.identifiers.specs.Syntax.{count, breaches, exempt}
+use Rattle.identifiers.specs.Checks.{labelCheck, check31, check32, check8}
+use Rattle.identifiers.proofs.Labels.{fixed-labels-pass}
 use Rattle.hmac.specs.Rfc2104.{hmacSha256}
 use Rattle.hmac.proofs.Laws.{hmacSha256-length}
 use Rattle.prf_plus.specs.PrfPlus.{block, prfPlus}
@@ -33,11 +35,15 @@ key-of-blocks emsk r = (
   λ a. count-le (lengthOf r) (sound emsk r a .high),
 )
 
+vrk-not-domain : check31 vrkLabel ≡ pass
+unfolding check31 vrkLabel dsrkLabel sameList unless
+vrk-not-domain = refl
+
 -- a VRK's label, data and length pass the tests of a usage request
 pub vrk-is-usage : VrkIsUsage
-unfolding checkOf labelCheck check31 vrkLabel dsrkLabel sameList unless within scanFrom labelByte textOf inputOf keyOf
-vrk-is-usage emsk room = (simp then-pass, refl, refl, λ i. refl)
+unfolding checkOf unless within textOf inputOf keyOf
+vrk-is-usage emsk room = (simp (fixed-labels-pass .0, vrk-not-domain, then-pass), refl, refl, λ i. refl)
 
 pub some-accepted : SomeAccepted
-unfolding checkOf labelCheck check31 check8 dsrkLabel sameList _andThen_ unless within scanFrom labelByte every domainByte
-some-accepted = (refl, refl, refl, refl, refl, refl, refl)
+unfolding checkOf labelCheck check31 check32 breaches count exempt check8 vrkLabel visitedReauthLabel rrkLabel dsrkLabel sameList _andThen_ unless within scanFrom labelByte every domainByte
+some-accepted = (refl, refl, refl, refl, refl, refl, refl, refl)

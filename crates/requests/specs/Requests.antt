@@ -38,7 +38,8 @@ lengthOf (forUsage label extra n room) = n
 lengthOf (forVrk room) = 64
 lengthOf (forDomain domain room) = 64
 
--- the order of its tests: 1, 2, 3, 31, 4, 5, 6 for a usage key (`labelCheck` is 2, 3); 1, 6 for a VRK; 1, 8, 6 for a domain root key
+-- the order of its tests: 1, 2, 3, 32, 31, 4, 5, 6 for a usage key (`labelCheck` is 2, 3, 32); 1, 6 for a VRK; 1, 8, 6 for a domain root
+-- key
 unfoldable pub checkOf : List ℕ → Request → Check
 checkOf emsk (forUsage label extra n room) = check1 emsk andThen labelCheck label andThen check31 label andThen check4 extra andThen check5 n andThen check6 n room
 checkOf emsk (forVrk room) = check1 emsk andThen check6 64 room

@@ -75,13 +75,14 @@ VrkIsUsage =
     × ((i : ℕ) → inputOf emsk (forVrk room) i ≡ inputOf emsk (forUsage vrkLabel [] 64 room) i)
 
 -- Some requests are accepted, and others are refused with the first number that holds: a label of one letter; no label; a label with a tab,
--- where the key length is wrong too; the domain label, where it is wrong too; the two yards' domains; a domain with an underscore, where there is no
--- room either
+-- where the key length is wrong too; a label with a space, and the domain label, where it is wrong too; the two yards' domains; a domain with an
+-- underscore, where there is no room either
 abbrev pub SomeAccepted : Type 0
 SomeAccepted =
     Accepted (replicate 64 7) (forUsage (ascii "a") [] 64 64)
     × (checkOf (replicate 64 7) (forUsage [] [] 64 64) ≡ refuse (bare 2))
     × (checkOf (replicate 64 7) (forUsage (0x61 ∷ 0x09 ∷ []) [] 0 64) ≡ refuse (located 3 1))
+    × (checkOf (replicate 64 7) (forUsage (ascii "gate 12") [] 0 64) ≡ refuse (bare 32))
     × (checkOf (replicate 64 7) (forUsage dsrkLabel [] 0 64) ≡ refuse (bare 31))
     × Accepted (replicate 64 7) (forDomain (ascii "2.example") 64)
     × Accepted (replicate 64 7) (forDomain (ascii ".example") 64)

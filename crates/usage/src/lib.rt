@@ -17,7 +17,7 @@ use refusal::Written;
 // The most bytes of optional data.
 const MOST_DATA: usize = 2048;
 
-// The tests that come before those of the expansion: 1, 2, 3, 31, 4.
+// The tests that come before those of the expansion: 1, 2, 3, 32, 31, 4.
 fn check_inputs(emsk: &[u8], label: &[u8], data: &[u8]) -> Checked
     ensures { λ r. ⌜ checkedAs r ≡ (check1 (now (emsk .entry)) andThen labelCheck (now (label .entry)) andThen check31 (now (label .entry)) andThen check4 (now («data» .entry))) ⌝ }
 {

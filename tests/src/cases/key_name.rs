@@ -1,6 +1,6 @@
 //! Key names: bounds of every length, every value of a label's byte, the refusals, random requests.
 
-use super::{bad_labels, label, with_byte};
+use super::{bad_labels, label, label_syntaxes, with_byte};
 use crate::call::{bytes_or_refusal, Call, Expected, Group, Ordered};
 use crate::ffi::{self, Outcome};
 use crate::guard::Lender;
@@ -31,7 +31,7 @@ impl Ordered for KeyName {
     }
 }
 
-/// All pairs of 9, 2, 3, 6 can hold together: 2 with 3 in a long label.
+/// All pairs of 9, 2, 3, 32, 6 can hold together: 2 with 3 and with 32 in a long label.
 const FAULTS: &[Fault<KeyName>] = &[
     (9, |call| call.session_id.clear()),
     (9, |call| call.session_id.resize(256, 0)),
@@ -40,6 +40,11 @@ const FAULTS: &[Fault<KeyName>] = &[
     (3, |call| call.label.insert(0, 31)),
     (3, |call| call.label.push(127)),
     (3, |call| call.label.push(0)),
+    (32, |call| call.label.push(b' ')),
+    (32, |call| call.label.insert(0, b',')),
+    (32, |call| call.label.insert(0, b'@')),
+    (32, |call| call.label = "a@b@c".into()),
+    (32, |call| call.label = vec![b'x'; 65].into()),
     (6, |call| call.room = NAME - 1),
     (6, |call| call.room = 0),
 ];
@@ -71,7 +76,7 @@ fn lengths(group: &mut Group) {
     };
     for len in 0..=300 {
         try_with(&|call| call.session_id = vec![0xe5; len].into());
-        try_with(&|call| call.label = vec![b' '; len].into());
+        try_with(&|call| call.label = vec![b'~'; len].into());
     }
     for room in 0..=70 {
         try_with(&|call| call.room = room);
@@ -83,13 +88,13 @@ fn label_bytes(group: &mut Group) {
     for byte in 0..=255 {
         let mut call = request(&mut group.rng);
         for at in [0, 4, 8] {
-            call.label = with_byte(b"gate name", at, byte);
+            call.label = with_byte(b"gate-name", at, byte);
             call.session_id = vec![byte].into();
             group.compare(&call);
         }
     }
     let accepted = request(&mut group.rng);
-    for label in bad_labels(&mut group.rng) {
+    for label in bad_labels(&mut group.rng).into_iter().chain(label_syntaxes()) {
         group.compare(&KeyName { label, ..accepted.clone() });
     }
 }

@@ -1,6 +1,6 @@
 //! Usage keys: document 01's run cases, the bounds, the refusals, random requests, and keys that must differ.
 
-use super::{bad_labels, label, root_key, with_byte, ROOT_KEY_LENGTHS};
+use super::{bad_labels, label, label_syntaxes, root_key, with_byte, ROOT_KEY_LENGTHS};
 use crate::bytes::Bytes;
 use crate::call::{bytes_or_refusal, Call, Expected, Group, Ordered};
 use crate::ffi::{self, Outcome};
@@ -45,8 +45,12 @@ impl Ordered for UsageKey {
     }
 }
 
-/// Pairs of 1, 2, 3, 31, 4, 5, 6 that no input makes hold together.
-pub const APART: &[Apart] = &[(2, 31, "the domain label has 13 bytes"), (3, 31, "the domain label has no bad byte")];
+/// Pairs of 1, 2, 3, 32, 31, 4, 5, 6 that no input makes hold together.
+pub const APART: &[Apart] = &[
+    (2, 31, "the domain label has 13 bytes"),
+    (3, 31, "the domain label has no bad byte"),
+    (32, 31, "the domain label breaches no syntax"),
+];
 
 /// All other pairs can: 2 with 3 in a long label, 5 with 6 where n is over 8,160.
 const FAULTS: &[Fault<UsageKey>] = &[
@@ -59,6 +63,12 @@ const FAULTS: &[Fault<UsageKey>] = &[
     (3, |call| call.label.insert(0, 31)),
     (3, |call| call.label.push(127)),
     (3, |call| call.label.push(255)),
+    (32, |call| call.label.push(b' ')),
+    (32, |call| call.label.insert(0, b',')),
+    (32, |call| call.label.insert(0, b'@')),
+    (32, |call| call.label.push(b'@')),
+    (32, |call| call.label = "a@b@c".into()),
+    (32, |call| call.label = vec![b'x'; 65].into()),
     (31, |call| call.label = "dsrk@ietf.org".into()),
     (4, |call| call.data.resize(2049, 0)),
     (4, |call| call.data.resize(70_000, 0)),
@@ -102,7 +112,7 @@ fn checked_cases(group: &mut Group) {
     }
 }
 
-/// Document 01, "Run and compared": label of 255 and 256; data of 2,048 and 2,049; n of 0, 1, 32, 33, 8,160 and 8,161;
+/// Document 01, "Run and compared": label of 255 and 256, with an at-sign since request 7 of document 02; data of 2,048 and 2,049; n of 0, 1, 32, 33, 8,160 and 8,161;
 /// and n whose low bits alone would be in range.
 fn run_cases(group: &mut Group) {
     let lengths = [0, 1, 32, 33, 8160, 8161, 65_536, 65_600, 1 << 32, (1 << 32) + 64, 1 << 63, u64::MAX];
@@ -110,7 +120,7 @@ fn run_cases(group: &mut Group) {
         for data_len in [2048, 2049] {
             for n in lengths {
                 let emsk = root_key(&mut group.rng);
-                let label = group.rng.bytes_in(label_len, 32, 126).into();
+                let label = with_byte(&group.rng.bytes_in(label_len, b'-', b'?'), label_len / 2, b'@');
                 let data = group.rng.bytes(data_len).into();
                 group.compare(&UsageKey { emsk, label, data, n, room: 9000 });
             }
@@ -149,13 +159,13 @@ fn label_bytes(group: &mut Group) {
         let mut call = request(&mut group.rng);
         (call.n, call.room) = (32, 32);
         for at in [0, 4, 8] {
-            call.label = with_byte(b"gate name", at, byte);
+            call.label = with_byte(b"gate-name", at, byte);
             call.data = vec![byte].into();
             group.compare(&call);
         }
     }
     let accepted = request(&mut group.rng);
-    for label in bad_labels(&mut group.rng) {
+    for label in bad_labels(&mut group.rng).into_iter().chain(label_syntaxes()) {
         group.compare(&UsageKey { label, ..accepted.clone() });
     }
 }

@@ -1,6 +1,6 @@
 //! Key names, source document 001's NDF-64.
 
-use super::{accepted_by, bad_label_byte, wrong_label_length, Order, Refusal};
+use super::{accepted_by, bad_label_byte, wrong_label_length, wrong_label_syntax, Order, Refusal};
 use crate::bytes::Bytes;
 use crate::openssl::sha256;
 
@@ -20,6 +20,7 @@ impl KeyName {
             (9, !(1..=255).contains(&self.session_id.len())),
             (2, wrong_label_length(&self.label)),
             (3, bad_label_byte(&self.label).is_some()),
+            (32, wrong_label_syntax(&self.label)),
             (6, self.room < NAME),
         ]
     }

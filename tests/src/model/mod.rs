@@ -39,6 +39,21 @@ fn wrong_label_length(label: &[u8]) -> bool {
     !(1..=255).contains(&label.len())
 }
 
+/// 32: a space, a comma, over 64 bytes without an at-sign, a second at-sign, or one that stands first or last. The labels that the box itself
+/// fixes (the VRK, V-rRK and RFC 5296 labels) are exempt (document 02, request 7).
+pub fn wrong_label_syntax(label: &[u8]) -> bool {
+    const EXEMPT: [&str; 3] =
+        ["EAP Visited domain Root Key", "EAP Re-authentication Root Key", "EAP Re-authentication Root Key@ietf.org"];
+    let fields: Vec<&[u8]> = label.split(|&byte| byte == b'@').collect();
+    let at_signs = match fields[..] {
+        [whole] => whole.len() > 64,
+        [before, after] => before.is_empty() || after.is_empty(),
+        _ => true,
+    };
+    let breach = at_signs || label.contains(&b' ') || label.contains(&b',');
+    breach && !EXEMPT.iter().any(|exempt| exempt.as_bytes() == label)
+}
+
 /// 3: a label byte outside 32 to 126. The refusal carries the position of the first one, counted from 0 (document 02, request 1).
 pub fn bad_label_byte(label: &[u8]) -> Option<usize> {
     label.iter().position(|byte| !(32..=126).contains(byte))

@@ -2,7 +2,7 @@
 
 use super::domain::ROOT_LABEL;
 use super::prf::prf_plus;
-use super::{accepted_by, bad_label_byte, wrong_label_length, wrong_root_key, Order, Refusal};
+use super::{accepted_by, bad_label_byte, wrong_label_length, wrong_label_syntax, wrong_root_key, Order, Refusal};
 use crate::bytes::Bytes;
 
 /// A usage request: an EMSK, a label, optional data, n and an output buffer.
@@ -21,6 +21,7 @@ impl UsageKey {
             (1, wrong_root_key(&self.emsk)),
             (2, wrong_label_length(&self.label)),
             (3, bad_label_byte(&self.label).is_some()),
+            (32, wrong_label_syntax(&self.label)),
             (31, &self.label[..] == ROOT_LABEL.as_bytes()),
             (4, self.data.len() > 2048),
             (5, !(1..=8160).contains(&self.n)),
