@@ -12,7 +12,9 @@ use Rattle.refusal.specs.Checks.{Check, pass, refuse, check6}
 use Rattle.area_format.specs.declared.Attribute.the-variants.{Offer, Named, Other, Faulty}
 use Rattle.area_format.specs.declared.Name.{Name}
 use Rattle.area_format.specs.declared.Name.the-variants.{Missing, Found}
-use Rattle.area_format.specs.Area.{Reading, whole, refusal, Standing, standing, ended, readOn, guarded, reading, attributes}
+use Rattle.area_format.specs.Area.{Reading, whole, refusal, Standing, standing, ended, readOn, guarded, agrees, judged, walked, reading, attributes}
+use Rattle.area_format.specs.declared.Way.{Way}
+use Rattle.area_format.specs.declared.Way.the-variants.{Strict, Lenient}
 
 -- of a reading that is whole
 abbrev pub Few : Reading → Type 0
@@ -45,6 +47,11 @@ few-guarded : (c : Check) (r : Reading) → Few r → Few (guarded c r)
 few-guarded pass r h = h
 few-guarded (refuse x) r h = tt
 
-pub few : (area : List ℕ) (room : ℕ) → Few (reading area room)
-unfolding reading
-few area room = few-guarded (check6 17 room) _ (few-on [] Missing (attributes area) (omega arith))
+few-judged : (way : Way) (area own : List ℕ) (r : Reading) → Few r → Few (judged way area own r)
+few-judged Lenient area own r h = h
+few-judged Strict area own (refusal x) h = tt
+few-judged Strict area own (whole offers at len) h = few-cond (agrees area own at len) _ _ (λ e. h) tt
+
+pub few : (way : Way) (area own : List ℕ) (room : ℕ) → Few (reading way area own room)
+unfolding reading walked
+few way area own room = few-judged way area own (walked area room) (few-guarded (check6 17 room) _ (few-on [] Missing (attributes area) (omega arith)))

@@ -6,11 +6,12 @@ use mathlib.Core.Bool.{Bool}
 use mathlib.Core.List.{List}
 use native.Mathlib.Omega.{arith}
 use lib.ListN.{length, length-append}
+use Rattle.area_format.specs.declared.Way.{Way}
 use Rattle.area_format.specs.Area.{Reading, whole, refusal, reading, answered, answerTo, bufferTo, areaAnswer, areaBuffer}
 
-pub count-within : (area own out last : List ℕ) {count at len : ℕ} {same : Bool} → answered count at len same ≡ areaAnswer area own (length out) → last ≡ areaBuffer area out → count ≤ length last
+pub count-within : (way : Way) (area own out last : List ℕ) {count at len : ℕ} {same : Bool} → answered count at len same ≡ areaAnswer way area own (length out) → last ≡ areaBuffer way area own out → count ≤ length last
 unfolding areaAnswer areaBuffer
-count-within area own out last {count} {at} {len} {same} e b = go (reading area (length out)) e b
+count-within way area own out last {count} {at} {len} {same} e b = go (reading way area own (length out)) e b
   where
     go : (r : Reading) → answered count at len same ≡ answerTo area own r → last ≡ bufferTo r out → count ≤ length last
     go (whole offers i n) e b =

@@ -3,6 +3,7 @@
 use Rattle.refusal.specs.Answers.{reasonOf}
 unfoldable pub use Rattle.area_format.specs.Area.{reading, areaAnswer, areaBuffer}
 pub use Rattle.area_format.specs.Area.{Reading, whole, refusal, AreaAnswer, answered, answerTo}
+pub use Rattle.area_format.specs.declared.Way.{Way}
 use Rattle.area.specs.declared.AreaRead.{AreaRead}
 use Rattle.area.specs.declared.AreaRead.the-variants.{Read, Refused}
 

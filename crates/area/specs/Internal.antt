@@ -4,6 +4,9 @@
 use Prim.Native.Nat.{ℕ}
 use mathlib.Core.List.{List}
 use lib.ListN.{take}
+use mathlib.Core.Bool.{Bool, true}
+use Rattle.area_format.specs.declared.Way.{Way}
+use Rattle.area_format.specs.declared.Way.the-variants.{Strict, Lenient}
 use Rattle.area_format.specs.Area.{Standing, faultAt, Reading, whole, refusal, readOn}
 use Rattle.area.specs.declared.Added.{Added}
 use Rattle.area.specs.declared.Added.the-variants as Added
@@ -27,3 +30,8 @@ walkedAs (Stopped why at) kept = refusal (faultAt at why)
 abbrev pub walkedCount : Walked → ℕ
 walkedCount (Whole count at len) = count
 walkedCount (Stopped why at) = 0
+
+-- whether a way goes on, by whether the names agree
+abbrev pub allowed : Way → Bool → Bool
+allowed Strict same = same
+allowed Lenient same = true

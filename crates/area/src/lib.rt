@@ -10,11 +10,12 @@ ghost use Rattle.area_format.specs.Area;
 ghost use Rattle.area_format.specs.declared.Name.the-variants.{Missing};
 ghost use Rattle.area_format.specs.Names.{sameFields};
 ghost use Rattle.area.specs.Area.{areaAnswerOf};
-ghost use Rattle.area.specs.Internal.{addedCount, addedOn, walkedCount, walkedAs};
+ghost use Rattle.area.specs.Internal.{addedCount, addedOn, walkedCount, walkedAs, allowed};
 use area_format::Attribute;
 use area_format::Bytes;
 use area_format::Fault;
 use area_format::Name;
+use area_format::Way;
 use area_reader::Step;
 use area_reader::read_at;
 use network_name::same_fields;
@@ -165,10 +166,21 @@ fn is_own_name(area: &[u8], at: usize, len: Bytes, own_name: &[u8]) -> bool
     same_fields(&area[at..end], own_name)
 }
 
-// Reads an attribute area: writes its offers to `out`, in order, and tells where its name stands and whether that agrees with `own_name`.
-pub fn read_area(area: &[u8], own_name: &[u8], out: &mut [u16]) -> AreaRead
-    ensures answer { λ r. ⌜ areaAnswerOf r ≡ areaAnswer (now (area .entry)) (now («own_name» .entry)) (length (now (out .entry))) ⌝ }
-    ensures buffer { λ _. ⌜ now (out .exit) ≡ areaBuffer (now (area .entry)) (now (out .entry)) ⌝ }
+// Whether an area is read by a way: strictly only where its name agrees with the peer's own.
+fn allows(way: Way, same: bool) -> bool
+    ensures { λ r. ⌜ r ≡ allowed way same ⌝ }
+{
+    match way {
+        Way::Strict => same,
+        Way::Lenient => true,
+    }
+}
+
+// Reads an attribute area by the chosen way: writes its offers to `out`, in order, and tells where its name stands and whether that agrees with
+// `own_name`. A name that differs is refused by the strict way, before anything is written.
+pub fn read_area(area: &[u8], own_name: &[u8], way: Way, out: &mut [u16]) -> AreaRead
+    ensures answer { λ r. ⌜ areaAnswerOf r ≡ areaAnswer way (now (area .entry)) (now («own_name» .entry)) (length (now (out .entry))) ⌝ }
+    ensures buffer { λ _. ⌜ now (out .exit) ≡ areaBuffer way (now (area .entry)) (now («own_name» .entry)) (now (out .entry)) ⌝ }
 {
     if out.len() < 17 {
         return AreaRead::Refused(Refusal::Room);
@@ -178,13 +190,17 @@ pub fn read_area(area: &[u8], own_name: &[u8], out: &mut [u16]) -> AreaRead
         Walked::Stopped { why, at } => AreaRead::Refused(refusal_at(at, why)),
         Walked::Whole { count, at, len } => {
             let same_name = is_own_name(area, at, len, own_name);
-            copy_values(&kept[..count], out);
-            AreaRead::Read(Offered {
-                count,
-                name_at: at,
-                name_len: len.0,
-                same_name,
-            })
+            if allows(way, same_name) {
+                copy_values(&kept[..count], out);
+                AreaRead::Read(Offered {
+                    count,
+                    name_at: at,
+                    name_len: len.0,
+                    same_name,
+                })
+            } else {
+                AreaRead::Refused(Refusal::NetworkNameDiffers)
+            }
         }
     }
 }

@@ -4,6 +4,7 @@ use Prim.Native.Nat.{ℕ, _<_, _^_}
 use mathlib.Core.List.{List}
 use native.Mathlib.Omega.{arith}
 use lib.Dec.{lit<}
+use Rattle.area_format.specs.declared.Way.{Way}
 use Rattle.area_format.specs.Area.{Reading, whole, refusal, reading, answerTo, areaAnswer}
 use Rattle.area.proofs.Counts.{Few, few}
 use Rattle.area_c.specs.Internal.{countIn}
@@ -12,6 +13,6 @@ small : (area own : List ℕ) (r : Reading) → Few r → countIn (answerTo area
 small area own (whole offers at len) h = omega arith
 small area own (refusal x) h = lit< tt
 
-pub count-small : (area own : List ℕ) (room : ℕ) → countIn (areaAnswer area own room) < 2 ^ 32
+pub count-small : (way : Way) (area own : List ℕ) (room : ℕ) → countIn (areaAnswer way area own room) < 2 ^ 32
 unfolding areaAnswer
-count-small area own room = small area own (reading area room) (few area room)
+count-small way area own room = small area own (reading way area own room) (few way area own room)

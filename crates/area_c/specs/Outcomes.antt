@@ -11,7 +11,7 @@ abbrev pub flagOf : Bool → ℕ
 flagOf true = 1
 flagOf false = 0
 
--- kv_area: the count of the offers, the name's offset and length, and whether it is the peer's own; or the refusal's number and place, and zeros
+-- kv_area: the count of the offers, the name's offset and length, and whether it agrees with the peer's own; or the refusal's number and place, and zeros
 abbrev pub areaOutcome : AreaAnswer → AreaOutcome
 areaOutcome (answered count nameAt nameLen same) =
     record { refusal = 0; offers = count; at = 0; «name_at» = nameAt; «name_len» = nameLen; «same_name» = flagOf same }

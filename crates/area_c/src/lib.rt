@@ -1,4 +1,4 @@
-// The call of the C interface that reads an attribute area: kv_read_area.
+// The calls of the C interface that read an attribute area: kv_read_area and kv_read_area_lenient.
 ghost use mathlib.Core.Path.{_≡_};
 ghost use Prim.Native.Nat.{_<_, _^_};
 ghost use lib.ListN.{length};
@@ -6,6 +6,7 @@ ghost use Rattle.area.specs.Area.{areaAnswerOf, areaAnswer, areaBuffer};
 ghost use Rattle.area_c.specs.Outcomes.{flagOf, areaOutcome};
 ghost use Rattle.area_c.specs.Internal.{countIn};
 use area::AreaRead;
+use area_format::Way;
 
 // What reading an area returns to C. `at` is the place that a refusal carries, and 0 where it carries none; every other field but the
 // number is 0 on a refusal.
@@ -57,10 +58,10 @@ fn area_returned(answer: AreaRead) -> AreaOutcome
     }
 }
 
-// RFC 5448, sections 3.1 and 3.2: the offers and the name of an attribute area.
-pub fn read_area(area: &[u8], own_name: &[u8], out: &mut [u16]) -> AreaOutcome
-    ensures answer { λ r. ⌜ r ≡ areaOutcome (areaAnswer (now (area .entry)) (now («own_name» .entry)) (length (now (out .entry)))) ⌝ }
-    ensures buffer { λ _. ⌜ now (out .exit) ≡ areaBuffer (now (area .entry)) (now (out .entry)) ⌝ }
+// RFC 5448, sections 3.1 and 3.2: the offers and the name of an attribute area, read by the chosen way.
+pub fn read_area(area: &[u8], own_name: &[u8], way: Way, out: &mut [u16]) -> AreaOutcome
+    ensures answer { λ r. ⌜ r ≡ areaOutcome (areaAnswer way (now (area .entry)) (now («own_name» .entry)) (length (now (out .entry)))) ⌝ }
+    ensures buffer { λ _. ⌜ now (out .exit) ≡ areaBuffer way (now (area .entry)) (now («own_name» .entry)) (now (out .entry)) ⌝ }
 {
-    area_returned(area::read_area(area, own_name, out))
+    area_returned(area::read_area(area, own_name, way, out))
 }

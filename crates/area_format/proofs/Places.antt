@@ -13,7 +13,9 @@ use Rattle.area_format.specs.declared.Attribute.the-variants.{Offer, Nam
 use Rattle.area_format.specs.declared.Fault.the-variants.{AttributeBounds, KdfLength, KdfInput, KdfInputPadding, NetworkName, OfferCount}
 use Rattle.area_format.specs.declared.Name.{Name}
 use Rattle.area_format.specs.declared.Name.the-variants.{Missing, Found}
-use Rattle.area_format.specs.Area.{wordsOf, numberIn, typeOf, wordsFor, padding, zeros, inBounds, kdf, kdfInput, attribute, Standing, standing, attributesFrom, attributes, Reading, whole, refusal, ended, readOn, guarded, reading, answered, refused, answerTo, areaAnswer}
+use Rattle.area_format.specs.Area.{wordsOf, numberIn, typeOf, wordsFor, padding, zeros, inBounds, kdf, kdfInput, attribute, Standing, standing, attributesFrom, attributes, Reading, whole, refusal, ended, readOn, guarded, agrees, judged, walked, reading, refused, answerTo, areaAnswer}
+use Rattle.area_format.specs.declared.Way.{Way}
+use Rattle.area_format.specs.declared.Way.the-variants.{Strict, Lenient}
 use Rattle.area_format.specs.Statements.{BoundsPlace}
 
 -- one of two that are not so is not so
@@ -94,20 +96,27 @@ met-16 zero at (x ∷ rest) offers name {i} e = go (inBounds (x ∷ rest)) refl 
         let p : at ≡ i = cc in
         record { past = 0; place = omega arith; within = omega arith; out = h; before = []; last = ap (λ (k : ℕ). standing k (Faulty AttributeBounds) ∷ []) p }
 
--- an answer of 16 is a reading of 16, past the test of the room
-read-16 : (area own : List ℕ) (room i : ℕ) → areaAnswer area own room ≡ refused (located 16 i) → readOn [] Missing (attributes area) ≡ refusal (located 16 i)
-unfolding areaAnswer reading unless
-read-16 area own room i e = go (leb 17 room) (readOn [] Missing (attributes area)) e
+-- an answer of 16 is a reading of 16 by the walk, past the test of the room and before the name is judged
+read-16 : (way : Way) (area own : List ℕ) (room i : ℕ) → areaAnswer way area own room ≡ refused (located 16 i) → readOn [] Missing (attributes area) ≡ refusal (located 16 i)
+unfolding areaAnswer reading walked unless
+read-16 way area own room i e = go (leb 17 room) (readOn [] Missing (attributes area)) way e
   where
-    go : (t : Bool) (r : Reading) → answerTo area own (guarded (unless t (bare 6)) r) ≡ refused (located 16 i) → r ≡ refusal (located 16 i)
-    go true (whole offers at len) e = let z : _≡_ {A = ℕ} 0 1 = cc in let none : ⊥ = omega arith in elim none [ ]
-    go true (refusal x) e = cc
-    go false r e = let z : _≡_ {A = ℕ} 0 1 = cc in let none : ⊥ = omega arith in elim none [ ]
+    judge : (t : Bool) (offers : List ℕ) (at len : ℕ) → answerTo area own (cond t (whole offers at len) (refusal (bare 30))) ≡ refused (located 16 i) → ⊥
+    judge true offers at len e = let z : _≡_ {A = ℕ} 0 1 = cc in omega arith
+    judge false offers at len e = let z : _≡_ {A = ℕ} 0 1 = cc in omega arith
+
+    go : (t : Bool) (r : Reading) (way : Way) → answerTo area own (judged way area own (guarded (unless t (bare 6)) r)) ≡ refused (located 16 i) → r ≡ refusal (located 16 i)
+    go true (whole offers at len) Lenient e = let z : _≡_ {A = ℕ} 0 1 = cc in let none : ⊥ = omega arith in elim none [ ]
+    go true (whole offers at len) Strict e = elim (judge (agrees area own at len) offers at len e) [ ]
+    go true (refusal x) Lenient e = cc
+    go true (refusal x) Strict e = cc
+    go false r Lenient e = let z : _≡_ {A = ℕ} 0 1 = cc in let none : ⊥ = omega arith in elim none [ ]
+    go false r Strict e = let z : _≡_ {A = ℕ} 0 1 = cc in let none : ⊥ = omega arith in elim none [ ]
 
 pub bounds-place : BoundsPlace
 unfolding attributes
-bounds-place area own room i e =
-    let o = met-16 0 0 area [] Missing (read-16 area own room i e) in
+bounds-place way area own room i e =
+    let o = met-16 0 0 area [] Missing (read-16 way area own room i e) in
     let q : i ≡ 0 + o .past = o .place in
     let p : i ≡ o .past = omega arith in
     let w : o .past < length area = o .within in

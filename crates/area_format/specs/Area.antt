@@ -16,6 +16,8 @@ use Rattle.area_format.specs.declared.Words.{Words}
 use Rattle.area_format.specs.declared.Bytes.{Bytes}
 use Rattle.area_format.specs.declared.Name.{Name}
 use Rattle.area_format.specs.declared.Name.the-variants.{Missing, Found}
+use Rattle.area_format.specs.declared.Way.{Way}
+use Rattle.area_format.specs.declared.Way.the-variants.{Strict, Lenient}
 use Rattle.area_format.specs.Names.{sameFields}
 
 -- An attribute is read off the bytes from its first to the area's end: its type, its length in four-byte words, and the number in the two
@@ -117,9 +119,23 @@ abbrev pub guarded : Check → Reading → Reading
 guarded pass r = r
 guarded (refuse x) r = refusal x
 
--- reading an area, with room for so many offers: room for 17 is checked first (6)
-unfoldable pub reading : List ℕ → ℕ → Reading
-reading area room = guarded (check6 17 room) (readOn [] Missing (attributes area))
+-- whether the name that was read agrees with the peer's own
+abbrev pub agrees : List ℕ → List ℕ → (at len : ℕ) → Bool
+agrees area own at len = sameFields (take len (drop at area)) own
+
+-- by the chosen way: the strict one refuses a differing name (30), last in the order; the lenient one leaves a reading as it is
+abbrev pub judged : Way → List ℕ → List ℕ → Reading → Reading
+judged Lenient area own r = r
+judged Strict area own (refusal x) = refusal x
+judged Strict area own (whole offers at len) = cond (agrees area own at len) (whole offers at len) (refusal (bare 30))
+
+-- the walk through an area, with room for so many offers: room for 17 is checked first (6)
+unfoldable pub walked : List ℕ → ℕ → Reading
+walked area room = guarded (check6 17 room) (readOn [] Missing (attributes area))
+
+-- reading an area by the chosen way, the peer's own name being lent
+unfoldable pub reading : Way → List ℕ → List ℕ → ℕ → Reading
+reading way area own room = judged way area own (walked area room)
 
 -- the answer of a call, by document 01's number and values: the count of the offers, the name's offset from the area's first byte, its length, and
 -- whether it agrees with the peer's own; or a refusal
@@ -127,9 +143,9 @@ pub data AreaAnswer : Type 0 where
   answered : (count nameAt nameLen : ℕ) (same : Bool) → AreaAnswer
   refused : Reason → AreaAnswer
 
--- what the call answers to a reading, the peer's own name being lent. A differing name is reported and the answer given all the same.
+-- what the call answers to a reading, the peer's own name being lent
 abbrev pub answerTo : List ℕ → List ℕ → Reading → AreaAnswer
-answerTo area own (whole offers at len) = answered (length offers) at len (sameFields (take len (drop at area)) own)
+answerTo area own (whole offers at len) = answered (length offers) at len (agrees area own at len)
 answerTo area own (refusal x) = refused x
 
 -- the buffer after a reading: the offers, and after them what stood there; on a refusal all that stood there
@@ -137,8 +153,8 @@ abbrev pub bufferTo : Reading → List ℕ → List ℕ
 bufferTo (whole offers at len) out = offers ++ drop (length offers) out
 bufferTo (refusal x) out = out
 
-unfoldable pub areaAnswer : List ℕ → List ℕ → ℕ → AreaAnswer
-areaAnswer area own room = answerTo area own (reading area room)
+unfoldable pub areaAnswer : Way → List ℕ → List ℕ → ℕ → AreaAnswer
+areaAnswer way area own room = answerTo area own (reading way area own room)
 
-unfoldable pub areaBuffer : List ℕ → List ℕ → List ℕ
-areaBuffer area out = bufferTo (reading area (length out)) out
+unfoldable pub areaBuffer : Way → List ℕ → List ℕ → List ℕ → List ℕ
+areaBuffer way area own out = bufferTo (reading way area own (length out)) out

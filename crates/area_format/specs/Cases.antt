@@ -1,5 +1,5 @@
 -- Worked cases of reading an area: document 01's example ("Checked cases"), and an area for each refusal, in the order of "Attribute area",
--- with 29 and the place of 16 as document 02, request 1, has them.
+-- with 29 and the place of 16 as document 02, request 1, has them, and 30 by the strict way as request 5 has it.
 -- Assumes nothing.
 use mathlib.Core.Path.{_≡_}
 use Prim.Native.Nat.{ℕ, zero, suc}
@@ -7,6 +7,7 @@ use mathlib.Core.Bool.{true, false}
 use mathlib.Core.List.{List, [], _∷_, _++_}
 use lib.ListN.{replicate}
 use Rattle.refusal.specs.Checks.{bare, located}
+use Rattle.area_format.specs.declared.Way.the-variants.{Strict, Lenient}
 use Rattle.area_format.specs.Names.{sameFields}
 use Rattle.area_format.specs.Area.{AreaAnswer, answered, refused, areaAnswer, areaBuffer}
 
@@ -25,16 +26,20 @@ abbrev pub times : ℕ → List ℕ → List ℕ
 times zero s = []
 times (suc n) s = s ++ times n s
 
--- what is answered where the peer's own name is empty and there is room for 17
+-- what is answered, leniently, where the peer's own name is empty and there is room for 17
 abbrev pub answerFor : List ℕ → AreaAnswer
-answerFor area = areaAnswer area [] 17
+answerFor area = areaAnswer Lenient area [] 17
 
 abbrev pub Cases : Type 0
 Cases =
     (answerFor (two ++ one ++ wln) ≡ answered 2 12 3 false)
-    × (areaBuffer (two ++ one ++ wln) (replicate 17 7) ≡ 2 ∷ 1 ∷ replicate 15 7)
-    × (areaAnswer (two ++ wln) (0x57 ∷ 0x4C ∷ 0x4E ∷ []) 17 ≡ answered 1 8 3 true)
-    × (areaAnswer (two ++ wln) [] 16 ≡ refused (bare 6))
+    × (areaBuffer Lenient (two ++ one ++ wln) [] (replicate 17 7) ≡ 2 ∷ 1 ∷ replicate 15 7)
+    × (areaAnswer Lenient (two ++ wln) (0x57 ∷ 0x4C ∷ 0x4E ∷ []) 17 ≡ answered 1 8 3 true)
+    × (areaAnswer Strict (two ++ wln) (0x57 ∷ 0x4C ∷ 0x4E ∷ []) 17 ≡ answered 1 8 3 true)
+    × (areaAnswer Strict (two ++ wln) [] 17 ≡ refused (bare 30))
+    × (areaBuffer Strict (two ++ wln) [] (replicate 17 7) ≡ replicate 17 7)
+    × (areaAnswer Strict wln [] 17 ≡ refused (bare 10))
+    × (areaAnswer Strict (two ++ wln) [] 16 ≡ refused (bare 6))
     × (answerFor (two ++ wln ++ 0x18 ∷ []) ≡ refused (located 16 12))
     × (answerFor (two ++ wln ++ 0x85 ∷ 0x00 ∷ 0x00 ∷ 0x00 ∷ []) ≡ refused (located 16 12))
     × (answerFor (0x18 ∷ 0x02 ∷ 0x00 ∷ 0x02 ∷ 0x00 ∷ 0x00 ∷ 0x00 ∷ []) ≡ refused (located 16 0))

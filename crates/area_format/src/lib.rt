@@ -30,6 +30,13 @@ pub enum Fault {
     OfferCount,
 }
 
+// The way in which an area is read (document 02, request 5): the strict one refuses a name that differs from the peer's own, the lenient one
+// reports it.
+pub enum Way {
+    Strict,
+    Lenient,
+}
+
 // The name, once it has been met: its offset from the area's first byte, and its length.
 pub enum Name {
     Missing,

@@ -15,6 +15,7 @@ ghost use Rattle.key_name.specs.Ndf64.{nameCheck, nameOf};
 ghost use Rattle.offer_peer.specs.Answers.{firstRound, serverAnswer, serverBuffer, renewedAnswer};
 ghost use Rattle.offers_c.specs.Outcomes.{firstRoundOutcome, renewedOutcome};
 ghost use Rattle.area.specs.Area.{areaAnswer, areaBuffer};
+ghost use Rattle.area_format.specs.declared.Way.the-variants.{Strict, Lenient};
 ghost use Rattle.area_c.specs.Outcomes.{areaOutcome};
 ghost use Rattle.key_frame.specs.KeyFrame.{fieldsOf};
 ghost use Rattle.key_writer.specs.KeyWriter.{writeAnswer, writeBuffer};
@@ -26,6 +27,7 @@ ghost use Rattle.slot_rules.specs.Calls.{putAnswer, putTable, dropAnswer, dropT
 ghost use Rattle.slot_rules.specs.Stored.{tableOf, putStored, dropStored};
 ghost use Rattle.slots_c.specs.Outcomes.{slotsOutcome};
 use area_c::AreaOutcome;
+use area_format::Way;
 use key_attribute_c::KeyAttributeOutcome;
 use offers_c::FirstRoundOutcome;
 use outcome::Outcome;
@@ -174,13 +176,22 @@ pub extern "C" fn kv_check_renewed(original: &[u16], choice: u16, renewed: &[u16
 
 // ---- the attribute area
 
-// RFC 5448, sections 3.1 and 3.2: the offers and the name of an attribute area.
+// RFC 5448, sections 3.1 and 3.2: the offers and the name of an attribute area. A name that differs from the peer's own is refused.
 #[no_mangle]
 pub extern "C" fn kv_read_area(area: &[u8], own_name: &[u8], out: &mut [u16]) -> AreaOutcome
-    ensures answer { λ r. ⌜ r ≡ areaOutcome (areaAnswer (now (area .entry)) (now («own_name» .entry)) (length (now (out .entry)))) ⌝ }
-    ensures buffer { λ _. ⌜ now (out .exit) ≡ areaBuffer (now (area .entry)) (now (out .entry)) ⌝ }
+    ensures answer { λ r. ⌜ r ≡ areaOutcome (areaAnswer Strict (now (area .entry)) (now («own_name» .entry)) (length (now (out .entry)))) ⌝ }
+    ensures buffer { λ _. ⌜ now (out .exit) ≡ areaBuffer Strict (now (area .entry)) (now («own_name» .entry)) (now (out .entry)) ⌝ }
 {
-    area_c::read_area(area, own_name, out)
+    area_c::read_area(area, own_name, Way::Strict, out)
+}
+
+// The same, by the lenient way: a name that differs is reported.
+#[no_mangle]
+pub extern "C" fn kv_read_area_lenient(area: &[u8], own_name: &[u8], out: &mut [u16]) -> AreaOutcome
+    ensures answer { λ r. ⌜ r ≡ areaOutcome (areaAnswer Lenient (now (area .entry)) (now («own_name» .entry)) (length (now (out .entry)))) ⌝ }
+    ensures buffer { λ _. ⌜ now (out .exit) ≡ areaBuffer Lenient (now (area .entry)) (now («own_name» .entry)) (now (out .entry)) ⌝ }
+{
+    area_c::read_area(area, own_name, Way::Lenient, out)
 }
 
 // ---- Key attributes

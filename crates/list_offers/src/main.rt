@@ -1,6 +1,7 @@
 // Lists the offers of an attribute area (document 01, "Checked cases"): reads the area from standard input and writes its offers
-// and the length of its name, or the refusal, to standard output. The peer's own name that it lends is empty.
+// and the length of its name, or the refusal, to standard output. The peer's own name that it lends is empty, so it reads leniently.
 use area::AreaRead;
+use area_format::Way;
 use libc::STDIN_FILENO;
 use libc::STDOUT_FILENO;
 
@@ -26,7 +27,7 @@ fn write_offers(offers: &[u16]) {
 // Writes what the area holds, or why it is refused.
 fn list(bytes: &[u8]) {
     let mut out = [0u16; 17];
-    match area::read_area(bytes, b"", &mut out) {
+    match area::read_area(bytes, b"", Way::Lenient, &mut out) {
         AreaRead::Refused(why) => write_line(b"refused ", refusal_number::number(why) as u64),
         AreaRead::Read(offered) => {
             let count = offered.count;

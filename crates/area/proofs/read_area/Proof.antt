@@ -12,7 +12,7 @@ use lib.Seq.{length-take-le, take-all}
 use Rattle.area_format.specs.Area.{attributes, readOn, whole}
 use Rattle.area_format.specs.declared.Name.the-variants.{Missing}
 use Rattle.area.proofs.Names.{name-within}
-use Rattle.area.proofs.Answering.{too-little, refused-so, answered-so}
+use Rattle.area.proofs.Answering.{too-little, refused-so, answered-so, differs-so}
 use Rattle.area.proofs.read_area.Statement.{statement}
 use Rattle.area.proofs.read_area.Tie as tie
 
@@ -30,7 +30,7 @@ counted : (c : tie.After-count) → length (take (c .count .given .0 .0) (c .bef
 counted c = length-take-le _ _ (omega (arith, few c, c .before .before .before .walk .kept .1 .0))
 
 returns : tie.Need-returns
-returns c = let a = c .before .before .before .before .args in too-little (now (a .area)) (now (a .own-name)) (now (a .out)) (c .if1 .taken)
+returns c = let a = c .before .before .before .before .args in too-little (a .way) (now (a .area)) (now (a .own-name)) (now (a .out)) (c .if1 .taken)
 
 slice-aggregate-walk : tie.Need-slice-aggregate-walk
 slice-aggregate-walk c = search needs
@@ -51,7 +51,7 @@ is-own-name-requires : tie.Need-is-own-name-requires
 is-own-name-requires c κs = name-within _ (sym (read (c .before)))
 
 array-share-prefix-kept : tie.Need-array-share-prefix-kept
-array-share-prefix-kept c = let k = c .before .before in omega (arith, few k, k .before .before .before .walk .kept .1 .0)
+array-share-prefix-kept c = let k = c .before .before .before .before in omega (arith, few k, k .before .before .before .walk .kept .1 .0)
 
 copy-values-requires : tie.Need-copy-values-requires
 copy-values-requires c κs = search needs
@@ -60,23 +60,33 @@ returns-2 : tie.Need-returns-2
 returns-2 c =
     let k = c .before .before .before .before .before in
     let a = k .before .before .before .before .before .before .args in
-    rw (c .refusal-at .ensures) (refused-so (now (a .area)) (now (a .own-name)) (now (a .out)) (k .before .before .if1 .left) _ (rw (c .before .before .why .given .1) at (k .walk .ensures .1)))
+    rw (c .refusal-at .ensures) (refused-so (a .way) (now (a .area)) (now (a .own-name)) (now (a .out)) (k .before .before .if1 .left) _ (rw (c .before .before .why .given .1) at (k .walk .ensures .1)))
 
 same-length : tie.Need-same-length
 same-length c = search needs
 
 returns-3 : tie.Need-returns-3
 returns-3 c =
-    let k = c .before .before .before .before .before .before .before in
+    let t = c .before .before .before .before .before in
+    let k = t .before .before .before .before in
     let a = k .before .before .before .before .before .before .before .before .before .args in
     let room = k .before .before .before .before .before .if1 .left in
     let offers = take (k .count .given .0 .0) (k .before .before .before .walk .last .1 .0) in
     let all : take (length (now (a .out))) offers ≡ offers = take-all (length (now (a .out))) offers (omega (arith, few k, counted k, room)) in
-    let r = answered-so (now (a .area)) (now (a .own-name)) (now (a .out)) room _ _ _ (read k) in
-    (rw (c .before .before .before .before .before .is-own-name .ensures) (rw (counted k) at (r .0)), c .before .before .copy-values .ensures ∙ rw all (r .1))
+    let r = answered-so (a .way) (now (a .area)) (now (a .own-name)) (now (a .out)) room _ _ _ (read k) (rw (t .before .before .is-own-name .ensures) at (sym (t .before .allows .ensures) ∙ t .if2 .taken)) in
+    (rw (t .before .before .is-own-name .ensures) (rw (counted k) at (r .0)), c .before .before .copy-values .ensures ∙ rw all (r .1))
+
+returns-4 : tie.Need-returns-4
+returns-4 c =
+    let k = c .before .before .before .before in
+    let a = k .before .before .before .before .before .before .before .before .before .args in
+    differs-so (a .way) (now (a .area)) (now (a .own-name)) (now (a .out)) (k .before .before .before .before .before .if1 .left) _ _ _ (read k) (rw (c .before .before .is-own-name .ensures) at (sym (c .before .allows .ensures) ∙ c .if2 .left))
 
 slice-aggregate-copy-values : tie.Need-slice-aggregate-copy-values
-slice-aggregate-copy-values c = sym (counted (c .before .before .before))
+slice-aggregate-copy-values c = sym (counted (c .before .before .before .before .before))
+
+allows-requires : tie.Need-allows-requires
+allows-requires c κs = search needs
 
 pub read-area-spec : {M : Type 1} → statement M
 read-area-spec =
@@ -89,9 +99,11 @@ read-area-spec =
     refusal-at-requires
     enum-known-count
     is-own-name-requires
+    allows-requires
     array-share-prefix-kept
     slice-aggregate-copy-values
     copy-values-requires
     returns-2
     same-length
-    returns-3)
+    returns-3
+    returns-4)

@@ -8,7 +8,7 @@ use Rattle.area_c.proofs.read_area.Statement.{statement}
 use Rattle.area_c.proofs.read_area.Tie as tie
 
 area-returned-requires : tie.Need-area-returned-requires
-area-returned-requires c κs = rw (c .before .before .read-area .ensures .0) (count-small _ _ _)
+area-returned-requires c κs = rw (c .before .before .read-area .ensures .0) (count-small _ _ _ _)
 
 returns : tie.Need-returns
 returns c = let p = c .before .before .before in (c .area-returned .ensures ∙ ap areaOutcome (p .read-area .ensures .0), p .read-area .ensures .1)

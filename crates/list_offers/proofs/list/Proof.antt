@@ -10,10 +10,10 @@ use Rattle.list_offers.proofs.list.Statement.{statement}
 use Rattle.list_offers.proofs.list.Tie as tie
 
 -- the count is within the buffer, by what reading an area answers and leaves there
-within : (c : tie.After-offered) → c .offered .given .0 .0 .count ≤ length (c .before .before .before .read-area .last .1 .1 .0)
+within : (c : tie.After-offered) → c .offered .given .0 .0 .count ≤ length (c .before .before .before .read-area .last .1 .1 .1 .0)
 within c =
     let r = c .before .before .before .read-area in
-    count-within _ _ _ _ (rw (c .offered .given .1) at (r .ensures .0)) (r .ensures .1)
+    count-within _ _ _ _ _ (rw (c .offered .given .1) at (r .ensures .0)) (r .ensures .1)
 
 slice-aggregate-read-area : tie.Need-slice-aggregate-read-area
 slice-aggregate-read-area c = search needs
