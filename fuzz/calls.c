@@ -56,8 +56,9 @@ const shape shapes[CALLS] = {
                                           BIT(KV_KEY_TO_WRAP_LENGTH) | BIT(KV_ROOM) },
     [READ_KEY_ATTRIBUTE] = { .name = "kv_read_key_attribute", .slices = 2, BYTES, .counts = { SIXTEEN, { 76, 252 } }, OUT_BYTES(192),
                              .refusals = BIT(KV_KEK_LENGTH) | FRAME_REFUSALS | BIT(KV_ROOM) | BIT(KV_INTEGRITY) },
-    /* the slots are the bytes of a slice, and the name is a number */
-    [PUT_SLOT] = { .name = "kv_put_slot", .slices = 1, BYTES, .counts = { ANY }, .numbers = { 8 }, .refusals = BIT(KV_SLOTS_FULL) },
+    /* the slots are the bytes of a slice, and the name is a number, before that of the parent */
+    [PUT_SLOT] = { .name = "kv_put_slot", .slices = 1, BYTES, .counts = { ANY }, .numbers = { 8, 8 },
+                   .refusals = BIT(KV_PARENT_NOT_LIVE) | BIT(KV_TOO_DEEP) | BIT(KV_SLOTS_FULL) },
     [DROP_SLOT] = { .name = "kv_drop_slot", .slices = 1, BYTES, .counts = { ANY }, .numbers = { 8 }, .refusals = BIT(KV_NO_SUCH_SLOT) },
     [LIVE_SLOTS] = { .name = "kv_live_slots", .slices = 1, BYTES, .counts = { ANY } },
 };
@@ -157,7 +158,7 @@ static void call(const request *asked, void *const in[SLICES], void *out, answer
                                                    d, dn, out, room), 1);
         break;
     case READ_KEY_ATTRIBUTE: take_key_attribute(given, kv_read_key_attribute(a, an, b, bn, out, room)); break;
-    case PUT_SLOT: take_slots(asked, given, slots, kv_put_slot(slots, name_of(numbers[0]))); break;
+    case PUT_SLOT: take_slots(asked, given, slots, kv_put_slot(slots, name_of(numbers[0]), numbers[1])); break;
     case DROP_SLOT: take_slots(asked, given, slots, kv_drop_slot(slots, numbers[0])); break;
     case LIVE_SLOTS: given->fields[0] = kv_live_slots(slots); break;
     case CALLS: fail(asked, "is no call");

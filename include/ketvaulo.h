@@ -33,8 +33,9 @@
  * Key attributes. A key travels to a neighbour wrapped in a RADIUS Key attribute: the sender calls kv_write_key_attribute,
  * the receiver calls kv_read_key_attribute, and both hold the same KEK.
  *
- * Slots. A controller keeps the names of its live keys in 64 slots, which are a value of the caller's: kv_put_slot and
- * kv_drop_slot take the slots and return the slots after the call.
+ * Slots. A controller keeps the names of its live keys in 64 slots, each below the key that it was derived from. The slots
+ * are a value of the caller's: kv_put_slot and kv_drop_slot take them and return those after the call. When a key expires, a
+ * drop of its slot takes everything that was derived from it.
  *
  * Conventions
  *
@@ -118,6 +119,7 @@
 #define KV_KEY_ATTRIBUTE_MORE 60  /* a Key attribute is so much longer than its key */
 #define KV_KEY_ATTRIBUTE_MAX 252
 #define KV_SLOTS 64               /* slots for live keys, numbered from 0 */
+#define KV_NO_PARENT UINT64_MAX   /* the parent of a root, as kv_put_slot takes it */
 
 /* The fixed labels, as texts of C: the length of one is its sizeof less 1. */
 #define KV_VRK_LABEL "EAP Visited domain Root Key"
@@ -179,7 +181,7 @@ enum {
     KV_IV_FIELD = 27,               /* IV field not eight bytes A6 */
     KV_INTEGRITY = 28,              /* unwrapping does not yield the initial value A6 (eight times) */
 
-    /* Document 02. Of these, calls give 46 and 47; the requests that the others belong to have not landed yet. */
+    /* Document 02. Of these, calls give 46 to 49; the requests that the others belong to have not landed yet. */
     KV_KDF_INPUT_PADDING = 29,      /* AT_KDF_INPUT whose padding is not zero; 18 stays for a length that disagrees */
     KV_NETWORK_NAME_DIFFERS = 30,   /* a differing network name, where the caller does not ask for lenient reading */
     KV_DOMAIN_LABEL = 31,           /* a usage request under the EMSK with the label of the domain root key */
@@ -358,40 +360,49 @@ KV_LAYOUT(sizeof(kv_key_attribute) == 52 && offsetof(kv_key_attribute, type) == 
 KV_USE_RESULT kv_key_attribute kv_read_key_attribute(const uint8_t *kek, size_t kek_len, const uint8_t *attribute,
                                                      size_t attribute_len, uint8_t *out, size_t out_len);
 
-/* Slots for live keys. Each of the 64 is free or holds the name of a key, which is any 8 bytes, as kv_key_name writes them.
+/* Slots for live keys. Each of the 64 is free or holds a key's name, which is any 8 bytes, as kv_key_name writes them, and
+ * its parent: none, so that the key is a root, or the slot of the key that it was derived from.
+ *
  * The slots are passed and returned by value, so no call alters a byte of the caller's: a program keeps the `slots` that a
- * call returned in place of those that it had. {0} has all slots free. From there on, after any calls, the live slots
- * are the accepted puts less the accepted drops. Any other value is taken as it is. */
+ * call returned in place of those that it had. {0} has all slots free. From there on, after any calls, every live slot's
+ * parent is none or live, a root is reached from it within three steps, and the live slots are the accepted puts less the sum
+ * of what accepted drops returned. Slots that were made in any other way are taken as they are. */
 typedef struct {
     uint8_t bytes[8];
 } kv_name;
 KV_LAYOUT(sizeof(kv_name) == 8);
 
-/* Slot i is taken where bit i of `taken` is 1, bit 0 being the lowest. A name counts only where its slot is taken. */
+/* Slot i is live where bit i of `taken` is 1, bit 0 being the lowest. Its parent is a slot's number, or 255 for none; 64 to
+ * 254 is no slot. The name and the parent of a free slot count for nothing. */
 typedef struct {
     uint64_t taken;
     kv_name names[64];
+    uint8_t parents[64];
 } kv_slots;
-KV_LAYOUT(sizeof(kv_slots) == 520 && offsetof(kv_slots, names) == 8);
+KV_LAYOUT(sizeof(kv_slots) == 584 && offsetof(kv_slots, names) == 8 && offsetof(kv_slots, parents) == 520);
 
-/* What a put and a drop return: the slot's number as `value`, and the slots after the call. On a refusal `value` is 0, and
- * `slots` is the argument, byte for byte. */
+/* What a put and a drop return: a put the slot's number as `value`, a drop how many went; and the slots after the call. On a
+ * refusal `value` is 0, and `slots` is the argument, byte for byte. */
 typedef struct {
     uint32_t refusal;
     uint64_t value;
     kv_slots slots;
 } kv_slots_outcome;
-KV_LAYOUT(sizeof(kv_slots_outcome) == 536 && offsetof(kv_slots_outcome, value) == 8 && offsetof(kv_slots_outcome, slots) == 16);
+KV_LAYOUT(sizeof(kv_slots_outcome) == 600 && offsetof(kv_slots_outcome, value) == 8 && offsetof(kv_slots_outcome, slots) == 16);
 
-/* Puts a name into the lowest free slot, and returns the slot's number. Nothing changes but that slot.
- * Refusals: 46 all 64 slots are taken. */
-KV_USE_RESULT kv_slots_outcome kv_put_slot(kv_slots slots, kv_name name);
+/* Puts a name and its parent into the lowest free slot, and returns the slot's number. `parent` is a live slot's number, or
+ * KV_NO_PARENT for a root. Nothing changes but the slot that is taken.
+ * Refusals, in this order: 48 the parent is neither KV_NO_PARENT nor a live slot; 49 from the parent, which may be a root
+ * itself, no root is reached within two steps through live slots; 46 all 64 slots are taken. */
+KV_USE_RESULT kv_slots_outcome kv_put_slot(kv_slots slots, kv_name name, uint64_t parent);
 
-/* Frees a slot, and returns its number. A put may take it again. Its name stays where it stood, and counts for nothing.
+/* Frees a slot and all that descend from it, and returns how many went. Those descend from it from which one to three steps
+ * through live slots lead to it; in a loop of parents, which no calls make, a slot counts once. Nothing changes but the slots
+ * that went. Names and parents stay where they stood, and count for nothing.
  * Refusals: 47 the number is over 63, or that slot is free. */
 KV_USE_RESULT kv_slots_outcome kv_drop_slot(kv_slots slots, uint64_t number);
 
-/* How many slots are taken, 0 to 64. It refuses nothing. */
+/* How many slots are live, 0 to 64. It refuses nothing. */
 KV_USE_RESULT uint32_t kv_live_slots(kv_slots slots);
 
 #ifdef __cplusplus
