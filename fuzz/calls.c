@@ -69,8 +69,9 @@ const shape shapes[CALLS] = {
                        .refusals = FRAME_REFUSALS | BIT(KV_BUNDLE_COUNT) | BIT(KV_REPEATED_KEY_ID) | BIT(KV_ROOM) },
     [READ_BUNDLE] = { .name = "kv_read_bundle", .slices = 1, BYTES, .counts = { BUNDLE }, OUT_BYTES(16128),
                       .refusals = BUNDLE_REFUSALS | BIT(KV_ROOM) },
-    /* the slots are the bytes of a slice, and the name is a number */
-    [PUT_SLOT] = { .name = "kv_put_slot", .slices = 1, BYTES, .counts = { ANY }, .numbers = { 8 }, .refusals = BIT(KV_SLOTS_FULL) },
+    /* the slots are the bytes of a slice, and the name is a number, before that of the parent */
+    [PUT_SLOT] = { .name = "kv_put_slot", .slices = 1, BYTES, .counts = { ANY }, .numbers = { 8, 8 },
+                   .refusals = BIT(KV_PARENT_NOT_LIVE) | BIT(KV_TOO_DEEP) | BIT(KV_SLOTS_FULL) },
     [DROP_SLOT] = { .name = "kv_drop_slot", .slices = 1, BYTES, .counts = { ANY }, .numbers = { 8 }, .refusals = BIT(KV_NO_SUCH_SLOT) },
     [LIVE_SLOTS] = { .name = "kv_live_slots", .slices = 1, BYTES, .counts = { ANY } },
 };
@@ -176,7 +177,7 @@ static void call(const request *asked, void *const in[SLICES], void *out, answer
     case READ_KEY_ATTRIBUTE: take_key_attribute(given, kv_read_key_attribute(a, an, b, bn, out, room)); break;
     case WRITE_BUNDLE: take_outcome(given, kv_write_bundle(a, an, out, room), 1); break;
     case READ_BUNDLE: take_outcome(given, kv_read_bundle(a, an, out, room), 1); break;
-    case PUT_SLOT: take_slots(asked, given, slots, kv_put_slot(slots, name_of(numbers[0]))); break;
+    case PUT_SLOT: take_slots(asked, given, slots, kv_put_slot(slots, name_of(numbers[0]), numbers[1])); break;
     case DROP_SLOT: take_slots(asked, given, slots, kv_drop_slot(slots, numbers[0])); break;
     case LIVE_SLOTS: given->fields[0] = kv_live_slots(slots); break;
     case CALLS: fail(asked, "is no call");

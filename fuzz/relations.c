@@ -309,26 +309,29 @@ static void check_unpacked(const request *asked, const answer *given)
     expect(same(file, asked->in[0].values, asked->in[0].count), asked, "what was read is written as another file");
 }
 
-/* The slot that a put took was the lowest free one and has the name; dropped, it is free again. */
+/* The slot that a put took was the lowest free one and has name and parent; dropped, it alone goes where no parent named it before. */
 static void check_put(const request *asked, const answer *given)
 {
     const kv_slots before = slots_of(asked->in[0]);
-    const uint64_t number = given->fields[0];
+    const uint64_t number = given->fields[0], parent = asked->numbers[1];
     const kv_name name = name_of(asked->numbers[0]);
     expect(number < KV_SLOTS && before.taken % ((uint64_t)1 << number) == ((uint64_t)1 << number) - 1, asked, "took no slot after taken ones");
     expect(same(&given->slots.names[number], &name, sizeof name), asked, "did not keep the name");
+    expect(given->slots.parents[number] == (parent == KV_NO_PARENT ? 255 : parent), asked, "did not keep the parent");
     expect(kv_live_slots(given->slots) == kv_live_slots(before) + 1, asked, "the live count is not one more");
     kv_slots_outcome dropped = kv_drop_slot(given->slots, number);
-    expect(dropped.refusal == KV_ACCEPTED && dropped.slots.taken == before.taken, asked, "cannot be dropped again");
+    expect(dropped.refusal == KV_ACCEPTED && dropped.value >= 1 && (dropped.slots.taken | before.taken) == before.taken, asked,
+           "cannot be dropped again");
 }
 
-/* A slot that was dropped is free, and all others are as they were. */
+/* A drop frees its slot, answers how many went, and leaves every name and parent. */
 static void check_drop(const request *asked, const answer *given)
 {
     const kv_slots before = slots_of(asked->in[0]);
-    expect(given->fields[0] == asked->numbers[0], asked, "did not return the slot's number");
-    expect(kv_live_slots(given->slots) + 1 == kv_live_slots(before), asked, "the live count is not one less");
-    expect(same(given->slots.names, before.names, sizeof before.names), asked, "altered a name");
+    expect(kv_live_slots(given->slots) + given->fields[0] == kv_live_slots(before), asked, "did not return how many went");
+    expect((given->slots.taken & ~before.taken) == 0, asked, "took a free slot");
+    expect(same(given->slots.names, before.names, sizeof before.names) && same(given->slots.parents, before.parents, sizeof before.parents),
+           asked, "altered a name or a parent");
     expect(kv_drop_slot(given->slots, asked->numbers[0]).refusal == KV_NO_SUCH_SLOT, asked, "can be dropped twice");
 }
 

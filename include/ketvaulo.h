@@ -37,8 +37,9 @@
  * Bundles. When a box moves, its Key attributes travel in one file, a bundle: kv_write_bundle makes it of the attributes packed
  * end to end, and kv_read_bundle gives them back so. No KEK is wanted for either.
  *
- * Slots. A controller keeps the names of its live keys in 64 slots, which are a value of the caller's: kv_put_slot and
- * kv_drop_slot take the slots and return the slots after the call.
+ * Slots. A controller keeps the names of its live keys in 64 slots, each below the key that it was derived from. The slots
+ * are a value of the caller's: kv_put_slot and kv_drop_slot take them and return those after the call. When a key expires, a
+ * drop of its slot takes everything that was derived from it.
  *
  * Conventions
  *
@@ -127,6 +128,7 @@
 #define KV_BUNDLE_MAX 17410       /* the largest bundle */
 #define KV_BUNDLE_BODIES_MAX 16128 /* room for the attributes of any bundle, packed end to end */
 #define KV_SLOTS 64               /* slots for live keys, numbered from 0 */
+#define KV_NO_PARENT UINT64_MAX   /* the parent of a root, as kv_put_slot takes it */
 
 /* The fixed labels, as texts of C: the length of one is its sizeof less 1. */
 #define KV_VRK_LABEL "EAP Visited domain Root Key"
@@ -417,40 +419,49 @@ KV_USE_RESULT kv_outcome kv_write_bundle(const uint8_t *attributes, size_t attri
  * 50 its Key ID is not that of its line. Then 6 `out` has no room for the attributes. */
 KV_USE_RESULT kv_outcome kv_read_bundle(const uint8_t *file, size_t file_len, uint8_t *out, size_t out_len);
 
-/* Slots for live keys. Each of the 64 is free or holds the name of a key, which is any 8 bytes, as kv_key_name writes them.
+/* Slots for live keys. Each of the 64 is free or holds a key's name, which is any 8 bytes, as kv_key_name writes them, and
+ * its parent: none, so that the key is a root, or the slot of the key that it was derived from.
+ *
  * The slots are passed and returned by value, so no call alters a byte of the caller's: a program keeps the `slots` that a
- * call returned in place of those that it had. {0} has all slots free. From there on, after any calls, the live slots
- * are the accepted puts less the accepted drops. Any other value is taken as it is. */
+ * call returned in place of those that it had. {0} has all slots free. From there on, after any calls, every live slot's
+ * parent is none or live, a root is reached from it within three steps, and the live slots are the accepted puts less the sum
+ * of what accepted drops returned. Slots that were made in any other way are taken as they are. */
 typedef struct {
     uint8_t bytes[8];
 } kv_name;
 KV_LAYOUT(sizeof(kv_name) == 8);
 
-/* Slot i is taken where bit i of `taken` is 1, bit 0 being the lowest. A name counts only where its slot is taken. */
+/* Slot i is live where bit i of `taken` is 1, bit 0 being the lowest. Its parent is a slot's number, or 255 for none; 64 to
+ * 254 is no slot. The name and the parent of a free slot count for nothing. */
 typedef struct {
     uint64_t taken;
     kv_name names[64];
+    uint8_t parents[64];
 } kv_slots;
-KV_LAYOUT(sizeof(kv_slots) == 520 && offsetof(kv_slots, names) == 8);
+KV_LAYOUT(sizeof(kv_slots) == 584 && offsetof(kv_slots, names) == 8 && offsetof(kv_slots, parents) == 520);
 
-/* What a put and a drop return: the slot's number as `value`, and the slots after the call. On a refusal `value` is 0, and
- * `slots` is the argument, byte for byte. */
+/* What a put and a drop return: a put the slot's number as `value`, a drop how many went; and the slots after the call. On a
+ * refusal `value` is 0, and `slots` is the argument, byte for byte. */
 typedef struct {
     uint32_t refusal;
     uint64_t value;
     kv_slots slots;
 } kv_slots_outcome;
-KV_LAYOUT(sizeof(kv_slots_outcome) == 536 && offsetof(kv_slots_outcome, value) == 8 && offsetof(kv_slots_outcome, slots) == 16);
+KV_LAYOUT(sizeof(kv_slots_outcome) == 600 && offsetof(kv_slots_outcome, value) == 8 && offsetof(kv_slots_outcome, slots) == 16);
 
-/* Puts a name into the lowest free slot, and returns the slot's number. Nothing changes but that slot.
- * Refusals: 46 all 64 slots are taken. */
-KV_USE_RESULT kv_slots_outcome kv_put_slot(kv_slots slots, kv_name name);
+/* Puts a name and its parent into the lowest free slot, and returns the slot's number. `parent` is a live slot's number, or
+ * KV_NO_PARENT for a root. Nothing changes but the slot that is taken.
+ * Refusals, in this order: 48 the parent is neither KV_NO_PARENT nor a live slot; 49 from the parent, which may be a root
+ * itself, no root is reached within two steps through live slots; 46 all 64 slots are taken. */
+KV_USE_RESULT kv_slots_outcome kv_put_slot(kv_slots slots, kv_name name, uint64_t parent);
 
-/* Frees a slot, and returns its number. A put may take it again. Its name stays where it stood, and counts for nothing.
+/* Frees a slot and all that descend from it, and returns how many went. Those descend from it from which one to three steps
+ * through live slots lead to it; in a loop of parents, which no calls make, a slot counts once. Nothing changes but the slots
+ * that went. Names and parents stay where they stood, and count for nothing.
  * Refusals: 47 the number is over 63, or that slot is free. */
 KV_USE_RESULT kv_slots_outcome kv_drop_slot(kv_slots slots, uint64_t number);
 
-/* How many slots are taken, 0 to 64. It refuses nothing. */
+/* How many slots are live, 0 to 64. It refuses nothing. */
 KV_USE_RESULT uint32_t kv_live_slots(kv_slots slots);
 
 #ifdef __cplusplus

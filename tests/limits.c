@@ -92,13 +92,15 @@ int main(void)
     kv_slots slots = { 0 };
     kv_name named = { { 'a' } };
     for (int i = 0; i < KV_SLOTS; i++) {
-        IS(kv_put_slot(slots, named), KV_ACCEPTED);
-        slots = kv_put_slot(slots, named).slots;
+        IS(kv_put_slot(slots, named, KV_NO_PARENT), KV_ACCEPTED);
+        slots = kv_put_slot(slots, named, KV_NO_PARENT).slots;
     }
     expect(kv_live_slots(slots), KV_SLOTS, "kv_live_slots");
-    IS(kv_put_slot(slots, named), KV_SLOTS_FULL);
+    IS(kv_put_slot(slots, named, KV_NO_PARENT), KV_SLOTS_FULL);
     IS(kv_drop_slot(slots, KV_SLOTS - 1), KV_ACCEPTED);
     IS(kv_drop_slot(slots, KV_SLOTS), KV_NO_SUCH_SLOT);
+    IS(kv_put_slot(slots, named, KV_SLOTS), KV_PARENT_NOT_LIVE);
+    IS(kv_put_slot(slots, named, KV_NO_PARENT - 1), KV_PARENT_NOT_LIVE);
 
     /* the labels: each key as prf+ of its text, which for one block is the HMAC of the text and the byte 1 */
     uint8_t first[KV_DIGEST_LEN], text[] = KV_V_RRK_LABEL "\1", key[KV_VISITED_KEY_LEN], same[KV_VISITED_KEY_LEN];

@@ -149,17 +149,20 @@ static void ask_any(void)
     free_request(&asked);
 }
 
+/* A parent: mostly a slot, live or not, or none. */
+static uint64_t any_parent(void) { return below(3) == 0 ? KV_NO_PARENT : below(KV_SLOTS + 2); }
+
 /* Calls on slots, each on the slots that the one before returned: from empty to full and back, over and over. Returns 0 where the live
- * count is not the accepted puts less the accepted drops. */
+ * count is not the accepted puts less what the accepted drops returned. */
 static int walk_slots(void)
 {
     static kv_slots slots;
     uint32_t live = 0;
     for (uint32_t i = 1; i <= WALK; i++) {
-        int put_one = below(8) < (i / 200 % 2 == 0 ? 7 : 1);
-        kv_slots_outcome r = put_one ? kv_put_slot(slots, name_of((uint64_t)any() << 32 | any())) : kv_drop_slot(slots, below(KV_SLOTS + 2));
+        int put_one = below(16) < (i / 200 % 2 == 0 ? 15 : 2);
+        kv_slots_outcome r = put_one ? kv_put_slot(slots, name_of((uint64_t)any() << 32 | any()), any_parent()) : kv_drop_slot(slots, below(KV_SLOTS + 2));
         if (r.refusal == KV_ACCEPTED)
-            live += put_one ? 1 : -1u;
+            live += put_one ? 1 : -(uint32_t)r.value;
         slots = r.slots;
         add_number(r.refusal);
         add_number(r.value);
@@ -210,6 +213,6 @@ int program(void)
     }
     int counted = walk_slots();
     if (!counted)
-        put("slots: the live count is not the accepted puts less the accepted drops\n");
+        put("slots: the live count is not the accepted puts less what the drops returned\n");
     return put_tally() == 0 && counted ? 0 : 1;
 }

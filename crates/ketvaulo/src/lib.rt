@@ -25,7 +25,7 @@ ghost use Rattle.bundle_rules.specs.Bundle as Bundle;
 ghost use Rattle.slot_rules.specs.Table.{liveCount};
 ghost use Rattle.slot_rules.specs.Calls.{putAnswer, putTable, dropAnswer, dropTable};
 ghost use Rattle.slot_rules.specs.Stored.{tableOf, putStored, dropStored};
-ghost use Rattle.slots_c.specs.Outcomes.{slotsOutcome};
+ghost use Rattle.slots_c.specs.Outcomes.{parentFor, slotsOutcome};
 use area_c::AreaOutcome;
 use area_format::Way;
 use key_attribute_c::KeyAttributeOutcome;
@@ -258,16 +258,16 @@ pub extern "C" fn kv_read_bundle(file: &[u8], out: &mut [u8]) -> Outcome
 
 // ---- slots
 
-// Document 02, request 12: a name is put into the lowest free slot.
+// Document 02, requests 12 and 13: a name is put below a parent into the lowest free slot.
 #[no_mangle]
-pub extern "C" fn kv_put_slot(slots: Slots, name: Name) -> SlotsOutcome
-    ensures stored { λ r. ⌜ r ≡ slotsOutcome (outcomeOf (putAnswer (tableOf slots))) (putStored slots name) ⌝ }
-    ensures table { λ r. ⌜ tableOf (r .slots) ≡ putTable (tableOf slots) name ⌝ }
+pub extern "C" fn kv_put_slot(slots: Slots, name: Name, parent: u64) -> SlotsOutcome
+    ensures stored { λ r. ⌜ r ≡ slotsOutcome (outcomeOf (putAnswer (tableOf slots) (parentFor parent))) (putStored slots name (parentFor parent)) ⌝ }
+    ensures table { λ r. ⌜ tableOf (r .slots) ≡ putTable (tableOf slots) name (parentFor parent) ⌝ }
 {
-    slots_c::put_slot(slots, name)
+    slots_c::put_slot(slots, name, parent)
 }
 
-// Document 02, request 12: a slot is freed.
+// Document 02, requests 12 and 13: a slot and all that descend from it are freed.
 #[no_mangle]
 pub extern "C" fn kv_drop_slot(slots: Slots, number: u64) -> SlotsOutcome
     ensures stored { λ r. ⌜ r ≡ slotsOutcome (outcomeOf (dropAnswer (tableOf slots) number)) (dropStored slots number) ⌝ }

@@ -2,18 +2,18 @@
 -- is that of the live slots, and a digit set or cleared is a slot taken or freed.
 -- Assumes nothing.
 use mathlib.Core.Path.{_≡_, refl, sym, ap, ap₂, _∙_}
-use mathlib.Core.Bool.{Bool, _&&_}
+use mathlib.Core.Bool.{Bool, true, false, cond, _&&_}
 use mathlib.Core.List.{List, [], _∷_, map}
 use Prim.Native.Nat.{ℕ, zero, suc, _+_, _-_, _*_, _/_, _%_, _^_, _≤_, _<_}
-use native.Mathlib.Nat.{pow-suc, mod-lt, mod-eq-of-lt, zero-lt-suc}
+use native.Mathlib.Nat.{lt-of-lt-of-le, pow-suc, mod-lt, mod-eq-of-lt, zero-lt-suc}
 use native.Mathlib.Omega.{arith}
 use borrow.Author.Tests.{lt-ltb}
-use lib.Bits.{bitAnd, bitOr, or-mod, or-shr, or-zero-r, and-mod, and-shr, and-mask}
+use lib.Bits.{bitAnd, bitOr, or-mod, or-shr, or-zero-r, and-mod, and-shr}
 use lib.Count.{ones, ones-step, trailingZeros, under}
 use lib.Dec.{eqb}
 use lib.ListN.{length, getD, set, replicate, length-map}
-use lib.Pow.{pow-pos, pow-lt, pow-add, shr-shr, low, field, mod-mod-pow}
-use Rattle.slot_rules.specs.Table.{hasDigit, Slot, free, holding, slotOf, slotsFrom, lowestFree, liveCount}
+use lib.Pow.{pow-pos, pow-mono, pow-lt, pow-add, shr-shr, low, field, mod-mod-pow}
+use Rattle.slot_rules.specs.Table.{hasDigit, Slot, free, holding, slotOf, slotsFrom, lowestFree, liveCount, freed, digit, countGone, wordGone}
 
 -- a list has the length of what is mapped from it
 pub length-mapped : (X Y : Type 0) (f : X → Y) (l : List X) (n : ℕ) → length (map f l) ≡ n → length l ≡ n
@@ -139,43 +139,59 @@ put-law (y ∷ held) w (suc i) x h =
     (or-shr w (2 ^ suc i) 1 ∙ ap (bitOr (w / 2)) half)
     ∙ ap (λ (s : List (Slot _)). slotOf (w % 2) y ∷ s) (put-law held (w / 2) i x (omega arith))
 
--- ---- a digit cleared
+-- ---- digits cleared
 
-and-one : (d : ℕ) → d < 2 → bitAnd d 1 ≡ d
-and-one zero h = refl
-and-one (suc zero) h = refl
-and-one (suc (suc d)) h = absurd (omega arith)
+-- the digit of a slot that goes is cleared, any other kept
+cleared : (d : ℕ) (b : Bool) → d < 2 → bitAnd d (1 - digit b) ≡ cond b 0 d
+cleared zero true h = refl
+cleared zero false h = refl
+cleared (suc zero) true h = refl
+cleared (suc zero) false h = refl
+cleared (suc (suc d)) b h = absurd (omega arith)
 
-and-none : (d : ℕ) → d < 2 → bitAnd d 0 ≡ 0
-and-none zero h = refl
-and-none (suc zero) h = refl
-and-none (suc (suc d)) h = absurd (omega arith)
+pub digit-lt : (b : Bool) → digit b < 2
+digit-lt true = omega arith
+digit-lt false = omega arith
 
-pub drop-law : {X : Type 0} (held : List X) (w i : ℕ) → w < 2 ^ length held → i < length held
-    → slotsFrom (bitAnd w ((2 ^ length held - 1) - 2 ^ i)) held ≡ set (slotsFrom w held) i free
-unfolding slotsFrom
-drop-law [] w i b h = absurd (omega arith)
-drop-law (y ∷ held) w zero b h =
+pub word-lt : (goes : ℕ → Bool) (at n : ℕ) → wordGone goes at n < 2 ^ n
+unfolding wordGone
+word-lt goes at zero = omega arith
+word-lt goes at (suc n) =
+    let h = word-lt goes (suc at) n in
+    let e = pow-suc 2 n in
+    let d = digit-lt (goes at) in
+    omega arith
+
+slot-cond : {X : Type 0} (x : X) (b : Bool) (d : ℕ) → slotOf (cond b 0 d) x ≡ cond b free (slotOf d x)
+slot-cond x true d = refl
+slot-cond x false d = refl
+
+pub freed-law : {X : Type 0} (goes : ℕ → Bool) (held : List X) (w at : ℕ)
+    → slotsFrom (bitAnd w ((2 ^ length held - 1) - wordGone goes at (length held))) held ≡ freed goes at (slotsFrom w held)
+unfolding slotsFrom freed wordGone
+freed-law goes [] w at = refl
+freed-law goes (y ∷ held) w at =
     let k = length held in
+    let g = wordGone goes (suc at) k in
+    let b = word-lt goes (suc at) k in
     let e = pow-suc 2 k in
-    let p = pow-pos k in
-    let even : ((2 ^ suc k - 1) - 1) % 2 ≡ 0 = omega arith in
-    let half : ((2 ^ suc k - 1) - 1) / 2 ≡ 2 ^ k - 1 = omega arith in
+    let d = digit-lt (goes at) in
+    let odd : ((2 ^ suc k - 1) - (g * 2 + digit (goes at))) % 2 ≡ 1 - digit (goes at) = omega arith in
+    let half : ((2 ^ suc k - 1) - (g * 2 + digit (goes at))) / 2 ≡ (2 ^ k - 1) - g = omega arith in
     ap₂ (λ (d v : ℕ). slotOf d y ∷ slotsFrom v held)
-    (and-mod w ((2 ^ suc k - 1) - 1) 1 ∙ ap (bitAnd (w % 2)) even ∙ and-none (w % 2) (mod-lt w (zero-lt-suc 1)))
-    (and-shr w ((2 ^ suc k - 1) - 1) 1 ∙ ap (bitAnd (w / 2)) half ∙ and-mask (w / 2) k ∙ mod-eq-of-lt (half-lt k w b))
-drop-law (y ∷ held) w (suc i) b h =
-    let k = length held in
-    let e = pow-suc 2 k in
-    let f = pow-suc 2 i in
-    let q : i < k = omega arith in
-    let l = pow-lt q in
-    let odd : ((2 ^ suc k - 1) - 2 ^ suc i) % 2 ≡ 1 = omega arith in
-    let half : ((2 ^ suc k - 1) - 2 ^ suc i) / 2 ≡ (2 ^ k - 1) - 2 ^ i = omega arith in
-    ap₂ (λ (d v : ℕ). slotOf d y ∷ slotsFrom v held)
-    (and-mod w ((2 ^ suc k - 1) - 2 ^ suc i) 1 ∙ ap (bitAnd (w % 2)) odd ∙ and-one (w % 2) (mod-lt w (zero-lt-suc 1)))
-    (and-shr w ((2 ^ suc k - 1) - 2 ^ suc i) 1 ∙ ap (bitAnd (w / 2)) half)
-    ∙ ap (λ (s : List (Slot _)). slotOf (w % 2) y ∷ s) (drop-law held (w / 2) i (half-lt k w b) q)
+    (and-mod w ((2 ^ suc k - 1) - (g * 2 + digit (goes at))) 1 ∙ ap (bitAnd (w % 2)) odd ∙ cleared (w % 2) (goes at) (mod-lt w (zero-lt-suc 1)))
+    (and-shr w ((2 ^ suc k - 1) - (g * 2 + digit (goes at))) 1 ∙ ap (bitAnd (w / 2)) half)
+    ∙ ap₂ (λ (s : Slot _) (t : List (Slot _)). s ∷ t) (slot-cond y (goes at) (w % 2)) (freed-law goes held (w / 2) (suc at))
+
+pub count-law : (goes : ℕ → Bool) (at n : ℕ) → ones (wordGone goes at n) ≡ countGone goes at n
+unfolding wordGone countGone ones
+count-law goes at zero = refl
+count-law goes at (suc n) =
+    let g = wordGone goes (suc at) n in
+    let d = digit-lt (goes at) in
+    let odd : (g * 2 + digit (goes at)) % 2 ≡ digit (goes at) = omega arith in
+    let half : (g * 2 + digit (goes at)) / 2 ≡ g = omega arith in
+    ones-step (g * 2 + digit (goes at)) ∙ ap₂ (λ (x y : ℕ). x + ones y) odd half ∙ ap (λ (x : ℕ). digit (goes at) + x) (count-law goes (suc at) n)
 
 -- ---- a digit read
 
@@ -187,6 +203,26 @@ at-law (y ∷ held) w zero d h =
 at-law (y ∷ held) w (suc i) d h =
     let e : 1 + i ≡ suc i = omega arith in
     at-law held (w / 2) i d (omega arith) ∙ ap (λ (v : ℕ). slotOf (v % 2) (getD held i d)) (shr-shr w 1 i ∙ ap (λ (j : ℕ). w / 2 ^ j) e)
+
+-- ---- the word of those that go, from the highest slot down
+
+pub word-step : (goes : ℕ → Bool) (s : ℕ) → 0 < s → s ≤ 64 → wordGone goes (s - 1) (64 - (s - 1)) ≡ wordGone goes s (64 - s) * 2 + digit (goes (s - 1))
+unfolding wordGone
+word-step goes zero p l = absurd (omega arith)
+word-step goes (suc k) p l =
+    let e : suc k - 1 ≡ k = omega arith in
+    let f : 64 - k ≡ suc (64 - suc k) = omega arith in
+    ap₂ (wordGone goes) e (ap (λ (j : ℕ). 64 - j) e ∙ f) ∙ ap (λ (j : ℕ). wordGone goes (suc k) (64 - suc k) * 2 + digit (goes j)) (sym e)
+
+pub word-fits : (goes : ℕ → Bool) (s : ℕ) → 0 < s → wordGone goes s (64 - s) < 2 ^ 63
+word-fits goes s p = let l : 64 - s ≤ 63 = omega arith in lt-of-lt-of-le (word-lt goes s (64 - s)) (pow-mono l)
+
+-- ---- numbers that agree on what goes
+
+pub word-same : (f g : ℕ → Bool) → ((s : ℕ) → f s ≡ g s) → (at n : ℕ) → wordGone f at n ≡ wordGone g at n
+unfolding wordGone
+word-same f g e at zero = refl
+word-same f g e at (suc n) = ap₂ (λ (b : Bool) (u : ℕ). u * 2 + digit b) (e at) (word-same f g e (suc at) n)
 
 -- no digit set: all slots are free
 pub empty-law : {X : Type 0} (held : List X) → slotsFrom 0 held ≡ replicate (length held) free

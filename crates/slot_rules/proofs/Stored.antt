@@ -1,148 +1,196 @@
--- What the operations on a stored table come to in the table that it holds.
+-- What the operations on stored slots come to in the table that they hold.
 -- Assumes nothing.
-use mathlib.Core.Path.{_≡_, refl, sym, ap, _∙_}
-use mathlib.Core.Bool.{Bool, true, false, _&&_, cond}
-use mathlib.Core.List.{List, []}
-use Prim.Native.Nat.{ℕ, zero, suc, _-_, _/_, _%_, _^_, _≤_, _<_}
-use native.Mathlib.Decide.{decLt}
-use native.Mathlib.Nat.{mod-lt, zero-lt-suc}
+use mathlib.Core.Path.{_≡_, refl, sym, ap, ap₂, _∙_}
+use mathlib.Core.Bool.{Bool, true, false}
+use mathlib.Core.List.{List}
+use Prim.Native.Nat.{ℕ, _-_, _^_, _≤_, _<_}
 use native.Mathlib.Omega.{arith}
-use borrow.Author.Tests.{lt-ltb, le-ltb, ltb-true}
+use borrow.Author.Tests.{ltb-true, ne-eqb}
 use lib.Bits.{bitAnd, bitOr}
 use lib.Count.{ones, trailingZeros}
 use lib.Dec.{ltb, eqb}
-use lib.ListN.{length, getD, set, List·getD-eq-default}
-use Rattle.slices.proofs.Truth.{and-left}
-use Rattle.refusal.specs.Checks.{Reason, Check, pass, refuse, bare, unless}
-use Rattle.refusal.specs.Answers.{wrote, refused}
-use Rattle.refusal.proofs.Passing.{test-passed, test-holds}
+use lib.ListN.{length, set}
+use Rattle.refusal.specs.Checks.{Reason, Check, pass, refuse, bare, unless, _andThen_}
+use Rattle.refusal.specs.Answers.{Answer, wrote, refused, answerTo}
+use Rattle.refusal.proofs.Passing.{before-passed, last-passed, test-passed, test-holds}
 use Rattle.slot_rules.specs.declared.Name.{Name}
 use Rattle.slot_rules.specs.declared.Slots.{Slots}
-use Rattle.slot_rules.specs.Table.{hasDigit, Slot, free, holding, slotOf, slotsFrom, lowestFree, liveCount, isHolding, isLive}
-use Rattle.slot_rules.specs.Calls.{check46, check47, putAnswer, putTable, dropAnswer, dropTable}
-use Rattle.slot_rules.specs.Stored.{tableOf, taking, freeing, putStored, dropStored}
-use Rattle.slot_rules.proofs.Digits.{length-slots, lowest-law, live-law, put-law, drop-law, at-law}
+use Rattle.slot_rules.specs.declared.Parent.{Parent}
+use Rattle.slot_rules.specs.declared.Parent.the-variants.{Root, Below}
+use Rattle.slot_rules.specs.Table.{hasDigit, holding, slotsFrom, lowestFree, liveCount, isLive, freed, countGone, wordGone}
+use Rattle.slot_rules.specs.Parents.{Key, goesWith, parentLive, rootNear}
+use Rattle.slot_rules.specs.Calls.{afterCheck, check46, check47, check48, check49, putCheck, putAnswer, putTable, dropAnswer, dropTable}
+use Rattle.slot_rules.specs.Stored.{tableOf, parentOf, byteOf, keysOf, taking, freeing, putStored, goneIn, dropStored}
+use Rattle.slot_rules.specs.Internal.{stepFrom, stepIn, reachesBy, rootWithinTwoBy}
+use Rattle.slot_rules.proofs.Digits.{put-law, freed-law, count-law, word-same}
+use Rattle.slot_rules.proofs.Steps.{table, keys, below, keys-set, same-ways}
+use Rattle.slot_rules.proofs.Steps
 
 -- a test that fails refuses
 test-fails : (t : Bool) (x : Reason) → t ≡ false → unless t x ≡ refuse x
 unfolding unless
 test-fails t x e = rw e
 
-held-digit : {X : Type 0} (x : X) (d : ℕ) → d < 2 → isHolding (slotOf d x) ≡ eqb d 1
-held-digit x zero h = refl
-held-digit x (suc zero) h = refl
-held-digit x (suc (suc d)) h = absurd (omega arith)
+-- no parent passes both tests
+pub root-checked : (s : Slots) → pass ≡ (check48 (tableOf s) Root andThen check49 (tableOf s) Root)
+unfolding check48 check49 unless _andThen_
+root-checked s = refl
 
-no-name : Name
-no-name = record { bytes = [] }
+-- a parent that is none or a live slot fits a byte, which holds it
+module _ (p : Parent) (h : (q : ℕ) → p ≡ Below q → q < 64) where
+  pub byte-back : parentOf (byteOf p) ≡ p
+  byte-back = go p h
+    where
+      go : (p : Parent) → ((q : ℕ) → p ≡ Below q → q < 64) → parentOf (byteOf p) ≡ p
+      go Root h = refl
+      go (Below q) h =
+          let l : q < 64 = h q refl in
+          let t : eqb q 255 ≡ false = ne-eqb q 255 (λ (z : q ≡ 255). omega arith) in
+          simp t
 
--- slots as they are stored: a word of 64 digits and 64 names
-module _ (s : Slots) (b : s .taken < 2 ^ 64) (l : length (s .names) ≡ 64) where
-  bound : s .taken < 2 ^ length (s .names)
-  bound = rw l b
+  pub byte-fits : byteOf p < 256
+  byte-fits = go p h
+    where
+      go : (p : Parent) → ((q : ℕ) → p ≡ Below q → q < 64) → byteOf p < 256
+      go Root h = omega arith
+      go (Below q) h = let l : q < 64 = h q refl in omega arith
 
-  pub size : length (tableOf s) ≡ 64
-  size = length-slots (s .names) (s .taken) ∙ l
-
+-- slots as they are stored: a word of 64 digits, 64 names, 64 parents
+module _ (s : Slots) (b : s .taken < 2 ^ 64) (l : length (s .names) ≡ 64) (m : length (s .parents) ≡ 64) where
   pub counted : ones (s .taken) ≡ liveCount (tableOf s)
-  counted = live-law (s .names) (s .taken) bound
+  counted = Steps.counted (s .taken) (s .names) (s .parents) b l m
 
   pub lowest : trailingZeros 64 ((2 ^ 64 - 1) - s .taken) ≡ lowestFree (tableOf s)
-  lowest = rw l at (lowest-law (s .names) (s .taken) bound)
+  unfolding table keys
+  lowest = Steps.lowest (s .taken) (s .names) (s .parents) b l m
+
+  size : length (tableOf s) ≡ 64
+  unfolding table keys
+  size = Steps.long (s .taken) (s .names) (s .parents) b l m
+
+  pub live : (n : ℕ) → isLive (tableOf s) n ≡ hasDigit (s .taken) n
+  unfolding table keys
+  live n = Steps.live-of (s .taken) (s .names) (s .parents) b l m n
+
+  pub live-below : (n : ℕ) → isLive (tableOf s) n ≡ true → n < 64
+  live-below n e = below (s .taken) n (sym (live n) ∙ e)
+
+  keys-size : length (keysOf (s .names) (s .parents)) ≡ 64
+  unfolding keys
+  keys-size = Steps.size (s .taken) (s .names) (s .parents) b l m
+
+  keys-inside : (i : ℕ) → i < 64 → i < length (keysOf (s .names) (s .parents))
+  keys-inside i h = let z = keys-size in omega arith
 
   -- 46 asks for a slot below 64
   pub full : check46 (tableOf s) ≡ unless (ltb (lowestFree (tableOf s)) 64) (bare 46)
   unfolding check46
   full = ap (λ (n : ℕ). unless (ltb (lowestFree (tableOf s)) n) (bare 46)) size
 
-  live-in : (n : ℕ) → Dec (n < 64) → isLive (tableOf s) n ≡ hasDigit (s .taken) n
-  live-in n (yes h) =
-      let inside : n < length (s .names) = omega arith in
-      let test : ltb n 64 ≡ true = lt-ltb n 64 h in
-      ap isHolding (at-law (s .names) (s .taken) n no-name inside)
-      ∙ held-digit _ (s .taken / 2 ^ n % 2) (mod-lt (s .taken / 2 ^ n) (zero-lt-suc 1))
-      ∙ simp test
-  live-in n (no g) =
-      let z = size in
-      let past : length (tableOf s) ≤ n = omega arith in
-      let test : ltb n 64 ≡ false = le-ltb n 64 (omega arith) in
-      ap isHolding (List·getD-eq-default (tableOf s) free past) ∙ simp test
+  -- ---- a put
 
-  pub live : (n : ℕ) → isLive (tableOf s) n ≡ hasDigit (s .taken) n
-  live n = live-in n (decLt n 64)
+  pub near : (p : ℕ) → rootNear (tableOf s) (Below p) ≡ rootWithinTwoBy (s .taken) (s .parents) p
+  unfolding table keys
+  near p = Steps.near-of (s .taken) (s .names) (s .parents) b l m p
 
-  pub live-below : (n : ℕ) → isLive (tableOf s) n ≡ true → n < 64
-  live-below n e = ltb-true n 64 (and-left (ltb n 64) (eqb (s .taken / 2 ^ n % 2) 1) (sym (live n) ∙ e))
+  pub parent-checked : (p : ℕ)
+      → (unless (hasDigit (s .taken) p) (bare 48) andThen unless (rootWithinTwoBy (s .taken) (s .parents) p) (bare 49))
+      ≡ (check48 (tableOf s) (Below p) andThen check49 (tableOf s) (Below p))
+  unfolding check48 check49
+  parent-checked p = sym (ap₂ (λ (x y : Bool). unless x (bare 48) andThen unless y (bare 49)) (live p) (near p))
 
-  pub put-stored : (x : Name) → tableOf (putStored s x) ≡ putTable (tableOf s) x
+  module _ (p : Parent) (e : putCheck (tableOf s) p ≡ pass) where
+    pub room : lowestFree (tableOf s) < 64
+    unfolding putCheck
+    room = ltb-true _ _ (test-passed _ _ (sym full ∙ last-passed (check48 (tableOf s) p andThen check49 (tableOf s) p) _ e))
+
+    parent-lives : parentLive (tableOf s) p ≡ true
+    unfolding putCheck check48
+    parent-lives = test-passed _ _ (before-passed (check48 (tableOf s) p) (check49 (tableOf s) p) (before-passed (check48 (tableOf s) p andThen check49 (tableOf s) p) (check46 (tableOf s)) e))
+
+    pub parent-below : (q : ℕ) → p ≡ Below q → q < 64
+    parent-below q z = live-below q (sym (ap (parentLive (tableOf s)) z) ∙ parent-lives)
+
+  pub put-stored : (x : Name) (p : Parent) → tableOf (putStored s x p) ≡ putTable (tableOf s) x p
   unfolding putStored putTable
-  put-stored x = go (check46 (tableOf s)) refl
+  put-stored x p = go (putCheck (tableOf s) p) refl
     where
-      go : (c : Check) → check46 (tableOf s) ≡ c → tableOf (putStored s x) ≡ putTable (tableOf s) x
+      go : (c : Check) → putCheck (tableOf s) p ≡ c → tableOf (putStored s x p) ≡ putTable (tableOf s) x p
       go pass e =
-          let test : ltb (lowestFree (tableOf s)) 64 ≡ true = test-passed _ _ (sym full ∙ e) in
-          let h : lowestFree (tableOf s) < 64 = ltb-true _ _ test in
+          let i : ℕ = lowestFree (tableOf s) in
+          let h : lowestFree (tableOf s) < 64 = room p e in
           let inside : lowestFree (tableOf s) < length (s .names) = omega arith in
-          simp e (put-law (s .names) (s .taken) (lowestFree (tableOf s)) x inside)
+          simp e
+          (ap (slotsFrom (bitOr (s .taken) (2 ^ i))) (keys-set (s .names) (s .parents) i x (byteOf p) (l ∙ sym m) inside)
+          ∙ put-law (keysOf (s .names) (s .parents)) (s .taken) i (record { name = x; parent = parentOf (byteOf p) }) (keys-inside i h)
+          ∙ ap (λ (q : Parent). set (tableOf s) i (holding (record { name = x; parent = q }))) (byte-back p (parent-below p e)))
       go (refuse y) e = simp e
 
+  -- ---- a drop
+
+  -- the word of those that reach a live slot by the steps of this list
+  pub gone-live : (n : ℕ) (steps : List ℕ) → hasDigit (s .taken) n ≡ true → ((j : ℕ) → stepIn steps j ≡ stepFrom (s .taken) (s .parents) j)
+      → wordGone (reachesBy (stepIn steps) n) 0 64 ≡ goneIn s n
+  unfolding goneIn check47 table keys
+  gone-live n steps e f =
+      word-same _ _ (λ j. same-ways (stepIn steps) (stepFrom (s .taken) (s .parents)) f n j
+      ∙ sym (Steps.goes-of (s .taken) (s .names) (s .parents) b l m n j e)) 0 64
+      ∙ sym (ap (λ (c : Check). afterCheck c (wordGone (goesWith (tableOf s) n) 0 64) 0) (test-holds _ _ (live n ∙ e)))
+
+  pub gone-none : (n : ℕ) → hasDigit (s .taken) n ≡ false → 0 ≡ goneIn s n
+  unfolding goneIn check47
+  gone-none n e = sym (ap (λ (c : Check). afterCheck c (wordGone (goesWith (tableOf s) n) 0 64) 0) (test-fails _ _ (live n ∙ e)))
+
+  gone-by : (n : ℕ) → check47 (tableOf s) n ≡ pass → goneIn s n ≡ wordGone (goesWith (tableOf s) n) 0 64
+  unfolding goneIn
+  gone-by n e = rw e
+
   pub drop-stored : (n : ℕ) → tableOf (dropStored s n) ≡ dropTable (tableOf s) n
-  unfolding dropStored dropTable check47
+  unfolding dropStored dropTable
   drop-stored n = go (check47 (tableOf s) n) refl
     where
       go : (c : Check) → check47 (tableOf s) n ≡ c → tableOf (dropStored s n) ≡ dropTable (tableOf s) n
       go pass e =
-          let h : n < 64 = live-below n (test-passed _ _ e) in
-          let inside : n < length (s .names) = omega arith in
-          simp e (rw l at (drop-law (s .names) (s .taken) n bound inside))
+          simp e
+          (ap (λ (g : ℕ). slotsFrom (bitAnd (s .taken) ((2 ^ 64 - 1) - g)) (keysOf (s .names) (s .parents))) (gone-by n e)
+          ∙ rw keys-size at (freed-law (goesWith (tableOf s) n) (keysOf (s .names) (s .parents)) (s .taken) 0))
       go (refuse y) e = simp e
 
-  -- ---- the cases of a put and of a drop
+  pub drop-count : (n : ℕ) → isLive (tableOf s) n ≡ true → wrote (ones (goneIn s n)) ≡ dropAnswer (tableOf s) n
+  unfolding dropAnswer check47
+  drop-count n e =
+      let c : check47 (tableOf s) n ≡ pass = test-holds _ _ e in
+      ap wrote (ap ones (gone-by n c) ∙ count-law (goesWith (tableOf s) n) 0 64 ∙ ap (countGone (goesWith (tableOf s) n) 0) (sym size))
+      ∙ sym (ap (λ (d : Check). answerTo d (countGone (goesWith (tableOf s) n) 0 (length (tableOf s)))) c)
 
-  room : (i : ℕ) → i ≡ lowestFree (tableOf s) → i < 64 → check46 (tableOf s) ≡ pass
-  room i e h = full ∙ test-holds _ _ (ap (λ (n : ℕ). ltb n 64) (sym e) ∙ lt-ltb i 64 h)
+-- ---- the other cases of the calls
 
-  no-room : (i : ℕ) → i ≡ lowestFree (tableOf s) → 64 ≤ i → check46 (tableOf s) ≡ refuse (bare 46)
-  no-room i e h = full ∙ test-fails _ _ (ap (λ (n : ℕ). ltb n 64) (sym e) ∙ le-ltb i 64 h)
-
-  pub put-number : (i : ℕ) → i ≡ lowestFree (tableOf s) → i < 64 → wrote i ≡ putAnswer (tableOf s)
+module _ (s : Slots) (p : Parent) where
+  pub put-number : (i : ℕ) → i ≡ lowestFree (tableOf s) → putCheck (tableOf s) p ≡ pass → wrote i ≡ putAnswer (tableOf s) p
   unfolding putAnswer
-  put-number i e h = rw (room i e h) (ap wrote e)
+  put-number i e h = rw h (ap wrote e)
 
-  pub put-full : (i : ℕ) → i ≡ lowestFree (tableOf s) → 64 ≤ i → refused (bare 46) ≡ putAnswer (tableOf s)
+  pub put-none : (y : Reason) → putCheck (tableOf s) p ≡ refuse y → refused y ≡ putAnswer (tableOf s) p
   unfolding putAnswer
-  put-full i e h = rw (no-room i e h)
+  put-none y h = rw h
 
-  pub put-takes : (r : Slots) (i : ℕ) (x : Name) → i ≡ lowestFree (tableOf s) → i < 64 → r ≡ taking s i x → r ≡ putStored s x
+  pub put-takes : (r : Slots) (i : ℕ) (x : Name) → i ≡ lowestFree (tableOf s) → putCheck (tableOf s) p ≡ pass → r ≡ taking s i x p → r ≡ putStored s x p
   unfolding putStored
-  put-takes r i x e h q = rw (room i e h) (q ∙ ap (λ (n : ℕ). taking s n x) e)
+  put-takes r i x e h q = rw h (q ∙ ap (λ (n : ℕ). taking s n x p) e)
 
-  pub put-leaves : (i : ℕ) (x : Name) → i ≡ lowestFree (tableOf s) → 64 ≤ i → s ≡ putStored s x
+  pub put-leaves : (y : Reason) (x : Name) → putCheck (tableOf s) p ≡ refuse y → s ≡ putStored s x p
   unfolding putStored
-  put-leaves i x e h = rw (no-room i e h)
+  put-leaves y x h = rw h
 
--- a slot that is live or not
 module _ (s : Slots) (n : ℕ) where
-  known : isLive (tableOf s) n ≡ true → check47 (tableOf s) n ≡ pass
-  unfolding check47
-  known e = test-holds _ _ e
-
-  unknown : isLive (tableOf s) n ≡ false → check47 (tableOf s) n ≡ refuse (bare 47)
-  unfolding check47
-  unknown e = test-fails _ _ e
-
-  pub drop-number : isLive (tableOf s) n ≡ true → wrote n ≡ dropAnswer (tableOf s) n
-  unfolding dropAnswer
-  drop-number e = rw (known e)
-
   pub drop-none : isLive (tableOf s) n ≡ false → refused (bare 47) ≡ dropAnswer (tableOf s) n
-  unfolding dropAnswer
-  drop-none e = rw (unknown e)
+  unfolding dropAnswer check47
+  drop-none e = rw (test-fails (isLive (tableOf s) n) (bare 47) e)
 
-  pub drop-frees : (r : Slots) → isLive (tableOf s) n ≡ true → r ≡ freeing s n → r ≡ dropStored s n
-  unfolding dropStored
-  drop-frees r e q = rw (known e) q
+  pub drop-frees : (r : Slots) → isLive (tableOf s) n ≡ true → r ≡ freeing s (goneIn s n) → r ≡ dropStored s n
+  unfolding dropStored check47
+  drop-frees r e q = rw (test-holds (isLive (tableOf s) n) (bare 47) e) q
 
   pub drop-leaves : isLive (tableOf s) n ≡ false → s ≡ dropStored s n
-  unfolding dropStored
-  drop-leaves e = rw (unknown e)
+  unfolding dropStored check47
+  drop-leaves e = rw (test-fails (isLive (tableOf s) n) (bare 47) e)

@@ -1,28 +1,49 @@
 -- Laws of a table of slots, whatever a slot holds.
 -- Assumes nothing.
-use mathlib.Core.Path.{_≡_, refl, ap}
-use mathlib.Core.Bool.{Bool, true, false, false≢true}
+use mathlib.Core.Path.{_≡_, refl, sym, ap, _∙_}
+use mathlib.Core.Bool.{Bool, true, false, cond, false≢true}
 use mathlib.Core.List.{List, [], _∷_}
-use Prim.Native.Nat.{ℕ, zero, suc, _≤_, _<_}
+use Prim.Native.Nat.{ℕ, zero, suc, _+_, _≤_, _<_}
 use native.Mathlib.Omega.{arith}
 use lib.ListN.{length, getD, set, replicate}
-use Rattle.slot_rules.specs.Table.{Slot, free, holding, lowestFree, liveCount, isHolding, isLive}
+use Rattle.slot_rules.specs.Table.{Slot, free, holding, lowestFree, liveCount, isHolding, isLive, freed, countGone, digit}
 
 module _ {X : Type 0} where
-  -- a slot taken counts one more, a slot freed one less
+  -- a slot taken counts one more
   pub taken-more : (t : List (Slot X)) (x : X) → lowestFree t < length t → liveCount (set t (lowestFree t) (holding x)) ≡ suc (liveCount t)
   unfolding lowestFree liveCount
   taken-more [] x h = absurd (omega arith)
   taken-more (free ∷ t) x h = refl
   taken-more (holding y ∷ t) x h = ap suc (taken-more t x (omega arith))
 
-  pub freed-less : (t : List (Slot X)) (n : ℕ) → isLive t n ≡ true → liveCount t ≡ suc (liveCount (set t n free))
-  unfolding liveCount
-  freed-less [] n e = let z : _≡_ {A = Bool} false true = e in absurd (false≢true z)
-  freed-less (free ∷ t) zero e = absurd (false≢true e)
-  freed-less (holding y ∷ t) zero e = refl
-  freed-less (free ∷ t) (suc n) e = freed-less t n e
-  freed-less (holding y ∷ t) (suc n) e = ap suc (freed-less t n e)
+  -- freed slots that were live are counted once
+  pub freed-less : (goes : ℕ → Bool) (at : ℕ) (t : List (Slot X)) → ((i : ℕ) → goes (at + i) ≡ true → isHolding (getD t i free) ≡ true)
+      → liveCount (freed goes at t) + countGone goes at (length t) ≡ liveCount t
+  unfolding freed countGone liveCount
+  freed-less goes at [] h = refl
+  freed-less goes at (x ∷ t) h =
+      let ih = freed-less goes (suc at) t (λ i e. let q : at + suc i ≡ suc at + i = omega arith in h (suc i) (ap goes q ∙ e)) in
+      go x (goes at) (λ e. let q : at + 0 ≡ at = omega arith in h 0 (ap goes q ∙ e)) ih
+    where
+      go : (x : Slot X) (b : Bool) → (b ≡ true → isHolding x ≡ true)
+          → liveCount (freed goes (suc at) t) + countGone goes (suc at) (length t) ≡ liveCount t
+          → liveCount (cond b free x ∷ freed goes (suc at) t) + (digit b + countGone goes (suc at) (length t)) ≡ liveCount (x ∷ t)
+      go free true f ih = absurd (false≢true (f refl))
+      go free false f ih = omega arith
+      go (holding k) true f ih = omega arith
+      go (holding k) false f ih = omega arith
+
+  -- what stands in a slot after some went
+  pub freed-at : (goes : ℕ → Bool) (at : ℕ) (t : List (Slot X)) (s : ℕ) → getD (freed goes at t) s free ≡ cond (goes (at + s)) free (getD t s free)
+  unfolding freed
+  freed-at goes at [] s = go (goes (at + s))
+    where
+      go : (b : Bool) → _≡_ {A = Slot X} free (cond b free free)
+      go true = refl
+      go false = refl
+  freed-at goes at (x ∷ t) zero = let e : at + 0 ≡ at = omega arith in ap (λ (i : ℕ). cond (goes i) free x) (sym e)
+  freed-at goes at (x ∷ t) (suc s) =
+      let e : suc at + s ≡ at + suc s = omega arith in freed-at goes (suc at) t s ∙ ap (λ (i : ℕ). cond (goes i) free (getD t s free)) e
 
   -- the lowest free slot is free, and those below it are taken
   pub lowest-none : (t : List (Slot X)) → getD t (lowestFree t) free ≡ free

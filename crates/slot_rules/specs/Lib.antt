@@ -1,4 +1,6 @@
 pub mod Table
+pub mod Parents
 pub mod Calls
 pub mod Stored
 pub mod Statements
+pub mod Internal

@@ -1,85 +1,111 @@
--- What is proved of the calls on slots (document 02, request 12), whatever a slot holds. The proofs are in proofs/.
+-- What is proved of the calls on slots (document 02, requests 12 and 13). The proofs are in proofs/.
 -- Assumes nothing.
 use Prim.Native.Nat.{ℕ, _+_, _<_}
 use mathlib.Core.Path.{_≡_}
-use mathlib.Core.Bool.{true, false}
+use mathlib.Core.Bool.{Bool, true, false}
 use mathlib.Core.List.{List, [], _∷_}
 use lib.ListN.{length, getD, replicate}
 use Rattle.refusal.specs.Checks.{bare}
 use Rattle.refusal.specs.Answers.{Answer, wrote, refused}
+use Rattle.slot_rules.specs.declared.Name.{Name}
+use Rattle.slot_rules.specs.declared.Parent.{Parent}
+use Rattle.slot_rules.specs.declared.Parent.the-variants.{Root, Below}
 use Rattle.slot_rules.specs.Table.{Slot, free, lowestFree, liveCount, isLive, slotsFrom}
+use Rattle.slot_rules.specs.Parents.{Key, parentIn, goesWith, rootWithin, parentLive, rootNear}
 use Rattle.slot_rules.specs.Calls.{putAnswer, putTable, dropAnswer, dropTable}
 
--- 1 for an accepted call, 0 for a refused one
-abbrev pub accepted : Answer → ℕ
-accepted (wrote n) = 1
-accepted (refused x) = 0
+-- 64 slots, all free
+abbrev pub empty : {X : Type 0} → List (Slot X)
+empty = replicate 64 free
 
--- a call: something put, or a slot dropped by its number
-pub data Call (X : Type 0) : Type 0 where
-  puts : X → Call X
-  drops : ℕ → Call X
+-- a call: a name put below a parent, or a slot dropped by its number
+pub data Call : Type 0 where
+  puts : Name → Parent → Call
+  drops : ℕ → Call
 
-module _ {X : Type 0} where
-  -- 64 slots, all free
-  abbrev pub empty : List (Slot X)
-  empty = replicate 64 free
+-- the table after one call, and after calls in their order
+abbrev pub after : List (Slot Key) → Call → List (Slot Key)
+after t (puts x p) = putTable t x p
+after t (drops n) = dropTable t n
 
-  -- the table after one call, and after calls in their order
-  abbrev pub after : List (Slot X) → Call X → List (Slot X)
-  after t (puts x) = putTable t x
-  after t (drops n) = dropTable t n
+unfoldable pub afterAll : List (Slot Key) → List Call → List (Slot Key)
+afterAll t [] = t
+afterAll t (x ∷ calls) = afterAll (after t x) calls
 
-  unfoldable pub afterAll : List (Slot X) → List (Call X) → List (Slot X)
-  afterAll t [] = t
-  afterAll t (x ∷ calls) = afterAll (after t x) calls
+-- 1 for an accepted put; how many an accepted drop says went; 0 for a refusal
+abbrev pub onePut : Answer → ℕ
+onePut (wrote n) = 1
+onePut (refused x) = 0
 
-  -- how many puts are accepted along the calls, and how many drops
-  abbrev pub countPut : List (Slot X) → Call X → ℕ
-  countPut t (puts x) = accepted (putAnswer t)
-  countPut t (drops n) = 0
+abbrev pub gone : Answer → ℕ
+gone (wrote n) = n
+gone (refused x) = 0
 
-  abbrev pub countDrop : List (Slot X) → Call X → ℕ
-  countDrop t (puts x) = 0
-  countDrop t (drops n) = accepted (dropAnswer t n)
+abbrev pub putBy : List (Slot Key) → Call → ℕ
+putBy t (puts x p) = onePut (putAnswer t p)
+putBy t (drops n) = 0
 
-  unfoldable pub acceptedPuts : List (Slot X) → List (Call X) → ℕ
-  acceptedPuts t [] = 0
-  acceptedPuts t (x ∷ calls) = countPut t x + acceptedPuts (after t x) calls
+abbrev pub goneBy : List (Slot Key) → Call → ℕ
+goneBy t (puts x p) = 0
+goneBy t (drops n) = gone (dropAnswer t n)
 
-  unfoldable pub acceptedDrops : List (Slot X) → List (Call X) → ℕ
-  acceptedDrops t [] = 0
-  acceptedDrops t (x ∷ calls) = countDrop t x + acceptedDrops (after t x) calls
+unfoldable pub accepted : List (Slot Key) → List Call → ℕ
+accepted t [] = 0
+accepted t (x ∷ calls) = putBy t x + accepted (after t x) calls
 
--- from the empty table, after any calls: live slots and accepted drops together are the accepted puts
-abbrev pub LiveCount : Type 1
-LiveCount = (X : Type 0) (calls : List (Call X)) → liveCount (afterAll empty calls) + acceptedDrops empty calls ≡ acceptedPuts empty calls
+unfoldable pub went : List (Slot Key) → List Call → ℕ
+went t [] = 0
+went t (x ∷ calls) = goneBy t x + went (after t x) calls
 
--- a put is refused exactly when all slots are taken
-abbrev pub FullExactly : Type 1
-FullExactly =
-    (X : Type 0) (t : List (Slot X))
-    → (putAnswer t ≡ refused (bare 46) → liveCount t ≡ length t) × (liveCount t ≡ length t → putAnswer t ≡ refused (bare 46))
+-- from the empty table, after any calls: the live slots and all that went are the accepted puts
+abbrev pub LiveCount : Type 0
+LiveCount = (calls : List Call) → liveCount (afterAll empty calls) + went empty calls ≡ accepted empty calls
 
--- the slot that a put takes is free, and every lower one is taken
-abbrev pub LowestTaken : Type 1
+-- a table in which every live slot's parent is none or live, and a root is reached within three steps
+pub record Sound (t : List (Slot Key)) : Type 0 where
+  pub parents : (s : ℕ) → isLive t s ≡ true → parentLive t (parentIn (getD t s free)) ≡ true
+  pub roots : (s : ℕ) → isLive t s ≡ true → rootWithin 3 t (Below s) ≡ true
+
+-- from the empty table, after any calls
+abbrev pub AlwaysSound : Type 0
+AlwaysSound = (calls : List Call) → Sound (afterAll empty calls)
+
+-- of any table: a put is refused with 48 exactly when the parent is neither none nor live, with 49 exactly when it is but has no root near, and
+-- with 46 exactly when the parent will do and all slots are taken
+abbrev pub PutRefused : Type 0
+PutRefused =
+    (t : List (Slot Key)) (p : Parent)
+    → (putAnswer t p ≡ refused (bare 48) → parentLive t p ≡ false)
+    × (parentLive t p ≡ false → putAnswer t p ≡ refused (bare 48))
+    × (putAnswer t p ≡ refused (bare 49) → (parentLive t p ≡ true) × (rootNear t p ≡ false))
+    × (parentLive t p ≡ true → rootNear t p ≡ false → putAnswer t p ≡ refused (bare 49))
+    × (putAnswer t p ≡ refused (bare 46) → (parentLive t p ≡ true) × (rootNear t p ≡ true) × (liveCount t ≡ length t))
+    × (parentLive t p ≡ true → rootNear t p ≡ true → liveCount t ≡ length t → putAnswer t p ≡ refused (bare 46))
+
+-- the slot that a put takes is free, every lower one is taken, and no other slot changes
+abbrev pub LowestTaken : Type 0
 LowestTaken =
-    (X : Type 0) (t : List (Slot X)) (i : ℕ)
-    → putAnswer t ≡ wrote i
+    (t : List (Slot Key)) (p : Parent) (i : ℕ)
+    → putAnswer t p ≡ wrote i
     → (i < length t) × (isLive t i ≡ false) × ((j : ℕ) → j < i → isLive t j ≡ true)
 
+abbrev pub OthersStay : Type 0
+OthersStay = (t : List (Slot Key)) (x : Name) (p : Parent) (j : ℕ) → (j ≡ lowestFree t → ⊥) → getD (putTable t x p) j free ≡ getD t j free
+
 -- a drop is refused exactly when there is no such live slot
-abbrev pub NoSuchSlotExactly : Type 1
+abbrev pub NoSuchSlotExactly : Type 0
 NoSuchSlotExactly =
-    (X : Type 0) (t : List (Slot X)) (n : ℕ)
+    (t : List (Slot Key)) (n : ℕ)
     → (dropAnswer t n ≡ refused (bare 47) → isLive t n ≡ false) × (isLive t n ≡ false → dropAnswer t n ≡ refused (bare 47))
 
--- nothing but the named slot changes: in a put the slot taken, in a drop the slot dropped
-abbrev pub OthersStay : Type 1
-OthersStay =
-    (X : Type 0) (t : List (Slot X)) (x : X) (n j : ℕ)
-    → ((j ≡ lowestFree t → ⊥) → getD (putTable t x) j free ≡ getD t j free)
-    × ((j ≡ n → ⊥) → getD (dropTable t n) j free ≡ getD t j free)
+-- after an accepted drop the slots that go are free, the slot dropped among them, and no other slot changes
+abbrev pub DropExactly : Type 0
+DropExactly =
+    (t : List (Slot Key)) (n : ℕ)
+    → isLive t n ≡ true
+    → (goesWith t n n ≡ true)
+    × ((s : ℕ) → goesWith t n s ≡ true → getD (dropTable t n) s free ≡ free)
+    × ((s : ℕ) → goesWith t n s ≡ false → getD (dropTable t n) s free ≡ getD t s free)
 
 -- a word of zeros is the empty table, whatever stands in the slots
 abbrev pub ZerosAreEmpty : Type 1

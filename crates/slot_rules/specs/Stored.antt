@@ -1,27 +1,49 @@
--- How `Slots` holds a table of slots, and what each call leaves in it, the names of free slots included.
+-- How `Slots` holds a table of slots, and what each call leaves in it, the names and parents of free slots included.
 -- Assumes nothing.
 use Prim.Native.Nat.{ℕ, _-_, _^_}
-use mathlib.Core.List.{List}
+use mathlib.Core.Bool.{cond}
+use mathlib.Core.List.{List, [], _∷_}
 use lib.Bits.{bitAnd, bitOr}
+use lib.Dec.{eqb}
 use lib.ListN.{set}
 use Rattle.slot_rules.specs.declared.Name.{Name}
 use Rattle.slot_rules.specs.declared.Slots.{Slots}
-use Rattle.slot_rules.specs.Table.{Slot, slotsFrom, lowestFree}
-use Rattle.slot_rules.specs.Calls.{check46, check47, afterCheck}
+use Rattle.slot_rules.specs.declared.Parent.{Parent}
+use Rattle.slot_rules.specs.declared.Parent.the-variants.{Root, Below}
+use Rattle.slot_rules.specs.Table.{Slot, slotsFrom, lowestFree, wordGone}
+use Rattle.slot_rules.specs.Parents.{Key, goesWith}
+use Rattle.slot_rules.specs.Calls.{check47, putCheck, afterCheck}
 
-abbrev pub tableOf : Slots → List (Slot Name)
-tableOf s = slotsFrom (s .taken) (s .names)
+-- a byte as a parent, 255 for none, and a parent as a byte
+abbrev pub parentOf : ℕ → Parent
+parentOf b = cond (eqb b 255) Root (Below b)
 
--- slot i taken by a name: its digit is set, and the name stands in its place
-abbrev pub taking : Slots → ℕ → Name → Slots
-taking s i x = record { taken = bitOr (s .taken) (2 ^ i); names = set (s .names) i x }
+abbrev pub byteOf : Parent → ℕ
+byteOf Root = 255
+byteOf (Below n) = n
 
--- slot i freed: its digit is cleared, and nothing else changes
+unfoldable pub keysOf : List Name → List ℕ → List Key
+keysOf [] parents = []
+keysOf (x ∷ names) [] = []
+keysOf (x ∷ names) (p ∷ parents) = record { name = x; parent = parentOf p } ∷ keysOf names parents
+
+abbrev pub tableOf : Slots → List (Slot Key)
+tableOf s = slotsFrom (s .taken) (keysOf (s .names) (s .parents))
+
+-- slot i taken: its digit is set, and name and parent stand in their places
+abbrev pub taking : Slots → ℕ → Name → Parent → Slots
+taking s i x p = record { taken = bitOr (s .taken) (2 ^ i); names = set (s .names) i x; parents = set (s .parents) i (byteOf p) }
+
+-- the slots of a word freed: their digits are cleared, and nothing else changes
 abbrev pub freeing : Slots → ℕ → Slots
-freeing s i = record { taken = bitAnd (s .taken) ((2 ^ 64 - 1) - 2 ^ i); names = s .names }
+freeing s gone = record { taken = bitAnd (s .taken) ((2 ^ 64 - 1) - gone); names = s .names; parents = s .parents }
 
-unfoldable pub putStored : Slots → Name → Slots
-putStored s x = afterCheck (check46 (tableOf s)) (taking s (lowestFree (tableOf s)) x) s
+unfoldable pub putStored : Slots → Name → Parent → Slots
+putStored s x p = afterCheck (putCheck (tableOf s) p) (taking s (lowestFree (tableOf s)) x p) s
+
+-- the word of those that a drop takes; a refused drop takes none
+unfoldable pub goneIn : Slots → ℕ → ℕ
+goneIn s n = afterCheck (check47 (tableOf s) n) (wordGone (goesWith (tableOf s) n) 0 64) 0
 
 unfoldable pub dropStored : Slots → ℕ → Slots
-dropStored s n = afterCheck (check47 (tableOf s) n) (freeing s n) s
+dropStored s n = afterCheck (check47 (tableOf s) n) (freeing s (goneIn s n)) s

@@ -1,8 +1,8 @@
--- A table of slots (document 02, request 12), whatever a slot holds, and how a word tells which slots are taken. Slots are counted from 0, and
+-- A table of slots (document 02, requests 12 and 13), whatever a slot holds, and how a word tells which slots are taken. Slots are counted from 0, and
 -- slot 0 is the word's lowest binary digit.
 -- Assumes nothing.
-use Prim.Native.Nat.{ℕ, zero, suc, _/_, _%_, _^_}
-use mathlib.Core.Bool.{Bool, true, false, _&&_}
+use Prim.Native.Nat.{ℕ, zero, suc, _+_, _*_, _/_, _%_, _^_}
+use mathlib.Core.Bool.{Bool, true, false, cond, _&&_}
 use mathlib.Core.List.{List, [], _∷_}
 use lib.Dec.{ltb, eqb}
 use lib.ListN.{getD}
@@ -46,3 +46,21 @@ module _ {X : Type 0} where
   unfoldable pub slotsFrom : ℕ → List X → List (Slot X)
   slotsFrom taken [] = []
   slotsFrom taken (x ∷ held) = slotOf (taken % 2) x ∷ slotsFrom (taken / 2) held
+
+  -- the slots from number `at` on, with those freed that go
+  unfoldable pub freed : (ℕ → Bool) → ℕ → List (Slot X) → List (Slot X)
+  freed goes at [] = []
+  freed goes at (s ∷ slots) = cond (goes at) free s ∷ freed goes (suc at) slots
+
+-- how many of n slots from number `at` on go, and the word that has their digits set
+abbrev pub digit : Bool → ℕ
+digit true = 1
+digit false = 0
+
+unfoldable pub countGone : (ℕ → Bool) → ℕ → ℕ → ℕ
+countGone goes at zero = 0
+countGone goes at (suc n) = digit (goes at) + countGone goes (suc at) n
+
+unfoldable pub wordGone : (ℕ → Bool) → ℕ → ℕ → ℕ
+wordGone goes at zero = 0
+wordGone goes at (suc n) = wordGone goes (suc at) n * 2 + digit (goes at)

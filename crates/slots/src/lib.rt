@@ -1,17 +1,26 @@
-// Sixty-four slots for live keys, each free or holding the name of a key (document 02, request 12). The slots are passed by value: a call takes
-// them, and returns its answer by one function and the slots after it by another, so that no caller copies them to have both.
+// Sixty-four slots for live keys, each free or holding the name of a key and its parent (document 02, requests 12 and 13). The slots are passed by
+// value: a call takes them, and returns its answer by one function and the slots after it by another, so that no caller copies them to have both.
 ghost use mathlib.Core.Path.{_≡_};
+ghost use Prim.Native.Nat.{_<_};
+ghost use lib.Count.{ones};
+ghost use Rattle.refusal.specs.Answers.{checkedAs};
 ghost use Rattle.slot_rules.specs.Table.{lowestFree, liveCount, isLive};
-ghost use Rattle.slot_rules.specs.Calls.{putAnswer, putTable, dropAnswer, dropTable};
-ghost use Rattle.slot_rules.specs.Stored.{tableOf, putStored, dropStored};
+ghost use Rattle.slot_rules.specs.Calls.{putCheck, putAnswer, putTable, dropAnswer, dropTable};
+ghost use Rattle.slot_rules.specs.Stored.{tableOf, byteOf, putStored, dropStored};
 ghost use Rattle.slots.specs.Answers.{answerOf};
+use refusal::Checked;
 use refusal::Refusal;
+use refusal::then_check;
+use refusal::unless;
 use slot_rules::Name;
+use slot_rules::Parent;
 use slot_rules::Slots;
+use slot_tree::check_parent;
+use slot_tree::gone;
 use slot_words::has_digit;
 use slot_words::power;
 
-// What a call on the slots answers: a slot's number, or a refusal.
+// What a call on the slots answers: a put the number of its slot, a drop how many went; or a refusal.
 pub enum SlotAnswer {
     Number(u64),
     Refused(Refusal),
@@ -38,31 +47,66 @@ fn is_live(slots: Slots, number: u64) -> bool
     has_digit(slots.taken, number)
 }
 
-// What a put of a name answers.
-pub fn put_answer(slots: Slots) -> SlotAnswer
-    ensures { λ r. ⌜ answerOf r ≡ putAnswer (tableOf slots) ⌝ }
+// The byte that holds a parent.
+fn parent_byte(parent: Parent) -> u8
+    requires { ⌜ byteOf parent < 256 ⌝ }
+    ensures { λ r. ⌜ r ≡ byteOf parent ⌝ }
 {
-    let i = lowest_free(slots);
-    if i < 64 {
-        SlotAnswer::Number(i as u64)
-    } else {
-        SlotAnswer::Refused(Refusal::SlotsFull)
+    match parent {
+        Parent::Root => 255,
+        Parent::Below(p) => p as u8,
     }
 }
 
-// The slots after a put of a name.
-pub fn put_slots(slots: Slots, name: Name) -> Slots
-    ensures stored { λ r. ⌜ r ≡ putStored slots name ⌝ }
-    ensures table { λ r. ⌜ tableOf r ≡ putTable (tableOf slots) name ⌝ }
+// The tests of a put: those of its parent, and that a slot is free.
+fn check_put(slots: Slots, parent: Parent) -> Checked
+    ensures { λ r. ⌜ checkedAs r ≡ putCheck (tableOf slots) parent ⌝ }
 {
-    let at = lowest_free(slots);
+    then_check(
+        check_parent(slots, parent),
+        unless(lowest_free(slots) < 64, Refusal::SlotsFull),
+    )
+}
+
+// What a put of a name below a parent answers.
+pub fn put_answer(slots: Slots, parent: Parent) -> SlotAnswer
+    ensures { λ r. ⌜ answerOf r ≡ putAnswer (tableOf slots) parent ⌝ }
+{
+    let check = check_put(slots, parent);
+    match check {
+        Checked::Failed(why) => SlotAnswer::Refused(why),
+        Checked::Passed => {
+            let i = lowest_free(slots);
+            SlotAnswer::Number(i as u64)
+        }
+    }
+}
+
+// The slots after a put of a name below a parent.
+pub fn put_slots(slots: Slots, name: Name, parent: Parent) -> Slots
+    ensures stored { λ r. ⌜ r ≡ putStored slots name parent ⌝ }
+    ensures table { λ r. ⌜ tableOf r ≡ putTable (tableOf slots) name parent ⌝ }
+{
+    let check = check_put(slots, parent);
     let mut next = slots;
-    if at < 64 {
-        let place = at as usize;
-        next.taken = slots.taken | power(at as u64);
-        next.names[place] = name;
+    match check {
+        Checked::Failed(_) => {}
+        Checked::Passed => {
+            let at = lowest_free(slots);
+            let place = at as usize;
+            next.taken = slots.taken | power(at as u64);
+            next.names[place] = name;
+            next.parents[place] = parent_byte(parent);
+        }
     }
     next
+}
+
+// How many digits of a word are set.
+fn count(word: u64) -> u64
+    ensures { λ r. ⌜ r ≡ ones word ⌝ }
+{
+    u64::count_ones(word) as u64
 }
 
 // What a drop of a slot answers.
@@ -70,7 +114,8 @@ pub fn drop_answer(slots: Slots, number: u64) -> SlotAnswer
     ensures { λ r. ⌜ answerOf r ≡ dropAnswer (tableOf slots) number ⌝ }
 {
     if is_live(slots, number) {
-        SlotAnswer::Number(number)
+        let word = gone(slots, number);
+        SlotAnswer::Number(count(word))
     } else {
         SlotAnswer::Refused(Refusal::NoSuchSlot)
     }
@@ -83,7 +128,7 @@ pub fn drop_slots(slots: Slots, number: u64) -> Slots
 {
     let mut next = slots;
     if is_live(slots, number) {
-        next.taken = slots.taken & !power(number);
+        next.taken = slots.taken & !gone(slots, number);
     }
     next
 }

@@ -6,13 +6,14 @@ ghost use Rattle.slot_rules.specs.Table.{liveCount};
 ghost use Rattle.slot_rules.specs.Calls.{putAnswer, putTable, dropAnswer, dropTable};
 ghost use Rattle.slot_rules.specs.Stored.{tableOf, putStored, dropStored};
 ghost use Rattle.slots.specs.Answers.{answerOf};
-ghost use Rattle.slots_c.specs.Outcomes.{slotsOutcome};
+ghost use Rattle.slots_c.specs.Outcomes.{parentFor, slotsOutcome};
 use outcome::Outcome;
 use slot_rules::Name;
+use slot_rules::Parent;
 use slot_rules::Slots;
 use slots::SlotAnswer;
 
-// What a put and a drop return to C: 0 and the slot's number, or the refusal's number and 0; and the slots after the call.
+// What a put and a drop return to C: 0 and the slot's number or how many went, or the refusal's number and 0; and the slots after the call.
 #[repr(C)]
 pub struct SlotsOutcome {
     pub refusal: u32,
@@ -33,20 +34,32 @@ fn returned(answer: SlotAnswer) -> Outcome
     }
 }
 
-// A name is put into the lowest free slot.
-pub fn put_slot(slots: Slots, name: Name) -> SlotsOutcome
-    ensures stored { λ r. ⌜ r ≡ slotsOutcome (outcomeOf (putAnswer (tableOf slots))) (putStored slots name) ⌝ }
-    ensures table { λ r. ⌜ tableOf (r .slots) ≡ putTable (tableOf slots) name ⌝ }
+// A parent by its number in C.
+fn parent_for(number: u64) -> Parent
+    ensures { λ r. ⌜ r ≡ parentFor number ⌝ }
 {
-    let answer = returned(slots::put_answer(slots));
-    SlotsOutcome {
-        refusal: answer.refusal,
-        value: answer.value,
-        slots: slots::put_slots(slots, name),
+    if number == 0xffff_ffff_ffff_ffff {
+        Parent::Root
+    } else {
+        Parent::Below(number)
     }
 }
 
-// A slot is freed.
+// A name is put below a parent into the lowest free slot.
+pub fn put_slot(slots: Slots, name: Name, parent: u64) -> SlotsOutcome
+    ensures stored { λ r. ⌜ r ≡ slotsOutcome (outcomeOf (putAnswer (tableOf slots) (parentFor parent))) (putStored slots name (parentFor parent)) ⌝ }
+    ensures table { λ r. ⌜ tableOf (r .slots) ≡ putTable (tableOf slots) name (parentFor parent) ⌝ }
+{
+    let place = parent_for(parent);
+    let answer = returned(slots::put_answer(slots, place));
+    SlotsOutcome {
+        refusal: answer.refusal,
+        value: answer.value,
+        slots: slots::put_slots(slots, name, place),
+    }
+}
+
+// A slot and all that descend from it are freed.
 pub fn drop_slot(slots: Slots, number: u64) -> SlotsOutcome
     ensures stored { λ r. ⌜ r ≡ slotsOutcome (outcomeOf (dropAnswer (tableOf slots) number)) (dropStored slots number) ⌝ }
     ensures table { λ r. ⌜ tableOf (r .slots) ≡ dropTable (tableOf slots) number ⌝ }

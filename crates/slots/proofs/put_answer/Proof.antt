@@ -1,33 +1,45 @@
 -- `slots::put_answer` meets its contract.
 -- Assumes nothing.
 use borrow.Author.Needs.{needs}
-use mathlib.Core.Path.{_≡_}
-use Prim.Native.Nat.{_<_, _^_}
-use lib.ListN.{length}
-use Rattle.slot_rules.proofs.Digits.{length-mapped}
-use Rattle.slot_rules.proofs.Stored.{put-number, put-full}
+use mathlib.Core.Path.{sym, ap, _∙_}
+use Rattle.refusal.specs.Answers.{checkedAs}
+use Rattle.slot_rules.proofs.Stored.{put-number, put-none}
 use Rattle.slots.proofs.put_answer.Statement.{statement}
 use Rattle.slots.proofs.put_answer.Tie as tie
 
--- the slots at entry: a word of 64 digits and 64 names
-module _ (s : tie.Start) where
-  bits : s .args .slots .taken < 2 ^ 64
-  bits = search needs
+check-put-requires : tie.Need-check-put-requires
+check-put-requires c κs = search needs
 
-  long : length (s .args .slots .names) ≡ 64
-  long = search (needs, length-mapped)
+enum-known-check : tie.Need-enum-known-check
+enum-known-check c = search needs
+
+enum-told : tie.Need-enum-told
+enum-told c = search needs
 
 lowest-free-requires : tie.Need-lowest-free-requires
 lowest-free-requires c κs = search needs
 
-cast-t5 : tie.Need-cast-t5
-cast-t5 c = search needs
+cast-t7 : tie.Need-cast-t7
+cast-t7 c = search needs
 
 returns : tie.Need-returns
-returns c = let s = c .before .before in put-number (s .args .slots) (bits s) (long s) _ (c .before .lowest-free .ensures) (c .if1 .taken)
+returns c =
+    let a = c .before .before .before .before .args in
+    put-none (a .slots) (a .parent) _ (sym (c .before .before .before .check-put .ensures) ∙ ap checkedAs (c .before .check .given .1))
 
 returns-2 : tie.Need-returns-2
-returns-2 c = let s = c .before .before in put-full (s .args .slots) (bits s) (long s) _ (c .before .lowest-free .ensures) (c .if1 .left)
+returns-2 c =
+    let a = c .before .before .before .before .args in
+    put-number (a .slots) (a .parent) _ (c .lowest-free .ensures) (sym (c .before .before .before .check-put .ensures) ∙ ap checkedAs (c .before .enum-told .given .1))
 
 pub put-answer-spec : {M : Type 1} → statement M
-put-answer-spec = tie.close (tie.spec lowest-free-requires cast-t5 returns returns-2)
+put-answer-spec =
+    tie.close
+    (tie.spec
+    check-put-requires
+    enum-known-check
+    enum-told
+    lowest-free-requires
+    cast-t7
+    returns
+    returns-2)

@@ -3,9 +3,14 @@
 use borrow.Author.Needs.{needs}
 use mathlib.Core.Path.{ap, _∙_}
 use Rattle.outcome.specs.Outcomes.{outcomeOf}
+use Rattle.slot_rules.specs.Calls.{putAnswer, putTable}
+use Rattle.slot_rules.specs.Stored.{tableOf, putStored}
 use Rattle.slots_c.specs.Outcomes.{slotsOutcome}
 use Rattle.slots_c.proofs.put_slot.Statement.{statement}
 use Rattle.slots_c.proofs.put_slot.Tie as tie
+
+parent-for-requires : tie.Need-parent-for-requires
+parent-for-requires c κs = search needs
 
 put-answer-requires : tie.Need-put-answer-requires
 put-answer-requires c κs = search needs
@@ -18,10 +23,14 @@ put-slots-requires c κs = search needs
 
 returns : tie.Need-returns
 returns c =
+    let a = c .before .before .before .before .args in
+    let q = c .before .before .before .parent-for .ensures in
     let p = c .put-slots .ensures in
-    let e = c .before .returned .ensures ∙ ap outcomeOf (c .before .before .put-answer .ensures) in
-    (λ i. slotsOutcome (e i) (p .0 i), p .1)
+    let e = c .before .returned .ensures ∙ ap outcomeOf (c .before .before .put-answer .ensures ∙ ap (putAnswer (tableOf (a .slots))) q) in
+    let s = p .0 ∙ ap (putStored (a .slots) (a .name)) q in
+    (λ i. slotsOutcome (e i) (s i), p .1 ∙ ap (putTable (tableOf (a .slots)) (a .name)) q)
 
 pub put-slot-spec : {M : Type 1} → statement M
 put-slot-spec =
-    tie.close (tie.spec put-answer-requires returned-requires put-slots-requires returns)
+    tie.close
+    (tie.spec parent-for-requires put-answer-requires returned-requires put-slots-requires returns)

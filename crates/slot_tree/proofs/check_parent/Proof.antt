@@ -1,0 +1,76 @@
+-- `slot_tree::check_parent` meets its contract.
+-- Assumes nothing.
+use borrow.Author.Needs.{needs}
+use mathlib.Core.Bool.{Bool}
+use mathlib.Core.Path.{_≡_, ap, ap₂, _∙_}
+use Prim.Native.Nat.{_<_, _^_}
+use lib.ListN.{length}
+use Rattle.refusal.specs.Checks.{bare, unless, _andThen_}
+use Rattle.slot_rules.proofs.Digits.{length-mapped}
+use Rattle.slot_rules.proofs.Stored.{parent-checked, root-checked}
+use Rattle.slot_tree.proofs.check_parent.Statement.{statement}
+use Rattle.slot_tree.proofs.check_parent.Tie as tie
+
+-- the slots at entry: a word of 64 digits, 64 names, 64 parents
+module _ (s : tie.Start) where
+  bits : s .args .slots .taken < 2 ^ 64
+  bits = search needs
+
+  long : length (s .args .slots .names) ≡ 64
+  long = search (needs, length-mapped)
+
+  wide : length (s .args .slots .parents) ≡ 64
+  wide = search needs
+
+enum-told : tie.Need-enum-told
+enum-told c = search needs
+
+enum-known-parent : tie.Need-enum-known-parent
+enum-known-parent c = search needs
+
+has-digit-requires : tie.Need-has-digit-requires
+has-digit-requires c κs = search needs
+
+unless-requires : tie.Need-unless-requires
+unless-requires c κs = search needs
+
+slice-aggregate-root-within-two : tie.Need-slice-aggregate-root-within-two
+slice-aggregate-root-within-two c = search needs
+
+root-within-two-requires : tie.Need-root-within-two-requires
+root-within-two-requires c κs = search needs
+
+unless-requires-2 : tie.Need-unless-requires-2
+unless-requires-2 c κs = search needs
+
+then-check-requires : tie.Need-then-check-requires
+then-check-requires c κs = search needs
+
+returns : tie.Need-returns
+returns c = rw (c .enum-told .given .1) (root-checked (c .before .before .before .args .slots))
+
+returns-2 : tie.Need-returns-2
+returns-2 c =
+    let s = c .before .before .before .before .before .before .before .before .before .before in
+    let told = c .before .before .before .before .before .before .before .parent .given .1 in
+    rw told
+    (c .then-check .ensures
+    ∙ ap₂ _andThen_
+    (c .before .before .before .before .unless .ensures ∙ ap (λ (b : Bool). unless b (bare 48)) (c .before .before .before .before .before .has-digit .ensures))
+    (c .before .unless2 .ensures ∙ ap (λ (b : Bool). unless b (bare 49)) (c .before .before .root-within-two .ensures))
+    ∙ parent-checked (s .args .slots) (bits s) (long s) (wide s) _)
+
+pub check-parent-spec : {M : Type 1} → statement M
+check-parent-spec =
+    tie.close
+    (tie.spec
+    enum-told
+    enum-known-parent
+    has-digit-requires
+    unless-requires
+    slice-aggregate-root-within-two
+    root-within-two-requires
+    unless-requires-2
+    then-check-requires
+    returns
+    returns-2)
