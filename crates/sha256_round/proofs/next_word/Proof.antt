@@ -1,5 +1,7 @@
 -- `sha256_round::next_word` meets its contract: the sum of four, from its callees' answers.
 -- Assumes nothing.
+use mathlib.Core.Path.{_∙_}
+use Prim.Native.Nat.{_+_, _%_, _^_}
 use Rattle.fips180.specs.Sha256.{nextW}
 use borrow.Author.Needs.{needs}
 use Rattle.sha256_round.proofs.next_word.Statement.{statement}
@@ -16,7 +18,11 @@ add4-requires c κs = search needs
 
 returns : tie.Need-returns
 unfolding nextW
-returns c = cc
+returns c =
+    let a = c .before .before .before .args in
+    let first = c .before .before .small-sigma1 .ensures in
+    let third = c .before .small-sigma0 .ensures in
+    c .add4 .ensures ∙ (λ i. (first i + a .w7 + third i + a .w16) % 2 ^ 32)
 
 pub next-word-spec : {M : Type 1} → statement M
 next-word-spec =
