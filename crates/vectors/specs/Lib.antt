@@ -1,1 +1,2 @@
 pub mod Fips180Examples
+pub mod Sha1Examples
