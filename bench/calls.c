@@ -165,8 +165,15 @@ kv_key_attribute kv_read_key_attribute(const uint8_t *kek, size_t kek_len, const
     return found;
 }
 
+/* Whether two names agree: the bytes of the shorter, and in the longer a colon after them. */
+static int names_agree(const uint8_t *a, size_t a_len, const uint8_t *b, size_t b_len)
+{
+    size_t len = a_len < b_len ? a_len : b_len;
+    return memcmp(a, b, len) == 0 && (a_len == len || a[len] == ':') && (b_len == len || b[len] == ':');
+}
+
 /* Fills all of found but the refusal, which it returns. */
-static uint32_t walk(const uint8_t *area, size_t area_len, const uint8_t *own_name, size_t own_name_len, uint16_t *out, size_t out_len,
+static uint32_t walk(const uint8_t *area, size_t area_len, const uint8_t *own_name, size_t own_name_len, uint16_t *out, size_t out_len, int strict,
                      kv_area *found)
 {
     *found = (kv_area){0};
@@ -177,8 +184,10 @@ static uint32_t walk(const uint8_t *area, size_t area_len, const uint8_t *own_na
     if (out_len < 17)
         return KV_ROOM;
     while (pos < end) {
-        if (end - pos < 2 || pos[1] == 0 || end - pos < pos[1] * 4)
+        if (end - pos < 2 || pos[1] == 0 || end - pos < pos[1] * 4) {
+            found->at = (uint64_t)(pos - area);
             return KV_ATTRIBUTE_BOUNDS;
+        }
         switch (pos[0]) {
         case 24: /* AT_KDF */
             if (pos[1] != 1)
@@ -193,7 +202,7 @@ static uint32_t walk(const uint8_t *area, size_t area_len, const uint8_t *own_na
                 return KV_KDF_INPUT;
             for (const uint8_t *p = pos + 4 + len; p < pos + pos[1] * 4; p++)
                 if (*p)
-                    return KV_KDF_INPUT;
+                    return KV_KDF_INPUT_PADDING;
             if (name)
                 return KV_NETWORK_NAME;
             name = pos + 4;
@@ -209,20 +218,33 @@ static uint32_t walk(const uint8_t *area, size_t area_len, const uint8_t *own_na
         return KV_NETWORK_NAME;
     if (!count)
         return KV_OFFER_COUNT;
+    int same = names_agree(name, name_len, own_name, own_name_len);
+    if (strict && !same)
+        return KV_NETWORK_NAME_DIFFERS;
     memcpy(out, offers, count * sizeof offers[0]);
     found->offers = (uint32_t)count;
     found->name_at = (uint64_t)(name - area);
     found->name_len = name_len;
-    found->same_name = name_len == own_name_len && memcmp(name, own_name, own_name_len) == 0;
+    found->same_name = (uint32_t)same;
     return KV_ACCEPTED;
+}
+
+static kv_area read_area(const uint8_t *area, size_t area_len, const uint8_t *own_name, size_t own_name_len, uint16_t *out, size_t out_len, int strict)
+{
+    kv_area found;
+    uint32_t refusal = walk(area, area_len, own_name, own_name_len, out, out_len, strict, &found);
+    found.refusal = refusal;
+    return found;
 }
 
 kv_area kv_read_area(const uint8_t *area, size_t area_len, const uint8_t *own_name, size_t own_name_len, uint16_t *out, size_t out_len)
 {
-    kv_area found;
-    uint32_t refusal = walk(area, area_len, own_name, own_name_len, out, out_len, &found);
-    found.refusal = refusal;
-    return found;
+    return read_area(area, area_len, own_name, own_name_len, out, out_len, 1);
+}
+
+kv_area kv_read_area_lenient(const uint8_t *area, size_t area_len, const uint8_t *own_name, size_t own_name_len, uint16_t *out, size_t out_len)
+{
+    return read_area(area, area_len, own_name, own_name_len, out, out_len, 0);
 }
 
 /* ---- bundles, over no library at all */

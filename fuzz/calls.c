@@ -12,7 +12,8 @@
 #define LIST_REFUSALS (BIT(KV_OFFER_COUNT) | BIT(KV_REPEATED_OFFER))
 #define REPLY_REFUSALS (LIST_REFUSALS | BIT(KV_REPLY_IS_FIRST) | BIT(KV_REPLY_NOT_OFFERED))
 #define AREA_REFUSALS \
-    (BIT(KV_ATTRIBUTE_BOUNDS) | BIT(KV_KDF_LENGTH) | BIT(KV_KDF_INPUT) | BIT(KV_NETWORK_NAME) | BIT(KV_OFFER_COUNT))
+    (BIT(KV_ATTRIBUTE_BOUNDS) | BIT(KV_KDF_LENGTH) | BIT(KV_KDF_INPUT) | BIT(KV_KDF_INPUT_PADDING) | BIT(KV_NETWORK_NAME) | \
+     BIT(KV_OFFER_COUNT))
 #define FRAME_REFUSALS \
     (BIT(KV_KEY_ATTRIBUTE_LENGTH) | BIT(KV_ATTRIBUTE_TYPE) | BIT(KV_RESERVED_BYTE) | BIT(KV_ENC_TYPE) | BIT(KV_IV_FIELD))
 #define BUNDLE_REFUSALS \
@@ -58,7 +59,9 @@ const shape shapes[CALLS] = {
     [CHECK_RENEWED] = { .name = "kv_check_renewed", .slices = 2, VALUES, .counts = { OFFERS, { 2, 17 } }, .numbers = { 2 },
                         .refusals = REPLY_REFUSALS | BIT(KV_RENEWED_LIST) },
     [READ_AREA] = { .name = "kv_read_area", .slices = 2, BYTES, .counts = { { 8, MOST_BYTES }, ANY }, OUT_VALUES(17),
-                    .refusals = AREA_REFUSALS | BIT(KV_ROOM) },
+                    .refusals = AREA_REFUSALS | BIT(KV_NETWORK_NAME_DIFFERS) | BIT(KV_ROOM) },
+    [READ_AREA_LENIENT] = { .name = "kv_read_area_lenient", .slices = 2, BYTES, .counts = { { 8, MOST_BYTES }, ANY }, OUT_VALUES(17),
+                            .refusals = AREA_REFUSALS | BIT(KV_ROOM) },
     [WRITE_KEY_ATTRIBUTE] = { .name = "kv_write_key_attribute", .slices = 4, BYTES,
                               .counts = { SIXTEEN, SIXTEEN, SIXTEEN, { 16, 192 } }, .numbers = { 1, 4, 4 }, OUT_BYTES(252),
                               .refusals = BIT(KV_ATTRIBUTE_TYPE) | BIT(KV_ID_LENGTH) | BIT(KV_KEK_LENGTH) |
@@ -103,11 +106,11 @@ static void take_first_round(answer *given, kv_first_round r)
 static void take_area(answer *given, kv_area r)
 {
     given->refusal = r.refusal;
+    given->place = r.at;
     given->fields[0] = given->written = r.offers;
-    given->fields[1] = r.at;
-    given->fields[2] = r.name_at;
-    given->fields[3] = r.name_len;
-    given->fields[4] = r.same_name;
+    given->fields[1] = r.name_at;
+    given->fields[2] = r.name_len;
+    given->fields[3] = r.same_name;
 }
 
 static void take_key_attribute(answer *given, kv_key_attribute r)
@@ -170,6 +173,7 @@ static void call(const request *asked, void *const in[SLICES], void *out, answer
     case ANSWER_OFFER: take_outcome(given, kv_answer_offer(list, an, (uint16_t)numbers[0], out, room), 1); break;
     case CHECK_RENEWED: take_outcome(given, kv_check_renewed(list, an, (uint16_t)numbers[0], other, bn), 0); break;
     case READ_AREA: take_area(given, kv_read_area(a, an, b, bn, out, room)); break;
+    case READ_AREA_LENIENT: take_area(given, kv_read_area_lenient(a, an, b, bn, out, room)); break;
     case WRITE_KEY_ATTRIBUTE:
         take_outcome(given, kv_write_key_attribute((uint8_t)numbers[0], (uint32_t)numbers[1], a, an, b, bn, (uint32_t)numbers[2], c, cn,
                                                    d, dn, out, room), 1);
@@ -194,11 +198,25 @@ static void expect_label_place(const request *asked, uint64_t place)
         expect(bytes[i] >= 32 && bytes[i] <= 126, asked, "a byte before its place is bad");
 }
 
-/* Checks the place that a refusal carries: 3 has one, and the others have none. */
+/* Checks that a place is that of the attribute at which a walk of the area stops: the first without a length byte, of length 0, or past the
+ * end. */
+static void expect_attribute_place(const request *asked, uint64_t place)
+{
+    const slice area = asked->in[0];
+    const uint8_t *bytes = area.values;
+    size_t at = 0;
+    while (area.count - at >= 2 && bytes[at + 1] != 0 && 4 * (size_t)bytes[at + 1] <= area.count - at)
+        at += 4 * (size_t)bytes[at + 1];
+    expect(at < area.count && place == at, asked, "its place is not that of the attribute that is not within the area");
+}
+
+/* Checks the place that a refusal carries: 3 and 16 have one, and the others have none. */
 static void expect_place(const request *asked, const answer *given)
 {
     if (given->refusal == KV_LABEL_BYTE)
         expect_label_place(asked, given->place);
+    else if (given->refusal == KV_ATTRIBUTE_BOUNDS)
+        expect_attribute_place(asked, given->place);
     else
         expect(given->place == 0, asked, "a place with a refusal that carries none");
 }

@@ -86,7 +86,7 @@ static void mark(const request *asked, uint32_t refusal)
     mark_size(asked, answered, ROOM, asked->room);
     for (int i = 0; i < NUMBERS; i++)
         mark_size(asked, answered, NUMBER + i, asked->numbers[i]);
-    if (asked->call == READ_AREA)
+    if (asked->call == READ_AREA || asked->call == READ_AREA_LENIENT)
         mark_area(asked->in[0], answered);
 }
 

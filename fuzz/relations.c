@@ -234,18 +234,42 @@ static void check_offers(const request *asked, const answer *given)
     expect(found == given->written && within(1, found, MOST_OFFERS), asked, "another count of offers");
 }
 
+/* The length of the field that begins at an offset of a name. */
+static size_t field_at(slice name, size_t at)
+{
+    size_t end = at;
+    while (end < name.count && ((const uint8_t *)name.values)[end] != ':')
+        end++;
+    return end - at;
+}
+
+/* Whether two names agree, field by field, to the end of the one with fewer. */
+static int names_agree(slice a, slice b)
+{
+    for (size_t at = 0;;) {
+        size_t in_a = field_at(a, at), in_b = field_at(b, at);
+        if (in_a != in_b || !same((const uint8_t *)a.values + at, (const uint8_t *)b.values + at, in_a))
+            return 0;
+        at += in_a;
+        if (at == a.count || at == b.count)
+            return 1;
+        at++;
+    }
+}
+
 static void check_area(const request *asked, const answer *given)
 {
     const slice area = asked->in[0], own = asked->in[1];
     const uint8_t *bytes = area.values;
-    const uint64_t name_at = given->fields[2], name_len = given->fields[3], same_name = given->fields[4];
-    expect(given->fields[1] == 0, asked, "accepted with a place");
+    const uint64_t name_at = given->fields[1], name_len = given->fields[2], same_name = given->fields[3];
+    expect(given->place == 0, asked, "accepted with a place");
     check_offers(asked, given);
     expect(within(4, name_at, area.count) && name_len <= area.count - name_at, asked, "the name is not in the area");
     expect(bytes[name_at - 4] == AT_KDF_INPUT && (bytes[name_at - 2] << 8 | bytes[name_at - 1]) == (int)name_len, asked,
            "the name is not that of an AT_KDF_INPUT");
-    int equal = own.count == name_len && same(own.values, bytes + name_at, name_len);
-    expect(same_name == (uint64_t)equal, asked, "does not tell whether the name is the peer's own");
+    int agree = names_agree((slice){ bytes + name_at, name_len }, own);
+    expect(same_name == (uint64_t)agree, asked, "does not tell whether the name agrees with the peer's own");
+    expect(agree || asked->call == READ_AREA_LENIENT, asked, "a differing name is accepted");
 
     uint16_t offers[MOST_OFFERS];
     kv_area again = kv_read_area(bytes, area.count, bytes + name_at, name_len, offers, MOST_OFFERS);
@@ -350,7 +374,8 @@ void check_relations(const request *asked, const answer *given)
     case CHOOSE_OFFER: check_choice(asked, given); break;
     case ANSWER_OFFER: check_answer(asked, given); break;
     case CHECK_RENEWED: check_renewed(asked, given); break;
-    case READ_AREA: check_area(asked, given); break;
+    case READ_AREA:
+    case READ_AREA_LENIENT: check_area(asked, given); break;
     case WRITE_KEY_ATTRIBUTE: check_attribute(asked, given); break;
     case READ_KEY_ATTRIBUTE: check_opened(asked, given); break;
     case WRITE_BUNDLE: check_bundle(asked, given); break;

@@ -193,7 +193,7 @@ enum {
     KV_INTEGRITY = 28,              /* unwrapping does not yield the initial value A6 (eight times) */
 
     /* Document 02. A number whose request has not landed yet is given by no call. */
-    KV_KDF_INPUT_PADDING = 29,      /* AT_KDF_INPUT whose padding is not zero; 18 stays for a length that disagrees */
+    KV_KDF_INPUT_PADDING = 29,      /* AT_KDF_INPUT whose padding is not zero */
     KV_NETWORK_NAME_DIFFERS = 30,   /* a differing network name, where the caller does not ask for lenient reading */
     KV_DOMAIN_LABEL = 31,           /* a usage request under the EMSK with the label of the domain root key */
     KV_LABEL_SYNTAX = 32,           /* a label with a space, a comma, a second at-sign or one first or last; or over 64 bytes
@@ -335,8 +335,9 @@ KV_USE_RESULT kv_outcome kv_check_renewed(const uint16_t *original, size_t origi
                                           const uint16_t *renewed, size_t renewed_len);
 
 /* What reading an attribute area returns: the count of the offers written, the name's offset from the area's first byte,
- * its length in bytes, and whether it is byte for byte the peer's own name (1) or not (0). `at` is for the place that a
- * refusal carries; no refusal carries one yet, so it is always 0. On a refusal every field but `refusal` is 0. */
+ * its length in bytes, and whether it agrees with the peer's own name (1) or not (0). On refusal 16 `at` is the offset of the
+ * attribute that was met, from the area's first byte. Every other refusal, and acceptance, has `at` 0. On a refusal every
+ * other field but `refusal` is 0. */
 typedef struct {
     uint32_t refusal, offers;
     uint64_t at, name_at, name_len;
@@ -348,18 +349,30 @@ KV_LAYOUT(sizeof(kv_area) == 40 && offsetof(kv_area, at) == 8 && offsetof(kv_are
  * AT_KDF is type 24, AT_KDF_INPUT is type 23, and an attribute's length counts words of four bytes. Writes the offers in
  * order, 1 to 17 of them.
  *
+ * The network's name is compared with the peer's own by fields, as RFC 5448 has it: both are split at colons, the extra fields
+ * of the longer are dropped, and the rest must be equal. "FOO" agrees with "FOO:BAR". An empty name is one empty field, so it
+ * agrees with "" and with ":BAR", and not with "FOO:BAR".
+ *
+ * A name that differs is refused (30). kv_read_area_lenient reads the same and only reports it: what to do about it is then
+ * the caller's decision. An accepted answer of kv_read_area has `same_name` 1.
+ *
  * What is left to the caller:
  * - Attributes of every other type are stepped over, also of a type below 128. RFC 4187 has a peer refuse a message with
  *   an attribute below 128 that it does not know. That is the caller's act.
  * - A value may occur twice here; kv_choose_offer refuses that.
  * - An empty name is read like any other. Failing the login for it is the caller's act.
- * - A name that differs from the peer's own is only reported. What to do about it is the caller's decision.
  *
  * Refusals: first 6 `out` has no room for 17 values. Then attribute by attribute: 16 no length byte, length 0, or past the
- * area's end; 17 an AT_KDF whose length is not 1; 18 an AT_KDF_INPUT whose length disagrees with its name length, or whose
- * padding is not zero; 19 a second AT_KDF_INPUT; 10 an eighteenth AT_KDF. At the end: 19 no AT_KDF_INPUT; 10 no AT_KDF. */
+ * area's end, with the attribute's offset as `at`; 17 an AT_KDF whose length is not 1; 18 an AT_KDF_INPUT whose length
+ * disagrees with its name length; 29 one whose padding is not zero; 19 a second AT_KDF_INPUT; 10 an eighteenth AT_KDF. At the
+ * end: 19 no AT_KDF_INPUT; 10 no AT_KDF; 30 the name differs. */
 KV_USE_RESULT kv_area kv_read_area(const uint8_t *area, size_t area_len, const uint8_t *own_name, size_t own_name_len,
                                    uint16_t *out, size_t out_len);
+
+/* Reads an area as kv_read_area does, but a name that differs from the peer's own is only reported: `same_name` is then 0.
+ * Refusals: as those of kv_read_area, without 30. */
+KV_USE_RESULT kv_area kv_read_area_lenient(const uint8_t *area, size_t area_len, const uint8_t *own_name,
+                                           size_t own_name_len, uint16_t *out, size_t out_len);
 
 /* The RADIUS Key attribute (draft-zorn-radius-keywrap-03, section 3.1). Its key is wrapped under a KEK by RFC 3394 with
  * AES-128 (FIPS 197). By byte: 0 type, 1 length, 2 reserved (0), 3 Enc Type (0), 4 App ID, 8 KEK ID, 24 Key ID,

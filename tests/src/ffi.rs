@@ -155,6 +155,15 @@ extern "C" {
         out_len: usize,
     ) -> Area;
 
+    pub fn kv_read_area_lenient(
+        area: *const u8,
+        area_len: usize,
+        own_name: *const u8,
+        own_name_len: usize,
+        out: *mut u16,
+        out_len: usize,
+    ) -> Area;
+
     pub fn kv_write_key_attribute(
         kind: u8,
         app_id: u32,

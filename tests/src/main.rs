@@ -70,7 +70,7 @@ fn main() -> ExitCode {
         ["kv_check_renewed"] "kv_check_renewed" => cases::offers::recheck;
         ["kv_choose_offer", "kv_answer_offer", "kv_check_renewed"] "logins whose list or reply may be altered"
             => cases::offers::logins;
-        ["kv_read_area"] "kv_read_area" => cases::area::run;
+        ["kv_read_area", "kv_read_area_lenient"] "kv_read_area and kv_read_area_lenient" => cases::area::run;
         ["kv_write_key_attribute"] "kv_write_key_attribute" => cases::key_attribute::write;
         ["kv_read_key_attribute"] "kv_read_key_attribute" => cases::key_attribute::read;
         ["kv_write_key_attribute", "kv_read_key_attribute"] "key attributes, there and back"
@@ -96,7 +96,7 @@ fn tell_apart() {
     let lists = [
         ("kv_usage_key", cases::usage::APART),
         ("kv_answer_offer, kv_check_renewed", cases::offers::APART),
-        ("kv_read_area", cases::area::APART),
+        ("kv_read_area, kv_read_area_lenient", cases::area::APART),
         ("kv_read_key_attribute", cases::key_attribute::APART),
         ("kv_write_bundle", cases::bundle::WRITE_APART),
         ("kv_read_bundle", cases::bundle::READ_APART),

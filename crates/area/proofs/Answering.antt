@@ -2,7 +2,7 @@
 -- Assumes nothing.
 use Prim.Native.Nat.{ℕ, _≤_, _<_}
 use mathlib.Core.Path.{_≡_, refl, sym}
-use mathlib.Core.Bool.{true, false}
+use mathlib.Core.Bool.{Bool, true, false, not}
 use mathlib.Core.List.{List, [], _++_}
 use borrow.Author.Tests.{le-leb, lt-leb}
 use lib.ListN.{length, drop}
@@ -12,6 +12,15 @@ use Rattle.area_format.specs.declared.Name.the-variants.{Missing}
 use Rattle.area_format.specs.declared.Way.{Way}
 use Rattle.area_format.specs.declared.Way.the-variants.{Strict, Lenient}
 use Rattle.area.specs.Internal.{allowed}
+
+-- the test of the way, which the code makes the other way round
+pub was-false : (b : Bool) → not b ≡ true → b ≡ false
+was-false true e = sym e
+was-false false e = refl
+
+pub was-true : (b : Bool) → not b ≡ false → b ≡ true
+was-true true e = refl
+was-true false e = sym e
 
 -- what a way makes of a reading
 still-refused : (way : Way) (area own : List ℕ) (x : Reason) → judged way area own (refusal x) ≡ refusal x

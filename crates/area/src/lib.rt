@@ -190,17 +190,16 @@ pub fn read_area(area: &[u8], own_name: &[u8], way: Way, out: &mut [u16]) -> Are
         Walked::Stopped { why, at } => AreaRead::Refused(refusal_at(at, why)),
         Walked::Whole { count, at, len } => {
             let same_name = is_own_name(area, at, len, own_name);
-            if allows(way, same_name) {
-                copy_values(&kept[..count], out);
-                AreaRead::Read(Offered {
-                    count,
-                    name_at: at,
-                    name_len: len.0,
-                    same_name,
-                })
-            } else {
-                AreaRead::Refused(Refusal::NetworkNameDiffers)
+            if !allows(way, same_name) {
+                return AreaRead::Refused(Refusal::NetworkNameDiffers);
             }
+            copy_values(&kept[..count], out);
+            AreaRead::Read(Offered {
+                count,
+                name_at: at,
+                name_len: len.0,
+                same_name,
+            })
         }
     }
 }

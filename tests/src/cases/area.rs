@@ -5,7 +5,7 @@ use crate::bytes::Bytes;
 use crate::call::{Call, Expected, Group};
 use crate::ffi::{self, Area};
 use crate::guard::{machine_bytes, Lender};
-use crate::model::area::{ReadArea, AT_KDF, AT_KDF_INPUT, MOST_OFFERS};
+use crate::model::area::{ReadArea, Way, AT_KDF, AT_KDF_INPUT, MOST_OFFERS};
 use crate::model::Refusal;
 use crate::pairs::Apart;
 use crate::rng::Rng;
@@ -13,9 +13,11 @@ use crate::rng::Rng;
 /// The longest name that an AT_KDF_INPUT holds: 254 words.
 const LONGEST_NAME: usize = 1016;
 
-/// Every two numbers of 6, 16, 17, 18, 19, 10 can hold together, but not in each of their senses.
+/// Every two numbers of 6, 16, 17, 18, 29, 19, 10, 30 can hold together, but not in each of their senses.
 pub const APART: &[Apart] = &[
     (18, 19, "in its sense of no name: an AT_KDF_INPUT is there, though faulty"),
+    (29, 19, "in its sense of no name: an AT_KDF_INPUT is there, though faulty"),
+    (19, 30, "no name, or a second, so that none is compared"),
     (19, 19, "no name and a repeated one"),
     (10, 10, "no offer and an eighteenth one"),
 ];
@@ -36,7 +38,10 @@ impl Call for ReadArea {
                 },
                 written: machine_bytes(&contents.offers),
             },
-            Err(refusal) => Expected::nothing_written(Area { refusal, ..Area::default() }),
+            Err(refusal) => {
+                let at = self.place(refusal) as u64;
+                Expected::nothing_written(Area { refusal, at, ..Area::default() })
+            }
         }
     }
 
@@ -45,7 +50,16 @@ impl Call for ReadArea {
         let own_name = lender.bytes("own_name", &self.own_name);
         let out = lender.room_for_values(self.room);
         // SAFETY: all of it is lent.
-        unsafe { ffi::kv_read_area(area.pointer, area.len, own_name.pointer, own_name.len, out.pointer, out.len) }
+        unsafe {
+            match self.way {
+                Way::Strict => {
+                    ffi::kv_read_area(area.pointer, area.len, own_name.pointer, own_name.len, out.pointer, out.len)
+                }
+                Way::Lenient => {
+                    ffi::kv_read_area_lenient(area.pointer, area.len, own_name.pointer, own_name.len, out.pointer, out.len)
+                }
+            }
+        }
     }
 }
 
@@ -59,6 +73,15 @@ pub fn run(group: &mut Group) {
     refusals(group);
     long_areas(group);
     random_areas(group);
+    short_names(group);
+    long_names(group);
+}
+
+/// Compares a reading by both ways.
+fn compare(group: &mut Group, area: &Bytes, own_name: &Bytes, room: usize) {
+    for way in [Way::Strict, Way::Lenient] {
+        group.compare(&ReadArea { area: area.clone(), own_name: own_name.clone(), way, room });
+    }
 }
 
 /// An AT_KDF with this value.
@@ -96,7 +119,7 @@ fn offers(count: usize) -> Vec<u8> {
 
 /// Compares the reading of an area with room enough and the name WLN as the peer's own.
 fn read(group: &mut Group, area: &[u8]) {
-    group.compare(&ReadArea { area: area.into(), own_name: "WLN".into(), room: MOST_OFFERS });
+    compare(group, &area.into(), &"WLN".into(), MOST_OFFERS);
 }
 
 /// Each room, for an area with few offers, with 17, and for broken ones: 6 comes before everything else.
@@ -112,8 +135,7 @@ fn rooms(group: &mut Group) {
     for area in areas {
         for room in 0..=40 {
             for own_name in ["WLN", ""] {
-                let (area, own_name) = (area.clone().into(), own_name.into());
-                group.compare(&ReadArea { area, own_name, room });
+                compare(group, &area.clone().into(), &own_name.into(), room);
             }
         }
     }
@@ -140,7 +162,7 @@ fn names(group: &mut Group) {
         let start: Vec<u8> = (0..place).flat_map(|_| other(&mut group.rng, 3)).collect();
         let area: Bytes = [start, kdf_input(&name), kdf(1)].concat().into();
         for own_name in own_names(&mut group.rng, &name) {
-            group.compare(&ReadArea { area: area.clone(), own_name, room: 20 });
+            compare(group, &area, &own_name, 20);
         }
     }
 }
@@ -225,8 +247,8 @@ fn faulty_attributes() -> Vec<(Refusal, Vec<u8>)> {
         (17, vec![AT_KDF, 2, 0, 1, 0, 0, 0, 0]),
         (18, vec![AT_KDF_INPUT, 1, 0, 1]),
         (18, vec![AT_KDF_INPUT, 2, 0, 0, 0, 0, 0, 0]),
-        (18, vec![AT_KDF_INPUT, 2, 0, 3, 87, 76, 78, 1]),
-        (18, vec![AT_KDF_INPUT, 2, 0, 1, 87, 1, 0, 0]),
+        (29, vec![AT_KDF_INPUT, 2, 0, 3, 87, 76, 78, 1]),
+        (29, vec![AT_KDF_INPUT, 2, 0, 1, 87, 1, 0, 0]),
         (19, kdf_input(b"WLN")),
         (19, kdf_input(b"")),
         (10, offers(MOST_OFFERS + 1)),
@@ -262,9 +284,13 @@ fn double_faults() -> Vec<(Refusal, Vec<u8>)> {
         // 17 before 10: of wrong length, and the eighteenth
         (17, [&name[..], &offers(17), &[AT_KDF, 2, 0, 1, 0, 0, 0, 0]].concat()),
         (17, [&offers(17)[..], &[AT_KDF, 3, 0, 1], &[0; 8], &name].concat()),
-        // 18 before 19: a name length that disagrees, then padding, each in a second name
+        // 18 before 29: a name length that disagrees, and what follows the name is not zero
+        (18, [&kdf(1)[..], &[AT_KDF_INPUT, 3, 0, 3, 87, 76, 78, 1, 0, 0, 0, 0]].concat()),
+        // 18 and 29 before 19: a name length that disagrees, then padding, each in a second name
         (18, [&name[..], &kdf(1), &[AT_KDF_INPUT, 2, 0, 9, 0, 0, 0, 0]].concat()),
-        (18, [&name[..], &kdf(1), &[AT_KDF_INPUT, 2, 0, 1, 87, 0, 0, 1]].concat()),
+        (29, [&name[..], &kdf(1), &[AT_KDF_INPUT, 2, 0, 1, 87, 0, 0, 1]].concat()),
+        // 16 before 29: past the end, and padding that is not zero
+        (16, [&kdf(1)[..], &[AT_KDF_INPUT, 2, 0, 1, 87, 1, 1]].concat()),
         // 16 before 19 and 10 at the end of the walk
         (16, vec![9]),
         (16, vec![9, 0]),
@@ -272,6 +298,7 @@ fn double_faults() -> Vec<(Refusal, Vec<u8>)> {
         // 17 and 18 before 19 and 10 at the end of the walk
         (17, vec![AT_KDF, 2, 0, 1, 0, 0, 0, 0]),
         (18, vec![AT_KDF_INPUT, 1, 0, 1]),
+        (29, vec![AT_KDF_INPUT, 2, 0, 1, 87, 1, 0, 0]),
         // 19 repeated before 10 at the end of the walk
         (19, name.repeat(2)),
         // 10 in the walk before 19 at its end
@@ -307,9 +334,14 @@ fn refusals(group: &mut Group) {
 /// Compares the reading, which has to be refused by this number, and by 6 where there is room for 16 values only.
 fn refused(group: &mut Group, number: Refusal, parts: &[&[u8]]) {
     for (room, number) in [(MOST_OFFERS, number), (MOST_OFFERS - 1, 6), (0, 6)] {
-        let call = ReadArea { area: parts.concat().into(), own_name: "WLN".into(), room };
-        group.check(call.contents() == Err(number), || format!("{call:?} was made to be refused by {number}"));
-        group.compare(&call);
+        // a differing name changes nothing: 30 comes last
+        for own_name in ["WLN", "WLM"] {
+            for way in [Way::Strict, Way::Lenient] {
+                let call = ReadArea { area: parts.concat().into(), own_name: own_name.into(), way, room };
+                group.check(call.contents() == Err(number), || format!("{call:?} was made to be refused by {number}"));
+                group.compare(&call);
+            }
+        }
     }
 }
 
@@ -339,7 +371,7 @@ fn random_areas(group: &mut Group) {
         }
         let own_name = if rng.once_in(2) { name } else { rng.bytes(len) };
         let room = rng.between(16, 30);
-        group.compare(&ReadArea { area: area.into(), own_name: own_name.into(), room });
+        compare(group, &area.into(), &own_name.into(), room);
     }
 }
 
@@ -351,5 +383,34 @@ fn random_attribute(rng: &mut Rng) -> Vec<u8> {
             other(rng, words)
         }
         _ => rng.pick(&faulty_attributes()).1,
+    }
+}
+
+/// Every two names of up to five bytes over ":", "F" and "O", each as the network's and as the peer's own.
+fn short_names(group: &mut Group) {
+    let mut names: Vec<Vec<u8>> = vec![vec![]];
+    for from in 0..364 {
+        if names[from].len() < 5 {
+            for byte in *b":FO" {
+                names.push([&names[from][..], &[byte]].concat());
+            }
+        }
+    }
+    for name in &names {
+        let area: Bytes = [kdf(1), kdf_input(name)].concat().into();
+        for own_name in &names {
+            compare(group, &area, &own_name[..].into(), MOST_OFFERS);
+        }
+    }
+}
+
+/// The longest name, and own names that go on after it, with a colon and without; and an own name that is longer than any attribute holds.
+fn long_names(group: &mut Group) {
+    let name = vec![b'x'; LONGEST_NAME];
+    let area: Bytes = [kdf(1), kdf_input(&name)].concat().into();
+    for end in [&b""[..], b":", b":y", b"y", b"x", b"y:"] {
+        for more in [0, 1, 70_000] {
+            compare(group, &area, &[&name[..], end, &vec![b'z'; more]].concat()[..].into(), MOST_OFFERS);
+        }
     }
 }

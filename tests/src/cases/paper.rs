@@ -2,7 +2,7 @@
 
 use crate::bytes::hex;
 use crate::call::Group;
-use crate::model::area::ReadArea;
+use crate::model::area::{names_agree, ReadArea, Way};
 use crate::model::key_attribute::WriteKey;
 use crate::model::offers::{Answer, Choose, Recheck, Reply};
 use crate::model::prf::prf_plus;
@@ -14,6 +14,7 @@ pub fn run(group: &mut Group) {
     offers(group);
     key_lengths(group);
     listing(group);
+    names(group);
     primitives(group);
 }
 
@@ -73,10 +74,28 @@ fn key_lengths(group: &mut Group) {
 /// The area of the listing program.
 fn listing(group: &mut Group) {
     let area = hex("18 01 00 02 18 01 00 01 17 02 00 03 57 4C 4E 00").into();
-    let read = ReadArea { area, own_name: "".into(), room: 17 }.contents();
+    let read = ReadArea { area, own_name: "".into(), way: Way::Lenient, room: 17 }.contents();
     let right = read
         .is_ok_and(|found| found.offers == [2, 1] && found.name_at == 12 && found.name_len == 3 && !found.same_name);
     row(group, "the listing", right);
+}
+
+/// The names of document 02, request 4, and of RFC 5448's rule.
+fn names(group: &mut Group) {
+    let pairs = [
+        ("", "", true),
+        ("", ":", true),
+        ("", ":BAR", true),
+        ("", "FOO:BAR", false),
+        ("FOO:", "FOO", true),
+        ("FOO:", "FOO:BAR", false),
+        ("FOO", "FOO:BAR", true),
+        ("FOO", "FOOBAR", false),
+    ];
+    for (a, b, agree) in pairs {
+        let right = names_agree(a.as_bytes(), b.as_bytes()) == agree && names_agree(b.as_bytes(), a.as_bytes()) == agree;
+        row(group, &format!("names {a:?} and {b:?}"), right);
+    }
 }
 
 /// That the primitives are called as they should be: FIPS 180-4, RFC 4231 (case 2), RFC 3394 (4.1).

@@ -12,7 +12,7 @@ use lib.Seq.{length-take-le, take-all}
 use Rattle.area_format.specs.Area.{attributes, readOn, whole}
 use Rattle.area_format.specs.declared.Name.the-variants.{Missing}
 use Rattle.area.proofs.Names.{name-within}
-use Rattle.area.proofs.Answering.{too-little, refused-so, answered-so, differs-so}
+use Rattle.area.proofs.Answering.{too-little, refused-so, answered-so, differs-so, was-false, was-true}
 use Rattle.area.proofs.read_area.Statement.{statement}
 use Rattle.area.proofs.read_area.Tie as tie
 
@@ -56,8 +56,8 @@ array-share-prefix-kept c = let k = c .before .before .before .before in omega (
 copy-values-requires : tie.Need-copy-values-requires
 copy-values-requires c κs = search needs
 
-returns-2 : tie.Need-returns-2
-returns-2 c =
+returns-3 : tie.Need-returns-3
+returns-3 c =
     let k = c .before .before .before .before .before in
     let a = k .before .before .before .before .before .before .args in
     rw (c .refusal-at .ensures) (refused-so (a .way) (now (a .area)) (now (a .own-name)) (now (a .out)) (k .before .before .if1 .left) _ (rw (c .before .before .why .given .1) at (k .walk .ensures .1)))
@@ -65,22 +65,22 @@ returns-2 c =
 same-length : tie.Need-same-length
 same-length c = search needs
 
-returns-3 : tie.Need-returns-3
-returns-3 c =
+returns-4 : tie.Need-returns-4
+returns-4 c =
     let t = c .before .before .before .before .before in
     let k = t .before .before .before .before in
     let a = k .before .before .before .before .before .before .before .before .before .args in
     let room = k .before .before .before .before .before .if1 .left in
     let offers = take (k .count .given .0 .0) (k .before .before .before .walk .last .1 .0) in
     let all : take (length (now (a .out))) offers ≡ offers = take-all (length (now (a .out))) offers (omega (arith, few k, counted k, room)) in
-    let r = answered-so (a .way) (now (a .area)) (now (a .own-name)) (now (a .out)) room _ _ _ (read k) (rw (t .before .before .is-own-name .ensures) at (sym (t .before .allows .ensures) ∙ t .if2 .taken)) in
+    let r = answered-so (a .way) (now (a .area)) (now (a .own-name)) (now (a .out)) room _ _ _ (read k) (rw (t .before .before .is-own-name .ensures) at (sym (t .before .allows .ensures) ∙ was-true _ (t .if2 .left))) in
     (rw (t .before .before .is-own-name .ensures) (rw (counted k) at (r .0)), c .before .before .copy-values .ensures ∙ rw all (r .1))
 
-returns-4 : tie.Need-returns-4
-returns-4 c =
+returns-2 : tie.Need-returns-2
+returns-2 c =
     let k = c .before .before .before .before in
     let a = k .before .before .before .before .before .before .before .before .before .args in
-    differs-so (a .way) (now (a .area)) (now (a .own-name)) (now (a .out)) (k .before .before .before .before .before .if1 .left) _ _ _ (read k) (rw (c .before .before .is-own-name .ensures) at (sym (c .before .allows .ensures) ∙ c .if2 .left))
+    differs-so (a .way) (now (a .area)) (now (a .own-name)) (now (a .out)) (k .before .before .before .before .before .if1 .left) _ _ _ (read k) (rw (c .before .before .is-own-name .ensures) at (sym (c .before .allows .ensures) ∙ was-false _ (c .if2 .taken)))
 
 slice-aggregate-copy-values : tie.Need-slice-aggregate-copy-values
 slice-aggregate-copy-values c = sym (counted (c .before .before .before .before .before))
@@ -100,10 +100,10 @@ read-area-spec =
     enum-known-count
     is-own-name-requires
     allows-requires
+    returns-2
     array-share-prefix-kept
     slice-aggregate-copy-values
     copy-values-requires
-    returns-2
-    same-length
     returns-3
+    same-length
     returns-4)
