@@ -119,7 +119,7 @@
 #define KV_KEY_ATTRIBUTE_MORE 60  /* a Key attribute is so much longer than its key */
 #define KV_KEY_ATTRIBUTE_MAX 252
 #define KV_SLOTS 64               /* slots for live keys, numbered from 0 */
-#define KV_NO_PARENT UINT64_MAX   /* the parent of a root, as kv_put_slot takes it */
+#define KV_NO_PARENT (~(uint64_t)0) /* the parent of a root, as kv_put_slot takes it */
 
 /* The fixed labels, as texts of C: the length of one is its sizeof less 1. */
 #define KV_VRK_LABEL "EAP Visited domain Root Key"

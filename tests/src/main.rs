@@ -92,6 +92,7 @@ fn tell_apart() {
         ("kv_answer_offer, kv_check_renewed", cases::offers::APART),
         ("kv_read_area", cases::area::APART),
         ("kv_read_key_attribute", cases::key_attribute::APART),
+        ("kv_put_slot", cases::slots::APART),
     ];
     println!("pairs of refusals that cannot hold together (all others are tried):");
     for (calls, pairs) in lists {
