@@ -1,6 +1,7 @@
-/* What a yard controller does, call by call. It derives a siding's key and the keys of two domains, agrees with a handheld on a key derivation function,
- * reads the attribute area that carried the offers, and sends the siding's key to a neighbour as a RADIUS Key attribute, which
- * the neighbour opens. Each step prints its result; examples/siding.expected has what must be printed. */
+/* What a yard controller does, call by call. It derives a siding's key and the keys of two domains, agrees with a handheld on
+ * a key derivation function, reads the attribute area that carried the offers, sends the siding's key to a neighbour as a
+ * RADIUS Key attribute, which the neighbour opens, and keeps the names of the keys of a visited domain in slots until their
+ * EMSK expires. Each step prints its result; examples/siding.expected has what must be printed. */
 #include "ketvaulo.h"
 #include "ketvaulo_text.h"
 
@@ -123,6 +124,39 @@ static void send_key(const uint8_t key[32])
     printf("spoilt on the way: refused %u\n", (unsigned)got.refusal);
 }
 
+/* Keeps the name of a key in a slot, below the slot of the key that it was derived from. Returns its slot. */
+static uint64_t keep_key(kv_slots *slots, const char *key, const char *label, size_t label_len, uint64_t parent)
+{
+    static const uint8_t session_id[] = "login 0001";
+    kv_name name;
+    kv_outcome named = kv_key_name(session_id, sizeof session_id - 1, (const uint8_t *)label, label_len, name.bytes, sizeof name.bytes);
+    expect_accepted("kv_key_name", named.refusal);
+    kv_slots_outcome kept = kv_put_slot(*slots, name, parent);
+    expect_accepted("kv_put_slot", kept.refusal);
+    *slots = kept.slots;
+    printf("slot %u: %s, ", (unsigned)kept.value, key);
+    print_bytes("name", name.bytes, sizeof name.bytes);
+    return kept.value;
+}
+
+/* The keys of a visited domain hang below their EMSK: when that expires, one drop takes the names of all. The firmware wipes the keys
+ * themselves. A key below the V-rRK would be four steps from the EMSK, which is too deep. */
+static void keep_keys(void)
+{
+    static const char server[] = "server1" "yard.example";
+    kv_slots slots = { 0 };
+    uint64_t emsk = keep_key(&slots, "EMSK", "EMSK", 4, KV_NO_PARENT);
+    uint64_t vrk = keep_key(&slots, "VRK", KV_VRK_LABEL, sizeof KV_VRK_LABEL - 1, emsk);
+    uint64_t vmsk = keep_key(&slots, "VMSK", server, sizeof server - 1, vrk);
+    uint64_t v_rrk = keep_key(&slots, "V-rRK", KV_V_RRK_LABEL, sizeof KV_V_RRK_LABEL - 1, vmsk);
+    kv_name deeper = { { 0 } };
+    printf("below the V-rRK: refused %u\n", (unsigned)kv_put_slot(slots, deeper, v_rrk).refusal);
+
+    kv_slots_outcome dropped = kv_drop_slot(slots, emsk);
+    expect_accepted("kv_drop_slot", dropped.refusal);
+    printf("the EMSK expires: %u went, %u left\n", (unsigned)dropped.value, (unsigned)kv_live_slots(dropped.slots));
+}
+
 int main(void)
 {
     uint8_t emsk[64], key[32];
@@ -134,5 +168,6 @@ int main(void)
     negotiate();
     read_area();
     send_key(key);
+    keep_keys();
     return 0;
 }

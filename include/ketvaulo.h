@@ -128,7 +128,7 @@
 #define KV_BUNDLE_MAX 17410       /* the largest bundle */
 #define KV_BUNDLE_BODIES_MAX 16128 /* room for the attributes of any bundle, packed end to end */
 #define KV_SLOTS 64               /* slots for live keys, numbered from 0 */
-#define KV_NO_PARENT UINT64_MAX   /* the parent of a root, as kv_put_slot takes it */
+#define KV_NO_PARENT (~(uint64_t)0) /* the parent of a root, as kv_put_slot takes it */
 
 /* The fixed labels, as texts of C: the length of one is its sizeof less 1. */
 #define KV_VRK_LABEL "EAP Visited domain Root Key"

@@ -52,12 +52,13 @@ pub struct Name {
     pub bytes: [u8; 8],
 }
 
-/// Slots for live keys: a bit for each that is taken, and the names.
+/// Slots for live keys: a bit for each that is taken, the names, and the parents.
 #[repr(C)]
 #[derive(Clone, Copy, Debug, PartialEq)]
 pub struct Slots {
     pub taken: u64,
     pub names: [Name; 64],
+    pub parents: [u8; 64],
 }
 
 /// What a put and a drop answer: the slots after the call are in it.
@@ -193,7 +194,7 @@ extern "C" {
 
     pub fn kv_read_bundle(file: *const u8, file_len: usize, out: *mut u8, out_len: usize) -> Outcome;
 
-    pub fn kv_put_slot(slots: Slots, name: Name) -> SlotsOutcome;
+    pub fn kv_put_slot(slots: Slots, name: Name, parent: u64) -> SlotsOutcome;
 
     pub fn kv_drop_slot(slots: Slots, number: u64) -> SlotsOutcome;
 

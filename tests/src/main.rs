@@ -100,6 +100,7 @@ fn tell_apart() {
         ("kv_read_key_attribute", cases::key_attribute::APART),
         ("kv_write_bundle", cases::bundle::WRITE_APART),
         ("kv_read_bundle", cases::bundle::READ_APART),
+        ("kv_put_slot", cases::slots::APART),
     ];
     println!("pairs of refusals that cannot hold together (all others are tried):");
     for (calls, pairs) in lists {
