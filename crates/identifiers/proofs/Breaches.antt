@@ -62,9 +62,9 @@ twice b (x ∷ s) h =
     by-first b x
     (λ e. let m = count-hit b x s e in let r = has b s (omega (arith, h, m)) in (0, suc (r .0), omega arith, omega (arith, r .1), e, r .2))
     (λ e.
-        let m = count-miss b x s e in
-        let r = twice b s (omega (arith, h, m)) in
-        (suc (r .0), suc (r .1), omega (arith, r .2), omega (arith, r .3), r .4, r .5))
+    let m = count-miss b x s e in
+    let r = twice b s (omega (arith, h, m)) in
+    (suc (r .0), suc (r .1), omega (arith, r .2), omega (arith, r .3), r .4, r .5))
 
 -- each clause of the test
 or-left : (p q : Bool) → p ≡ true → (p || q) ≡ true
@@ -102,17 +102,17 @@ unfolding breaches
 a-breach label e =
     split-or (hasSpace label || hasComma label || longWithoutAt label || secondAt label || atFirst label) (atLast label) e
     (λ e₁.
-        split-or (hasSpace label || hasComma label || longWithoutAt label || secondAt label) (atFirst label) e₁
-        (λ e₂.
-            split-or (hasSpace label || hasComma label || longWithoutAt label) (secondAt label) e₂
-            (λ e₃.
-                split-or (hasSpace label || hasComma label) (longWithoutAt label) e₃
-                (λ e₄.
-                    split-or (hasSpace label) (hasComma label) e₄ (λ h. space (has 32 label (leb-true 1 (count 32 label) h)))
-                    (λ h. comma (has 44 label (leb-true 1 (count 44 label) h))))
-                (λ h. long label h))
-            (λ h. second-at (twice 64 label (leb-true 2 (count 64 label) h))))
-        (λ h. at-first (eqb-true (getD label 0 0) 64 h)))
+    split-or (hasSpace label || hasComma label || longWithoutAt label || secondAt label) (atFirst label) e₁
+    (λ e₂.
+    split-or (hasSpace label || hasComma label || longWithoutAt label) (secondAt label) e₂
+    (λ e₃.
+    split-or (hasSpace label || hasComma label) (longWithoutAt label) e₃
+    (λ e₄.
+    split-or (hasSpace label) (hasComma label) e₄ (λ h. space (has 32 label (leb-true 1 (count 32 label) h)))
+    (λ h. comma (has 44 label (leb-true 1 (count 44 label) h))))
+    (λ h. long label h))
+    (λ h. second-at (twice 64 label (leb-true 2 (count 64 label) h))))
+    (λ h. at-first (eqb-true (getD label 0 0) 64 h)))
     (λ h. at-last (eqb-true (getD label (length label - 1) 0) 64 h))
   where
     long : (label : List ℕ) → longWithoutAt label ≡ true → Breach label

@@ -4,7 +4,7 @@ use Prim.Native.Nat.{ℕ, zero, suc, _+_, _*_, _-_, _≤_, _<_}
 use mathlib.Core.Path.{_≡_, refl, sym, ap, _∙_}
 use mathlib.Core.Bool.{Bool, true, false, cond, _&&_, _||_}
 use mathlib.Core.List.{List, [], _∷_}
-use borrow.Author.Tests.{le-leb, eqb-true}
+use borrow.Author.Tests.{le-leb, eqb-true, eq-eqb, ne-eqb}
 use native.Mathlib.Numerals.{add-one}
 use native.Mathlib.Omega.{arith}
 use lib.Dec.{leb, eqb, lit≤}
@@ -14,6 +14,16 @@ use Rattle.refusal.specs.Checks.{Check, pass, bare, unless}
 use Rattle.identifiers.specs.Syntax.{count, atFirst, atLast, breaches, exempt}
 use Rattle.identifiers.specs.Checks.{check32}
 use Rattle.identifiers.specs.Internal.{mark, marks}
+
+-- the mark of a byte: an at-sign, a space or a comma, any other
+pub mark-at : (b : ℕ) → b ≡ 64 → 1 ≡ mark b
+mark-at b e = rw (eq-eqb b 64 e)
+
+pub mark-two : (b : ℕ) → (b ≡ 64 → ⊥) → (eqb b 32 || eqb b 44) ≡ true → 2 ≡ mark b
+mark-two b n e = rw (ne-eqb b 64 n, e)
+
+pub mark-none : (b : ℕ) → (b ≡ 64 → ⊥) → (eqb b 32 || eqb b 44) ≡ false → 0 ≡ mark b
+mark-none b n e = rw (ne-eqb b 64 n, e)
 
 pub mark-le : (b : ℕ) → mark b ≤ 2
 mark-le b = go (eqb b 64) (eqb b 32 || eqb b 44)
