@@ -180,7 +180,7 @@ enum {
     KV_RENEWED_LIST = 15,           /* renewed list is not the choice followed by the original */
     KV_ATTRIBUTE_BOUNDS = 16,       /* attribute without a length byte, of length 0, or past the area's end */
     KV_KDF_LENGTH = 17,             /* AT_KDF whose length is not 1 */
-    KV_KDF_INPUT = 18,              /* AT_KDF_INPUT whose length disagrees with its name length, or whose padding is not zero */
+    KV_KDF_INPUT = 18,              /* AT_KDF_INPUT whose length disagrees with its name length */
     KV_NETWORK_NAME = 19,           /* AT_KDF_INPUT missing or repeated */
     KV_ATTRIBUTE_TYPE = 20,         /* attribute type 0 */
     KV_ID_LENGTH = 21,              /* KEK ID or Key ID not 16 bytes */

@@ -28,7 +28,7 @@ static inline const char *kv_refusal_text(uint32_t refusal)
     case KV_RENEWED_LIST: return "renewed list is not the choice followed by the original";
     case KV_ATTRIBUTE_BOUNDS: return "attribute without a length byte, of length 0, or past the area's end";
     case KV_KDF_LENGTH: return "AT_KDF whose length is not 1";
-    case KV_KDF_INPUT: return "AT_KDF_INPUT whose length disagrees with its name length, or whose padding is not zero";
+    case KV_KDF_INPUT: return "AT_KDF_INPUT whose length disagrees with its name length";
     case KV_NETWORK_NAME: return "AT_KDF_INPUT missing or repeated";
     case KV_ATTRIBUTE_TYPE: return "attribute type 0";
     case KV_ID_LENGTH: return "KEK ID or Key ID not 16 bytes";
@@ -39,7 +39,7 @@ static inline const char *kv_refusal_text(uint32_t refusal)
     case KV_ENC_TYPE: return "Enc Type not 0";
     case KV_IV_FIELD: return "IV field not eight bytes A6";
     case KV_INTEGRITY: return "unwrapping does not yield the initial value A6 (eight times)";
-    case KV_KDF_INPUT_PADDING: return "AT_KDF_INPUT whose padding is not zero; 18 stays for a length that disagrees";
+    case KV_KDF_INPUT_PADDING: return "AT_KDF_INPUT whose padding is not zero";
     case KV_NETWORK_NAME_DIFFERS: return "a differing network name, where the caller does not ask for lenient reading";
     case KV_DOMAIN_LABEL: return "a usage request under the EMSK with the label of the domain root key";
     case KV_LABEL_SYNTAX: return "a label with a space, a comma, a second at-sign or one first or last; or over 64 bytes without an at-sign";

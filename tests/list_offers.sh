@@ -62,18 +62,18 @@ bytes $kdf $name 85ff0000 | is "far past the end" 'refused 16'
 bytes 1802000200000000 $name | is "AT_KDF of length 2" 'refused 17'
 bytes 18020002 | is "AT_KDF of length 2 past the end" 'refused 16'
 
-# 18: the length disagrees, the padding is not zero
+# 18: the length disagrees; 29: the padding is not zero
 bytes $kdf 1701000357 | is "name past its attribute" 'refused 18'
 bytes $kdf 17030003574c4e0000000000 | is "a word too many" 'refused 18'
 bytes $kdf 17020000 00000000 | is "a word too many for an empty name" 'refused 18'
 bytes $kdf 17020005574c4e00 | is "a word too few" 'refused 18'
-bytes $kdf 17020003574c4e01 | is "padding" 'refused 18'
-bytes $kdf 1702000157000100 | is "padding in the middle" 'refused 18'
+bytes $kdf 17020003574c4e01 | is "padding" 'refused 29'
+bytes $kdf 1702000157000100 | is "padding in the middle" 'refused 29'
 bytes $kdf 1701ffff | is "name length 65535" 'refused 18'
 
 # 19: repeated, or missing; a fault of the second comes first
 bytes $kdf $name $name | is "two names" 'refused 19'
-bytes $kdf $name 17020003574c4e01 | is "a second name with padding" 'refused 18'
+bytes $kdf $name 17020003574c4e01 | is "a second name with padding" 'refused 29'
 bytes $kdf | is "no name" 'refused 19'
 printf '' | is "empty input" 'refused 19'
 

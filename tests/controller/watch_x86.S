@@ -43,7 +43,7 @@ watch_after: .space 8
 watch_saved: .space 8     /* the return address */
 watch_result: .space 16   /* rax, rdx */
     .globl watch_image, watch_wipes, watch_before, watch_after
-    .p2align 4            /* as a compiler may take an array of C to be */
+    .p2align 4            /* as C aligns an array of that size */
 watch_image: .space WATCHED
 watch_wipes: .space 4
 
