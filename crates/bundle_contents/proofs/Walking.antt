@@ -1,18 +1,17 @@
 -- The lines of a file walked from the first on: one law for each way on in the loops.
 -- Assumes nothing.
 use Prim.Native.Nat.{ℕ, zero, suc, _+_, _*_, _-_, _≤_, _<_}
-use mathlib.Core.Path.{_≡_, refl, sym, ap, _∙_}
-use mathlib.Core.Bool.{Bool, true, false, _||_}
+use mathlib.Core.Path.{_≡_, sym, _∙_}
+use mathlib.Core.Bool.{Bool, true, false}
 use mathlib.Core.List.{List, [], _∷_}
 use native.Mathlib.Nat.{add-zero, zero-add}
 use native.Mathlib.Numerals.{add-one}
 use native.Mathlib.Omega.{arith}
 use borrow.Author.Tests.{eq-eqb, ne-eqb}
-use lib.Dec.{eqb}
-use lib.ListN.{length, take, drop}
+use lib.ListN.{take, drop}
 use Rattle.slices.specs.Same.{sameList}
 use Rattle.slices.specs.Numbers.{be16At}
-use Rattle.bundle_rules.specs.Bundle.{contentsEnd, idStands, idRepeats, Line, lineAt, linesFrom, follow, lastEnd, idsOf}
+use Rattle.bundle_rules.specs.Bundle.{idStands, idRepeats, lineAt, linesFrom, follow, lastEnd, idsOf}
 
 pub lines-next : (f : List ℕ) (i n : ℕ) → i < n → linesFrom f i (n - i) ≡ lineAt f i ∷ linesFrom f (i + 1) (n - (i + 1))
 unfolding linesFrom

@@ -1,7 +1,7 @@
 -- The writer's tests of packed attributes, in their order.
 -- Assumes nothing.
 use Prim.Native.Nat.{ℕ, _≤_, _<_}
-use mathlib.Core.Path.{_≡_, refl, sym, ap, _∙_}
+use mathlib.Core.Path.{_≡_, ap}
 use mathlib.Core.Bool.{true, false, and-false}
 use mathlib.Core.List.{List, map}
 use borrow.Author.Tests.{lt-leb}

@@ -1,13 +1,12 @@
 -- What the writer answers and leaves, by its tests in their order.
 -- Assumes nothing.
-use Prim.Native.Nat.{ℕ, _+_, _*_, _≤_, _<_}
+use Prim.Native.Nat.{ℕ, _+_, _≤_, _<_}
 use mathlib.Core.Path.{_≡_, refl, sym, ap, _∙_}
-use mathlib.Core.Bool.{true}
 use mathlib.Core.List.{List, _++_}
 use native.Mathlib.Omega.{arith}
 use borrow.Author.Tests.{le-leb, lt-leb}
 use lib.ListN.{length, drop}
-use Rattle.refusal.specs.Checks.{Reason, Check, pass, refuse, bare, unless, _andThen_, within}
+use Rattle.refusal.specs.Checks.{Reason, pass, refuse, bare, unless, _andThen_}
 use Rattle.refusal.specs.Answers.{wrote, refused}
 use Rattle.refusal.proofs.Passing.{within-high, before-passed, last-passed, test-passed, first-refuses}
 use Rattle.bundle_rules.specs.Bundle.{contentsEnd, fileOf, packed, framesCheck, packedCheck, writeCheck, writeAnswer, writeBuffer}

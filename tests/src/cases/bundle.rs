@@ -209,7 +209,7 @@ const READ_FAULTS: &[Fault<ReadBundle>] = &[
     (40, |call| set(call, 19, 0)),
     (40, |call| set(call, 38, 1)),
     (41, |call| call.file.push(0)),
-    (41, |call| call.file.truncate(call.file.len().saturating_sub(1))),
+    (41, |call| drop_last(call)),
     (42, |call| repeat_id(call)),
     (24, |call| set_body(call, 1, 0)),
     (24, |call| set_body(call, 1, 100)),
@@ -226,6 +226,11 @@ const READ_FAULTS: &[Fault<ReadBundle>] = &[
 
 /// All pairs of the reader's order can hold together.
 pub const READ_APART: &[Apart] = &[];
+
+fn drop_last(call: &mut ReadBundle) {
+    let len = call.file.len().saturating_sub(1);
+    call.file.truncate(len);
+}
 
 /// Swaps lines 0 and 1, so that only the offsets are not those that they should be.
 fn swap_lines(call: &mut ReadBundle) {

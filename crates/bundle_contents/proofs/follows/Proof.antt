@@ -2,10 +2,9 @@
 -- Assumes nothing.
 use native.Mathlib.Nat.{sub-zero}
 use Prim.Native.Nat.{_≤_, _<_, _-_}
-use mathlib.Core.Path.{_≡_, refl}
+use mathlib.Core.Path.{_≡_}
 use native.Mathlib.Omega.{arith}
 use borrow.Author.Needs.{needs}
-use lib.ListN.{length}
 use Rattle.bundle_rules.specs.Bundle.{contentsEnd, linesFrom, follow}
 use Rattle.bundle_contents.proofs.Walking.{follow-on, follow-not, follow-all}
 use Rattle.bundle_contents.proofs.follows.Statement.{statement}

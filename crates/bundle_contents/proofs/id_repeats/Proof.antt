@@ -1,7 +1,7 @@
 -- `bundle_contents::id_repeats` meets its contract.
 -- Assumes nothing.
 use Prim.Native.Nat.{_≤_, _-_}
-use mathlib.Core.Path.{_≡_, refl, sym, _∙_}
+use mathlib.Core.Path.{_≡_, sym, _∙_}
 use native.Mathlib.Nat.{sub-zero}
 use native.Mathlib.Omega.{arith}
 use Rattle.bundle_rules.specs.Bundle.{idRepeats, idsOf, linesFrom}

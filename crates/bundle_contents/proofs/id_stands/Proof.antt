@@ -1,10 +1,8 @@
 -- `bundle_contents::id_stands` meets its contract.
 -- Assumes nothing.
-use Prim.Native.Nat.{_≤_, _<_, _-_}
+use Prim.Native.Nat.{_≤_, _-_}
 use mathlib.Core.Path.{_≡_, refl, sym, _∙_}
 use native.Mathlib.Omega.{arith}
-use borrow.Author.Needs.{needs}
-use lib.ListN.{length}
 use Rattle.bundle_rules.specs.Bundle.{idStands, idsOf, linesFrom}
 use Rattle.bundle_contents.proofs.Walking.{stands-here, stands-on, stands-not, line-id}
 use Rattle.bundle_contents.proofs.id_stands.Statement.{statement}

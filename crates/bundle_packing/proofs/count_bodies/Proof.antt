@@ -74,8 +74,7 @@ loop-less c = omega (arith, made (c .before .before .before .before) .some, made
 loop-again : tie.Need-loop-again Inv-loop μ-loop
 loop-again c =
     let k = c .before .before .before .before in
-    let l = k .before .before .before .loop in
-    (
+    let l = k .before .before .before .loop in (
       omega (arith, made k .inside),
       omega (arith, made k .some),
       frames-on _ (l .at) _ (made k) (sym (c .before .before .check-frame .ensures) ∙ ap checkedAs (c .enum-told .given .1)) (l .inv .2),
