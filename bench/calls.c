@@ -30,6 +30,37 @@ static int label_breaches(const uint8_t *label, size_t len)
     return !is_label(label, len, KV_VRK_LABEL) && !is_label(label, len, KV_V_RRK_LABEL) && !is_label(label, len, KV_RRK_LABEL);
 }
 
+/* As eap_aka_prime_derive_keys of hostap: the HMAC of each block is keyed anew. */
+kv_outcome kv_aka_keys(const uint8_t *ck, size_t ck_len, const uint8_t *ik, size_t ik_len, const uint8_t *name, size_t name_len,
+                       const uint8_t *sqn_xor_ak, size_t sqn_xor_ak_len, const uint8_t *identity, size_t identity_len, uint8_t *out,
+                       size_t out_len)
+{
+    static const uint8_t fc = 0x20, sqn_length[2] = {0, 6};
+    const uint8_t name_length[2] = {(uint8_t)(name_len >> 8), (uint8_t)name_len};
+    uint8_t key[32], primes[32], t[32], i = 0;
+    if (ck_len != 16 || ik_len != 16 || sqn_xor_ak_len != 6)
+        return refused(KV_AKA_INPUT_LENGTH);
+    if (name_len > 1016)
+        return refused(KV_NETWORK_NAME_LENGTH);
+    if (identity_len < 1 || identity_len > 255)
+        return refused(KV_IDENTITY_LENGTH);
+    if (out_len < 208)
+        return refused(KV_ROOM);
+    memcpy(key, ck, 16);
+    memcpy(key + 16, ik, 16);
+    const part text[] = {{&fc, 1}, {name, name_len}, {name_length, 2}, {sqn_xor_ak, 6}, {sqn_length, 2}};
+    peer_hmac(key, 32, text, 5, primes);
+    memcpy(key, primes + 16, 16);
+    memcpy(key + 16, primes, 16);
+    for (size_t done = 0; done < 208; done += 32) {
+        const part block[] = {{t, i ? 32 : 0}, {(const uint8_t *)"EAP-AKA'", 8}, {identity, identity_len}, {&i, 1}};
+        i++;
+        peer_hmac(key, 32, block, 4, t);
+        memcpy(out + done, t, 208 - done < 32 ? 208 - done : 32);
+    }
+    return wrote(208);
+}
+
 kv_outcome kv_usage_key(const uint8_t *emsk, size_t emsk_len, const uint8_t *label, size_t label_len, const uint8_t *data,
                         size_t data_len, uint64_t n, uint8_t *out, size_t out_len)
 {

@@ -38,6 +38,9 @@ static void sha256_64(void) { sha256(64); }
 static void sha256_1024(void) { sha256(1024); }
 static void sha256_65536(void) { sha256(65536); }
 
+static const uint8_t wlan[4] = {'W', 'L', 'A', 'N'}, identity16[16] = {'0', '5', '5', '5', '4', '4', '4', '3', '3', '3', '2', '2', '2', '1', '1', '1'};
+static void aka_keys(void) { outcome = kv_aka_keys(emsk, 16, emsk + 16, 16, wlan, 4, emsk + 32, 6, identity16, 16, out, sizeof out); }
+
 static void usage_64(void) { outcome = kv_usage_key(emsk, 64, label20, 20, data, 0, 64, out, sizeof out); }
 static void usage_64_data(void) { outcome = kv_usage_key(emsk, 128, label20, 20, data, 2048, 64, out, sizeof out); }
 static void usage_8160(void) { outcome = kv_usage_key(emsk, 128, label255, 255, data, 2048, 8160, out, sizeof out); }
@@ -67,6 +70,7 @@ const struct job jobs[JOBS] = {
     {"sha256-64", sha256_64},
     {"sha256-1024", sha256_1024},
     {"sha256-65536", sha256_65536},
+    {"aka-keys", aka_keys},
     {"usage-64", usage_64},
     {"usage-64-data", usage_64_data},
     {"usage-8160", usage_8160},

@@ -47,6 +47,17 @@ void peer_expand(const uint8_t *key, size_t key_len, const uint8_t *label, size_
     }
 }
 
+void peer_hmac(const uint8_t *key, size_t key_len, const part *parts, size_t count, uint8_t out[32])
+{
+    br_hmac_key_context k;
+    br_hmac_context c;
+    br_hmac_key_init(&k, &br_sha256_vtable, key, key_len);
+    br_hmac_init(&c, &k, 0);
+    for (size_t i = 0; i < count; i++)
+        br_hmac_update(&c, parts[i].bytes, parts[i].count);
+    br_hmac_out(&c, out);
+}
+
 /* a key's schedule: ten rounds for a key of 16 bytes */
 typedef struct {
     uint32_t words[44];

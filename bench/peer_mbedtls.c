@@ -39,6 +39,18 @@ void peer_expand(const uint8_t *key, size_t key_len, const uint8_t *label, size_
     mbedtls_md_free(&c);
 }
 
+void peer_hmac(const uint8_t *key, size_t key_len, const part *parts, size_t count, uint8_t out[32])
+{
+    mbedtls_md_context_t c;
+    mbedtls_md_init(&c);
+    mbedtls_md_setup(&c, mbedtls_md_info_from_type(MBEDTLS_MD_SHA256), 1);
+    mbedtls_md_hmac_starts(&c, key, key_len);
+    for (size_t i = 0; i < count; i++)
+        mbedtls_md_hmac_update(&c, parts[i].bytes, parts[i].count);
+    mbedtls_md_hmac_finish(&c, out);
+    mbedtls_md_free(&c);
+}
+
 static void encrypt(void *aes, uint8_t *b) { mbedtls_aes_crypt_ecb(aes, MBEDTLS_AES_ENCRYPT, b, b); }
 static void decrypt(void *aes, uint8_t *b) { mbedtls_aes_crypt_ecb(aes, MBEDTLS_AES_DECRYPT, b, b); }
 

@@ -48,6 +48,29 @@ void peer_expand(const uint8_t *key, size_t key_len, const uint8_t *label, size_
     }
 }
 
+void peer_hmac(const uint8_t *key, size_t key_len, const part *parts, size_t count, uint8_t out[32])
+{
+    SHA256_CTX c;
+    uint8_t pad[64] = {0}, t[32];
+    if (key_len > 64)
+        peer_sha256(key, key_len, pad);
+    else
+        memcpy(pad, key, key_len);
+    for (int j = 0; j < 64; j++)
+        pad[j] ^= 0x36;
+    SHA256_Init(&c);
+    SHA256_Update(&c, pad, 64);
+    for (size_t i = 0; i < count; i++)
+        SHA256_Update(&c, parts[i].bytes, parts[i].count);
+    SHA256_Final(t, &c);
+    for (int j = 0; j < 64; j++)
+        pad[j] ^= 0x36 ^ 0x5c;
+    SHA256_Init(&c);
+    SHA256_Update(&c, pad, 64);
+    SHA256_Update(&c, t, 32);
+    SHA256_Final(out, &c);
+}
+
 void peer_wrap(const uint8_t *kek, const uint8_t *key, size_t key_len, uint8_t *out)
 {
     AES_KEY aes;

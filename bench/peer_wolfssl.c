@@ -36,6 +36,17 @@ void peer_expand(const uint8_t *key, size_t key_len, const uint8_t *label, size_
     wc_HmacFree(&c);
 }
 
+void peer_hmac(const uint8_t *key, size_t key_len, const part *parts, size_t count, uint8_t out[32])
+{
+    Hmac c;
+    wc_HmacInit(&c, NULL, INVALID_DEVID);
+    wc_HmacSetKey(&c, WC_SHA256, key, (word32)key_len);
+    for (size_t i = 0; i < count; i++)
+        wc_HmacUpdate(&c, parts[i].bytes, (word32)parts[i].count);
+    wc_HmacFinal(&c, out);
+    wc_HmacFree(&c);
+}
+
 void peer_wrap(const uint8_t *kek, const uint8_t *key, size_t key_len, uint8_t *out)
 {
     wc_AesKeyWrap(kek, 16, key, (word32)key_len, out, (word32)key_len + 8, NULL);

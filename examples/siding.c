@@ -26,6 +26,23 @@ static void expect_accepted(const char *call, uint32_t refusal)
     }
 }
 
+/* A login with EAP-AKA': from CK and IK of a handheld's SIM to the five keys, the EMSK among them, and under that EMSK to a siding's key.
+ * The inputs are those of RFC 5448, appendix C, case 1. */
+static void log_in_by_sim(void)
+{
+    static const uint8_t ck[KV_AKA_KEY_LEN] = { 0x53, 0x49, 0xfb, 0xe0, 0x98, 0x64, 0x9f, 0x94, 0x8f, 0x5d, 0x2e, 0x97, 0x3a, 0x81, 0xc0, 0x0f };
+    static const uint8_t ik[KV_AKA_KEY_LEN] = { 0x97, 0x44, 0x87, 0x1a, 0xd3, 0x2b, 0xf9, 0xbb, 0xd1, 0xdd, 0x5c, 0xe5, 0x4e, 0x3e, 0x2e, 0x5a };
+    static const uint8_t sqn_xor_ak[KV_SQN_LEN] = { 0xbb, 0x52, 0xe9, 0x1c, 0x74, 0x7a };
+    static const uint8_t name[] = "WLAN", identity[] = "0555444333222111", label[] = "gate", data[] = "12";
+    uint8_t keys[KV_AKA_KEYS_LEN], key[32];
+    kv_outcome r = kv_aka_keys(ck, sizeof ck, ik, sizeof ik, name, 4, sqn_xor_ak, sizeof sqn_xor_ak, identity, 16, keys, sizeof keys);
+    expect_accepted("kv_aka_keys", r.refusal);
+    print_bytes("EMSK by SIM", keys + KV_AKA_EMSK_AT, 64);
+    r = kv_usage_key(keys + KV_AKA_EMSK_AT, 64, label, 4, data, 2, sizeof key, key, sizeof key);
+    expect_accepted("kv_usage_key", r.refusal);
+    print_bytes("key under it", key, sizeof key);
+}
+
 /* Derives the siding's key under the EMSK of a login. Label and data keep the sidings apart. */
 static void derive_key(const uint8_t emsk[64], uint8_t key[32])
 {
@@ -162,6 +179,7 @@ int main(void)
     uint8_t emsk[64], key[32];
     for (size_t i = 0; i < sizeof emsk; i++)
         emsk[i] = (uint8_t)i;
+    log_in_by_sim();
     derive_key(emsk, key);
     refused_label(emsk);
     derive_domain_keys(emsk);

@@ -36,6 +36,9 @@
 const shape shapes[CALLS] = {
     [SHA256] = { .name = "kv_sha256", .slices = 1, BYTES, .counts = { ANY }, OUT_BYTES(32), .refusals = BIT(KV_ROOM) },
     [HMAC_SHA256] = { .name = "kv_hmac_sha256", .slices = 2, BYTES, .counts = { ANY, ANY }, OUT_BYTES(32), .refusals = BIT(KV_ROOM) },
+    [AKA_KEYS] = { .name = "kv_aka_keys", .slices = 5, BYTES, .counts = { SIXTEEN, SIXTEEN, { 0, 1016 }, { 6, 6 }, { 1, 255 } },
+                   OUT_BYTES(208),
+                   .refusals = BIT(KV_AKA_INPUT_LENGTH) | BIT(KV_NETWORK_NAME_LENGTH) | BIT(KV_IDENTITY_LENGTH) | BIT(KV_ROOM) },
     [USAGE_KEY] = { .name = "kv_usage_key", .slices = 3, BYTES, .counts = { ROOT_KEY, LABEL, { 0, 2048 } }, .numbers = { 8 },
                     OUT_BYTES(8160), .refusals = BIT(KV_ROOT_KEY_LENGTH) | LABEL_REFUSALS | BIT(KV_DOMAIN_LABEL) | BIT(KV_DATA_LENGTH) |
                                                  BIT(KV_KEY_LENGTH) | BIT(KV_ROOM) },
@@ -153,15 +156,17 @@ static void take_slots(const request *asked, answer *given, kv_slots before, kv_
  * says in `given` which part of it may have changed. */
 static void call(const request *asked, void *const in[SLICES], void *out, answer *given)
 {
-    const uint8_t *a = in[0], *b = in[1], *c = in[2], *d = in[3];
+    const uint8_t *a = in[0], *b = in[1], *c = in[2], *d = in[3], *e = in[4];
     const uint16_t *list = in[0], *other = in[1];
     const size_t an = asked->in[0].count, bn = asked->in[1].count, cn = asked->in[2].count, dn = asked->in[3].count;
+    const size_t en = asked->in[4].count;
     const size_t room = asked->room;
     const uint64_t *numbers = asked->numbers;
     const kv_slots slots = slots_of((slice){ a, an });
     switch (asked->call) {
     case SHA256: take_outcome(given, kv_sha256(a, an, out, room), 1); break;
     case HMAC_SHA256: take_outcome(given, kv_hmac_sha256(a, an, b, bn, out, room), 1); break;
+    case AKA_KEYS: take_outcome(given, kv_aka_keys(a, an, b, bn, c, cn, d, dn, e, en, out, room), 1); break;
     case USAGE_KEY: take_outcome(given, kv_usage_key(a, an, b, bn, c, cn, numbers[0], out, room), 1); break;
     case VISITED_ROOT_KEY: take_outcome(given, kv_visited_root_key(a, an, out, room), 1); break;
     case VISITED_MASTER_KEY: take_outcome(given, kv_visited_master_key(a, an, b, bn, c, cn, out, room), 1); break;

@@ -10,6 +10,7 @@
 enum call {
     SHA256,
     HMAC_SHA256,
+    AKA_KEYS,
     USAGE_KEY,
     VISITED_ROOT_KEY,
     VISITED_MASTER_KEY,

@@ -69,8 +69,8 @@ static void check_hmac(const request *asked, const answer *given)
     free(outer.bytes);
 }
 
-/* prf+ (RFC 4306, section 2.13) over kv_hmac_sha256, under the first input, with this S. */
-static void check_expansion(const request *asked, const answer *given, const text *s)
+/* prf+ (RFC 4306, section 2.13) over kv_hmac_sha256, under a key, with this S. */
+static void check_expansion_under(const request *asked, const answer *given, slice key, const text *s)
 {
     const uint8_t *out = (const uint8_t *)given->out;
     uint8_t block[DIGEST];
@@ -80,11 +80,43 @@ static void check_expansion(const request *asked, const answer *given, const tex
         append(&message, block, counter == 1 ? 0 : DIGEST);
         append(&message, s->bytes, s->length);
         append(&message, &counter, 1);
-        expect_digest(asked, kv_hmac_sha256(asked->in[0].values, asked->in[0].count, message.bytes, message.length, block, DIGEST));
+        expect_digest(asked, kv_hmac_sha256(key.values, key.count, message.bytes, message.length, block, DIGEST));
         free(message.bytes);
         size_t left = given->written - done;
         expect(same(out + done, block, left < DIGEST ? left : DIGEST), asked, "is not prf+ over kv_hmac_sha256");
     }
+}
+
+/* The same under the first input. */
+static void check_expansion(const request *asked, const answer *given, const text *s)
+{
+    check_expansion_under(asked, given, asked->in[0], s);
+}
+
+/* TS 33.402, Annex A.2, and RFC 5448, section 3.3, over kv_hmac_sha256: CK' then IK', and the expansion under IK' then CK'. */
+static void check_aka_keys(const request *asked, const answer *given)
+{
+    const slice name = asked->in[2];
+    const uint8_t fc = 0x20, name_length[2] = { (uint8_t)(name.count >> 8), (uint8_t)name.count }, sqn_length[2] = { 0, 6 };
+    uint8_t primes[DIGEST], swapped[DIGEST];
+    text key = { 0 }, message = { 0 }, s = { 0 };
+    append_slice(&key, asked->in[0]);
+    append_slice(&key, asked->in[1]);
+    append(&message, &fc, 1);
+    append_slice(&message, name);
+    append(&message, name_length, 2);
+    append_slice(&message, asked->in[3]);
+    append(&message, sqn_length, 2);
+    expect_digest(asked, kv_hmac_sha256(key.bytes, key.length, message.bytes, message.length, primes, DIGEST));
+    memcpy(swapped, primes + 16, 16);
+    memcpy(swapped + 16, primes, 16);
+    append(&s, "EAP-AKA'", 8);
+    append_slice(&s, asked->in[4]);
+    expect(given->written == 208, asked, "did not return 208");
+    check_expansion_under(asked, given, (slice){ swapped, DIGEST }, &s);
+    free(key.bytes);
+    free(message.bytes);
+    free(s.bytes);
 }
 
 /* S of a usage key (RFC 5295): label, a zero byte, data, n in two bytes. */
@@ -364,6 +396,7 @@ void check_relations(const request *asked, const answer *given)
     switch (asked->call) {
     case SHA256: expect(given->written == DIGEST, asked, "did not return 32"); break;
     case HMAC_SHA256: check_hmac(asked, given); break;
+    case AKA_KEYS: check_aka_keys(asked, given); break;
     case USAGE_KEY: check_usage_key(asked, given); break;
     case VISITED_ROOT_KEY: check_visited_root_key(asked, given); break;
     case VISITED_MASTER_KEY: check_visited_master_key(asked, given); break;

@@ -6,6 +6,9 @@
  *
  * What it is for, and in which order the calls are made
  *
+ * The EMSK. A login with EAP-AKA' begins with CK and IK of the handheld's SIM. kv_aka_keys makes K_encr, K_aut, K_re, MSK and
+ * EMSK of these, the network name and the identity. Other logins give the EMSK themselves.
+ *
  * Keys. After a login, the controller and the server share one secret, the EMSK. From it the controller derives the key
  * under which each siding reports (kv_usage_key). For a handheld that visits another domain it derives two keys:
  * kv_domain_root_key under the EMSK, and kv_domain_reauth_key under that key. No two domains share these. For a peer that
@@ -106,6 +109,16 @@
 #define KV_DIGEST_LEN 32          /* what kv_sha256 and kv_hmac_sha256 write */
 #define KV_ROOT_KEY_MIN 64        /* an EMSK, VRK or VMSK that is lent */
 #define KV_ROOT_KEY_MAX 128
+#define KV_AKA_KEY_LEN 16         /* a CK, an IK */
+#define KV_SQN_LEN 6              /* SQN xor AK */
+#define KV_NETWORK_NAME_MAX 1016  /* a network name, which may also be empty */
+#define KV_IDENTITY_MAX 255
+#define KV_AKA_KEYS_LEN 208       /* what kv_aka_keys writes: five keys, from these places on */
+#define KV_AKA_K_ENCR_AT 0        /* K_encr, 16 bytes */
+#define KV_AKA_K_AUT_AT 16        /* K_aut, 32 bytes */
+#define KV_AKA_K_RE_AT 48         /* K_re, 32 bytes */
+#define KV_AKA_MSK_AT 80          /* MSK, 64 bytes */
+#define KV_AKA_EMSK_AT 144        /* EMSK, 64 bytes */
 #define KV_LABEL_MAX 255          /* with an at-sign */
 #define KV_LABEL_PLAIN_MAX 64     /* without one */
 #define KV_DATA_MAX 2048          /* the optional data of a usage key */
@@ -240,6 +253,19 @@ KV_USE_RESULT kv_outcome kv_hmac_sha256(const uint8_t *key, size_t key_len, cons
 /* The keys below are made by prf+ (RFC 4306, section 2.13) with HMAC-SHA-256, from a key K and a text S. T1 is the MAC
  * under K of S and the byte 1. Each later Ti is the MAC under K of T(i-1), S and the byte i. The derived key is as many
  * bytes as are asked for, from the start of T1, T2 and so on. */
+
+/* The keys of a login with EAP-AKA' (3GPP TS 33.402, Annex A.2, and RFC 5448, section 3.3), from CK and IK of a SIM, 16 bytes
+ * each. CK' and IK' are the halves of the HMAC-SHA-256 under CK then IK of the byte 20 hex, the network name, its length in two
+ * bytes, SQN xor AK, and 00 06. The 208 bytes are prf+ where K is IK' then CK' and S is "EAP-AKA'" and then the identity:
+ * K_encr (16), K_aut (32), K_re (32), MSK (64) and EMSK (64), at the places KV_AKA_K_ENCR_AT and on. `sqn_xor_ak` is the
+ * first 6 bytes of AUTN. The network name is that of AT_KDF_INPUT (see kv_read_area), and may be empty here; failing the login
+ * for an empty one, as RFC 5448 has the peer do, is the caller's act. Every call under an EMSK takes this EMSK. Nothing is
+ * computed on a refusal. Writes 208 bytes and returns 208.
+ * Refusals, in this order: 43 CK or IK not 16 bytes, or SQN xor AK not 6; 44 network name over 1,016 bytes; 45 identity not 1
+ * to 255 bytes; 6 `out` has fewer than 208 bytes. */
+KV_USE_RESULT kv_outcome kv_aka_keys(const uint8_t *ck, size_t ck_len, const uint8_t *ik, size_t ik_len, const uint8_t *name,
+                                     size_t name_len, const uint8_t *sqn_xor_ak, size_t sqn_xor_ak_len,
+                                     const uint8_t *identity, size_t identity_len, uint8_t *out, size_t out_len);
 
 /* The usage key of a label and optional data under an EMSK (RFC 5295): n bytes of prf+. K is the EMSK. S is the label,
  * one zero byte, the data, and n as two bytes, high byte first. n counts bytes. No data is data of length 0. Requests

@@ -21,6 +21,11 @@ static void expect(uint32_t given, uint32_t wanted, const char *what)
 
 static uint8_t bytes[KV_USAGE_KEY_MAX + 1], out[KV_USAGE_KEY_MAX + 1];
 
+static kv_outcome aka(size_t key, size_t name, size_t sqn, size_t identity, size_t room)
+{
+    return kv_aka_keys(bytes, key, bytes, key, bytes, name, bytes, sqn, bytes, identity, out, room);
+}
+
 static kv_outcome usage(size_t root, size_t label, size_t data, uint64_t n)
 {
     return kv_usage_key(bytes, root, bytes, label, bytes, data, n, out, sizeof out);
@@ -47,6 +52,12 @@ int main(void)
 
     GIVES(kv_sha256(bytes, 1, out, KV_DIGEST_LEN), KV_DIGEST_LEN);
     IS(kv_sha256(bytes, 1, out, KV_DIGEST_LEN - 1), KV_ROOM);
+    GIVES(aka(KV_AKA_KEY_LEN, KV_NETWORK_NAME_MAX, KV_SQN_LEN, KV_IDENTITY_MAX, KV_AKA_KEYS_LEN), KV_AKA_KEYS_LEN);
+    IS(aka(KV_AKA_KEY_LEN + 1, 0, KV_SQN_LEN, 1, KV_AKA_KEYS_LEN), KV_AKA_INPUT_LENGTH);
+    IS(aka(KV_AKA_KEY_LEN, 0, KV_SQN_LEN + 1, 1, KV_AKA_KEYS_LEN), KV_AKA_INPUT_LENGTH);
+    IS(aka(KV_AKA_KEY_LEN, KV_NETWORK_NAME_MAX + 1, KV_SQN_LEN, 1, KV_AKA_KEYS_LEN), KV_NETWORK_NAME_LENGTH);
+    IS(aka(KV_AKA_KEY_LEN, 0, KV_SQN_LEN, KV_IDENTITY_MAX + 1, KV_AKA_KEYS_LEN), KV_IDENTITY_LENGTH);
+    IS(aka(KV_AKA_KEY_LEN, 0, KV_SQN_LEN, 1, KV_AKA_KEYS_LEN - 1), KV_ROOM);
     IS(usage(KV_ROOT_KEY_MIN, KV_LABEL_PLAIN_MAX, KV_DATA_MAX, KV_USAGE_KEY_MAX), KV_ACCEPTED);
     IS(usage(KV_ROOT_KEY_MIN, KV_LABEL_PLAIN_MAX + 1, 0, 1), KV_LABEL_SYNTAX);
     bytes[1] = '@';

@@ -82,6 +82,21 @@ extern "C" {
         out_len: usize,
     ) -> Outcome;
 
+    pub fn kv_aka_keys(
+        ck: *const u8,
+        ck_len: usize,
+        ik: *const u8,
+        ik_len: usize,
+        name: *const u8,
+        name_len: usize,
+        sqn_xor_ak: *const u8,
+        sqn_xor_ak_len: usize,
+        identity: *const u8,
+        identity_len: usize,
+        out: *mut u8,
+        out_len: usize,
+    ) -> Outcome;
+
     pub fn kv_usage_key(
         emsk: *const u8,
         emsk_len: usize,

@@ -58,6 +58,8 @@ fn main() -> ExitCode {
         ["kv_write_key_attribute"] "RFC 3394 vector" => cases::published::rfc_3394;
         ["kv_sha256"] "kv_sha256" => cases::hash::sha256;
         ["kv_hmac_sha256"] "kv_hmac_sha256" => cases::hash::hmac_sha256;
+        ["kv_aka_keys"] "RFC 5448 vectors" => cases::published::rfc_5448;
+        ["kv_aka_keys"] "kv_aka_keys" => cases::aka::run;
         ["kv_usage_key"] "kv_usage_key" => cases::usage::run;
         ["kv_visited_root_key"] "kv_visited_root_key" => cases::visited::root_keys;
         ["kv_visited_master_key"] "kv_visited_master_key" => cases::visited::master_keys;

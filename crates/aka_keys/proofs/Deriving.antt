@@ -21,7 +21,7 @@ use Rattle.aka_keys.specs.Rfc5448.{expansionKey, expansionText, keyMater
 
 -- the key of the expansion: k is CK then IK, n the name's length, m the MAC of the parts, r its halves swapped
 pub key-by-parts : (ck ik name sqnXorAk : List ℕ) {k n m r : List ℕ} → k ≡ ck ++ ik → n ≡ be16 (length name)
-    → m ≡ hmacSha256 k ((0x20 ∷ []) ++ (name ++ (n ++ (sqnXorAk ++ ((0 ∷ 6 ∷ []) ++ []))))) → r ≡ drop 16 m ++ take 16 m
+    → m ≡ hmacSha256 k ((0x20 ∷ []) ++ (name ++ (n ++ (sqnXorAk ++ (0 ∷ 6 ∷ []))))) → r ≡ drop 16 m ++ take 16 m
     → r ≡ expansionKey ck ik name sqnXorAk
 unfolding expansionKey ikPrime ckPrime primeKeys primeText
 key-by-parts ck ik name sqnXorAk ek en em er =

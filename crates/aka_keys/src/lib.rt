@@ -54,14 +54,14 @@ fn swapped(keys: &[u8]) -> [u8; 32]
 }
 
 // The key of the expansion: IK', then CK'.
-fn expansion_key<'a>(ck: &[u8], ik: &[u8], name: &'a [u8], sqn_xor_ak: &'a [u8]) -> [u8; 32]
+fn expansion_key(ck: &[u8], ik: &[u8], name: &[u8], sqn_xor_ak: &[u8]) -> [u8; 32]
     requires { ⌜ length (now ck) ≡ 16 ⌝ }
     requires { ⌜ length (now ik) ≡ 16 ⌝ }
     ensures { λ r. ⌜ r ≡ expansionKey (now (ck .entry)) (now (ik .entry)) (now (name .entry)) (now («sqn_xor_ak» .entry)) ⌝ }
 {
     let key = joined(ck, ik);
     let length = slices::be16(name.len());
-    let keys = hmac::mac_of_parts(&key, &[FC], name, &length, sqn_xor_ak, &[0, 6], b"");
+    let keys = hmac::mac_of_parts(&key, &[FC], name, &length, sqn_xor_ak, &[0, 6]);
     swapped(&keys)
 }
 
@@ -69,8 +69,8 @@ fn expansion_key<'a>(ck: &[u8], ik: &[u8], name: &'a [u8], sqn_xor_ak: &'a [u8])
 pub fn aka_keys<'a>(
     ck: &[u8],
     ik: &[u8],
-    name: &'a [u8],
-    sqn_xor_ak: &'a [u8],
+    name: &[u8],
+    sqn_xor_ak: &[u8],
     identity: &'a [u8],
     out: &mut [u8],
 ) -> Written

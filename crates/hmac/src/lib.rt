@@ -1,4 +1,4 @@
-// HMAC-SHA-256 (RFC 2104). `mac` is the MAC of one message, `mac_of_parts` that of one in up to six parts. A caller that has many under one
+// HMAC-SHA-256 (RFC 2104). `mac` is the MAC of one message, `mac_of_parts` that of one in up to five parts. A caller that has many under one
 // key keeps the hash values after the key's two blocks in a `Keyed` (section 4). It begins each message's hash with the inner value, and
 // closes it.
 ghost use mathlib.Core.Path.{_≡_};
@@ -106,20 +106,26 @@ pub fn mac(key: &[u8], message: &[u8]) -> [u8; Sha256::DIGEST]
     outer_hash(key_value(k, OPAD), digest)
 }
 
-// The MAC of a message in six parts, which are not joined. A message of fewer has empty ones.
-pub fn mac_of_parts<'a>(
+// The MAC of a message in five parts, which are not joined. A message of fewer has empty ones. This calls neither `Keyed::new` nor
+// `finish_with`, whose one caller is the expansion: so they lie in its frame and need none of their own.
+pub fn mac_of_parts(
     key: &[u8],
-    a: &'a [u8],
-    b: &'a [u8],
-    c: &'a [u8],
-    d: &'a [u8],
-    e: &'a [u8],
-    f: &'a [u8],
+    a: &[u8],
+    b: &[u8],
+    c: &[u8],
+    d: &[u8],
+    e: &[u8],
 ) -> [u8; Sha256::DIGEST]
-    ensures { λ r. ⌜ r ≡ hmacSha256 (now (key .entry)) (now (a .entry) ++ (now (b .entry) ++ (now (c .entry) ++ (now (d .entry) ++ (now (e .entry) ++ now (f .entry)))))) ⌝ }
+    ensures { λ r. ⌜ r ≡ hmacSha256 (now (key .entry)) (now (a .entry) ++ (now (b .entry) ++ (now (c .entry) ++ (now (d .entry) ++ now (e .entry))))) ⌝ }
 {
-    let k = Keyed::new(key);
-    let inner = k.inner;
-    let digest = Sha256::after(inner).finish_with(a, b, c, d, e, f);
-    k.close(digest)
+    let k = key_block(key);
+    let begun = Sha256::after(key_value(k, IPAD));
+    let digest = begun
+        .absorb(a)
+        .absorb(b)
+        .absorb(c)
+        .absorb(d)
+        .absorb(e)
+        .finish();
+    outer_hash(key_value(k, OPAD), digest)
 }

@@ -21,6 +21,8 @@ ghost use Rattle.key_frame.specs.KeyFrame.{fieldsOf};
 ghost use Rattle.key_writer.specs.KeyWriter.{writeAnswer, writeBuffer};
 ghost use Rattle.key_reader.specs.KeyReader.{reading, readBuffer};
 ghost use Rattle.key_attribute_c.specs.Outcomes.{keyOutcome};
+ghost use Rattle.packet_rules.specs.Mac.{signAnswer, signBuffer, checkCheck};
+ghost use Rattle.packet_c.specs.Outcomes.{checkOutcome};
 ghost use Rattle.bundle_rules.specs.Bundle as Bundle;
 ghost use Rattle.slot_rules.specs.Table.{liveCount};
 ghost use Rattle.slot_rules.specs.Calls.{putAnswer, putTable, dropAnswer, dropTable};
@@ -127,8 +129,8 @@ pub extern "C" fn kv_domain_reauth_key(dsrk: &[u8], out: &mut [u8]) -> Outcome
 pub extern "C" fn kv_aka_keys<'a>(
     ck: &[u8],
     ik: &[u8],
-    name: &'a [u8],
-    sqn_xor_ak: &'a [u8],
+    name: &[u8],
+    sqn_xor_ak: &[u8],
     identity: &'a [u8],
     out: &mut [u8],
 ) -> Outcome
@@ -234,6 +236,25 @@ pub extern "C" fn kv_read_key_attribute(
     ensures buffer { λ _. ⌜ now (out .exit) ≡ readBuffer (now (kek .entry)) (now (attribute .entry)) (now (out .entry)) ⌝ }
 {
     key_attribute_c::read_key_attribute(kek, attribute, out)
+}
+
+// ---- RADIUS packets
+
+// Source document 004, section 3.3: the MAC of a packet written into its attribute of the type, 32 bytes.
+#[no_mangle]
+pub extern "C" fn kv_sign_packet(mac_key: &[u8], attribute_type: u8, packet: &mut [u8]) -> Outcome
+    ensures answer { λ r. ⌜ r ≡ outcomeOf (signAnswer (now («mac_key» .entry)) «attribute_type» (now (packet .entry))) ⌝ }
+    ensures buffer { λ _. ⌜ now (packet .exit) ≡ signBuffer hmacSha256 (now («mac_key» .entry)) «attribute_type» (now (packet .entry)) ⌝ }
+{
+    packet_c::sign_packet(mac_key, attribute_type, packet)
+}
+
+// Source document 004, section 3.3: the MAC in a packet's attribute of the type is checked; 0.
+#[no_mangle]
+pub extern "C" fn kv_check_packet(mac_key: &[u8], attribute_type: u8, packet: &[u8]) -> Outcome
+    ensures { λ r. ⌜ r ≡ checkOutcome (checkCheck hmacSha256 (now («mac_key» .entry)) «attribute_type» (now (packet .entry))) ⌝ }
+{
+    packet_c::check_packet(mac_key, attribute_type, packet)
 }
 
 // ---- bundles of Key attributes

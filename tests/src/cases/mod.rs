@@ -1,5 +1,6 @@
 //! The inputs, by topic.
 
+pub mod aka;
 pub mod area;
 pub mod bundle;
 pub mod domain;

@@ -1,5 +1,6 @@
 //! The second program's own reading of the papers: for each call the numbers of its order and what it writes.
 
+pub mod aka;
 pub mod area;
 pub mod bundle;
 pub mod domain;

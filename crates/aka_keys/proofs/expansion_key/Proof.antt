@@ -24,9 +24,6 @@ slice-aggregate-mac-of-parts-3 c = search needs
 slice-aggregate-mac-of-parts-4 : tie.Need-slice-aggregate-mac-of-parts-4
 slice-aggregate-mac-of-parts-4 c = search needs
 
-slice-aggregate-mac-of-parts-5 : tie.Need-slice-aggregate-mac-of-parts-5
-slice-aggregate-mac-of-parts-5 c = search needs
-
 mac-of-parts-requires : tie.Need-mac-of-parts-requires
 mac-of-parts-requires c κs = search needs
 
@@ -39,7 +36,7 @@ swapped-requires c κs = search needs
 returns : tie.Need-returns
 returns c =
     let keys = c .before .before in
-    let size = keys .before .before .before .before .before .before in
+    let size = keys .before .before .before .before .before in
     let key = size .before in
     let a = key .before .before .before .before .before .args in
     key-by-parts (now (a .ck)) (now (a .ik)) (now (a .name)) (now (a .sqn-xor-ak))
@@ -55,7 +52,6 @@ expansion-key-spec =
     slice-aggregate-mac-of-parts-2
     slice-aggregate-mac-of-parts-3
     slice-aggregate-mac-of-parts-4
-    slice-aggregate-mac-of-parts-5
     mac-of-parts-requires
     slice-aggregate-swapped
     swapped-requires

@@ -1,0 +1,14 @@
+-- `packet::check_type` meets its contract.
+-- Assumes nothing.
+use borrow.Author.Needs.{needs}
+use Rattle.packet.proofs.check_type.Statement.{statement}
+use Rattle.packet.proofs.check_type.Tie as tie
+
+unless-requires : tie.Need-unless-requires
+unless-requires c κs = search needs
+
+returns : tie.Need-returns
+returns c = c .unless .ensures
+
+pub check-type-spec : {M : Type 1} → statement M
+check-type-spec = tie.close (tie.spec unless-requires returns)

@@ -1,0 +1,12 @@
+-- `packet_c::sign_packet` meets its contract.
+-- Assumes nothing.
+use Rattle.outcome.proofs.Handing.{handed}
+use borrow.Author.Needs.{needs}
+use Rattle.packet_c.proofs.sign_packet.Statement.{statement}
+use Rattle.packet_c.proofs.sign_packet.Tie as tie
+
+returns : tie.Need-returns
+returns c = let p = c .before .before .before in (handed (p .sign .result) (c .returned .ensures) (p .sign .ensures .0), p .sign .ensures .1)
+
+pub sign-packet-spec : {M : Type 1} → statement M
+sign-packet-spec = tie.close (tie.spec (λ c κs. search needs) (λ c κs. search needs) (λ c. search needs) returns)

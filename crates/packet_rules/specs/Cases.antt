@@ -1,0 +1,52 @@
+-- Worked cases of the tests 35, 36 and 37: what is accepted, with the attribute's place, and a packet for each fault, in the request's order.
+-- Assumes nothing.
+use mathlib.Core.Path.{_≡_}
+use Prim.Native.Nat.{ℕ, _+_, _/_, _%_}
+use mathlib.Core.List.{List, [], _∷_, _++_}
+use lib.ListN.{length, replicate}
+use Rattle.refusal.specs.Checks.{Check, pass, refuse, bare, _andThen_}
+use Rattle.packet_rules.specs.Packet.{check35, check36, check37, macAt}
+
+-- a header with two length bytes, then the attributes
+abbrev pub lengthBytes : (high low : ℕ) → List ℕ → List ℕ
+lengthBytes high low attributes = 2 ∷ 7 ∷ high ∷ low ∷ (replicate 16 9 ++ attributes)
+
+-- with those that belong to it
+abbrev pub packet : List ℕ → List ℕ
+packet attributes = lengthBytes ((20 + length attributes) / 256) ((20 + length attributes) % 256) attributes
+
+-- an attribute of type 90 with so many bytes after its first four
+abbrev pub mac : (size reserved kind more : ℕ) → List ℕ
+mac size reserved kind more = 90 ∷ size ∷ reserved ∷ kind ∷ replicate more 5
+
+abbrev pub good : List ℕ
+good = mac 52 0 2 48
+
+abbrev pub other : List ℕ
+other = 1 ∷ 3 ∷ 90 ∷ []
+
+-- the tests for type 90
+abbrev pub tests : List ℕ → Check
+tests p = check35 p andThen check36 p andThen check37 90 p
+
+abbrev pub Cases : Type 0
+Cases =
+    (tests (packet good) ≡ pass)
+    × (macAt 90 (packet good) ≡ 20)
+    × (tests (packet (other ++ good ++ other)) ≡ pass)
+    × (macAt 90 (packet (other ++ good ++ other)) ≡ 23)
+    × (tests (2 ∷ 7 ∷ 0 ∷ []) ≡ refuse (bare 35))
+    × (tests (lengthBytes 0 73 good) ≡ refuse (bare 35))
+    × (tests (lengthBytes 1 72 good) ≡ refuse (bare 35))
+    × (tests (packet (good ++ 90 ∷ [])) ≡ refuse (bare 36))
+    × (tests (packet (good ++ 90 ∷ 0 ∷ [])) ≡ refuse (bare 36))
+    × (tests (packet (good ++ 90 ∷ 1 ∷ [])) ≡ refuse (bare 36))
+    × (tests (packet (good ++ 90 ∷ 3 ∷ [])) ≡ refuse (bare 36))
+    × (tests (packet (good ++ good ++ 1 ∷ 3 ∷ [])) ≡ refuse (bare 36))
+    × (tests (packet []) ≡ refuse (bare 37))
+    × (tests (packet other) ≡ refuse (bare 37))
+    × (tests (packet (good ++ 90 ∷ 2 ∷ [])) ≡ refuse (bare 37))
+    × (tests (packet (mac 51 0 2 47)) ≡ refuse (bare 37))
+    × (tests (packet (90 ∷ 2 ∷ [])) ≡ refuse (bare 37))
+    × (tests (packet (mac 52 1 2 48)) ≡ refuse (bare 37))
+    × (tests (packet (mac 52 0 1 48)) ≡ refuse (bare 37))

@@ -1,0 +1,4 @@
+pub mod Packet
+pub mod Mac
+pub mod Statements
+pub mod Cases
