@@ -1,5 +1,6 @@
 // Sixty-four slots for live keys, each free or holding the name of a key and its parent (document 02, requests 12 and 13). The slots are passed by
-// value: a call takes them, and returns its answer by one function and the slots after it by another, so that no caller copies them to have both.
+// value: a put takes them, and returns its answer by one function and the slots after it by another, so that no caller copies them to have both; a
+// drop returns its answer with the only word that it changes.
 ghost use mathlib.Core.Path.{_≡_};
 ghost use Prim.Native.Nat.{_<_};
 ghost use lib.Count.{ones};
@@ -7,7 +8,7 @@ ghost use Rattle.refusal.specs.Answers.{checkedAs};
 ghost use Rattle.slot_rules.specs.Table.{lowestFree, liveCount, isLive};
 ghost use Rattle.slot_rules.specs.Calls.{putCheck, putAnswer, putTable, dropAnswer, dropTable};
 ghost use Rattle.slot_rules.specs.Stored.{tableOf, byteOf, putStored, dropStored};
-ghost use Rattle.slots.specs.Answers.{answerOf};
+ghost use Rattle.slots.specs.Answers.{answerOf, withTaken};
 use refusal::Checked;
 use refusal::Refusal;
 use refusal::then_check;
@@ -109,26 +110,28 @@ fn count(word: u64) -> u64
     u64::count_ones(word) as u64
 }
 
-// What a drop of a slot answers.
-pub fn drop_answer(slots: Slots, number: u64) -> SlotAnswer
-    ensures { λ r. ⌜ answerOf r ≡ dropAnswer (tableOf slots) number ⌝ }
+// What a drop of a slot answers, and the word of taken slots after it: the word of those that go is made once for both.
+pub struct Dropped {
+    pub answer: SlotAnswer,
+    pub taken: u64,
+}
+
+// A slot and all that descend from it are freed. Nothing but the word of taken slots changes.
+pub fn drop_key(slots: Slots, number: u64) -> Dropped
+    ensures answer { λ r. ⌜ answerOf (r .answer) ≡ dropAnswer (tableOf slots) number ⌝ }
+    ensures stored { λ r. ⌜ withTaken slots (r .taken) ≡ dropStored slots number ⌝ }
+    ensures table { λ r. ⌜ tableOf (withTaken slots (r .taken)) ≡ dropTable (tableOf slots) number ⌝ }
 {
     if is_live(slots, number) {
         let word = gone(slots, number);
-        SlotAnswer::Number(count(word))
+        Dropped {
+            answer: SlotAnswer::Number(count(word)),
+            taken: slots.taken & !word,
+        }
     } else {
-        SlotAnswer::Refused(Refusal::NoSuchSlot)
+        Dropped {
+            answer: SlotAnswer::Refused(Refusal::NoSuchSlot),
+            taken: slots.taken,
+        }
     }
-}
-
-// The slots after a drop of a slot.
-pub fn drop_slots(slots: Slots, number: u64) -> Slots
-    ensures stored { λ r. ⌜ r ≡ dropStored slots number ⌝ }
-    ensures table { λ r. ⌜ tableOf r ≡ dropTable (tableOf slots) number ⌝ }
-{
-    let mut next = slots;
-    if is_live(slots, number) {
-        next.taken = slots.taken & !gone(slots, number);
-    }
-    next
 }

@@ -64,11 +64,15 @@ pub fn drop_slot(slots: Slots, number: u64) -> SlotsOutcome
     ensures stored { λ r. ⌜ r ≡ slotsOutcome (outcomeOf (dropAnswer (tableOf slots) number)) (dropStored slots number) ⌝ }
     ensures table { λ r. ⌜ tableOf (r .slots) ≡ dropTable (tableOf slots) number ⌝ }
 {
-    let answer = returned(slots::drop_answer(slots, number));
+    let dropped = slots::drop_key(slots, number);
+    let said = dropped.answer;
+    let answer = returned(said);
+    let mut next = slots;
+    next.taken = dropped.taken;
     SlotsOutcome {
         refusal: answer.refusal,
         value: answer.value,
-        slots: slots::drop_slots(slots, number),
+        slots: next,
     }
 }
 
