@@ -34,12 +34,12 @@ pub fn number_at(file: &[u8], at: usize) -> usize
     from_be16(file[at], file[next]) as usize
 }
 
-// The bytes of n lines, where n is a number of two bytes. 20 is taken apart: a core that multiplies 32 bits alone would call a function of the compiler's for 20 * n.
+// The bytes of n lines, where n is a number of two bytes. The product is one of 32 bits: for one of 64 a Cortex-M0+ would need a function of the compiler's.
 pub fn lines_length(n: usize) -> usize
     ensures { λ r. ⌜ r ≡ 20 * (n % 65536) ⌝ }
 {
-    let lines = n % 65536;
-    16 * lines + 4 * lines
+    let lines = (n % 65536) as u32;
+    (20 * lines) as usize
 }
 
 // Whether each of n lines' offsets is the previous end, for the first the end of the contents.
