@@ -1,7 +1,7 @@
 -- A number in two bytes, of which some may be past the end.
 -- Assumes nothing.
-use Prim.Native.Nat.{ℕ, zero, suc, _+_, _≤_}
-use mathlib.Core.Path.{_≡_, refl, _∙_}
+use Prim.Native.Nat.{ℕ, zero, suc, _+_, _*_, _%_, _≤_, _<_}
+use mathlib.Core.Path.{_≡_, refl, ap, _∙_}
 use mathlib.Core.List.{List, [], _∷_}
 use native.Mathlib.Omega.{arith}
 use lib.ListN.{length, getD}
@@ -20,3 +20,11 @@ number-past s at h =
 
 pub number-half : (s : List ℕ) (at : ℕ) {r : ℕ} → r ≡ fromBe16 (getD s at 0) 0 → length s ≤ at + 1 → r ≡ be16At s at
 number-half s at e h = e ∙ rw (past-end s (at + 1) h)
+
+-- the bytes of lines, of which there are not more than two bytes count
+pub lines-told : (n line : ℕ) → n < 65536 → line ≡ 20 * (n % 65536) → line ≡ 20 * n
+lines-told n line h e = omega arith
+
+-- a number of line i, by the bytes of the lines before it
+pub number-of-line : (f : List ℕ) (k i line : ℕ) {x : ℕ} → i < 65536 → line ≡ 20 * (i % 65536) → x ≡ be16At f (k + line) → x ≡ be16At f (k + 20 * i)
+number-of-line f k i line h e q = q ∙ ap (λ (l : ℕ). be16At f (k + l)) (lines-told i line h e)

@@ -1,10 +1,10 @@
 -- The lines of a file walked from the first on: one law for each way on in the loops.
 -- Assumes nothing.
-use Prim.Native.Nat.{ℕ, zero, suc, _+_, _*_, _-_, _≤_, _<_}
+use Prim.Native.Nat.{ℕ, zero, suc, _+_, _*_, _-_, _%_, _≤_, _<_}
 use mathlib.Core.Path.{_≡_, sym, _∙_}
 use mathlib.Core.Bool.{Bool, true, false}
 use mathlib.Core.List.{List, [], _∷_}
-use native.Mathlib.Nat.{add-zero, zero-add}
+use native.Mathlib.Nat.{add-zero, zero-add, sub-zero}
 use native.Mathlib.Numerals.{add-one}
 use native.Mathlib.Omega.{arith}
 use borrow.Author.Tests.{eq-eqb, ne-eqb}
@@ -26,6 +26,11 @@ lines-done f i n h =
     rw m
 
 -- ---- each offset is the previous end
+
+pub follow-start : (f : List ℕ) (n line : ℕ) → n ≤ 64 → line ≡ 20 * (n % 65536) → follow (2 + 20 * n) (linesFrom f 0 n) ≡ follow (2 + line) (linesFrom f 0 (n - 0))
+follow-start f n line h e =
+    let q : 2 + line ≡ 2 + 20 * n = omega arith in
+    rw (q, sub-zero n)
 
 pub follow-on : (f : List ℕ) (i n end offset size : ℕ) {whole : Bool} → i < n → offset ≡ be16At f (18 + 20 * i) → size ≡ be16At f (20 + 20 * i) → offset ≡ end
     → whole ≡ follow end (linesFrom f i (n - i)) → whole ≡ follow (offset + size) (linesFrom f (i + 1) (n - (i + 1)))

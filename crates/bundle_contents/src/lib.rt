@@ -1,7 +1,7 @@
 // The table of contents and the bodies of a bundle (document 02, request 9): the tests of a file that its reader and the comparison of two share, and what both read
 // of the contents.
 ghost use mathlib.Core.Path.{_≡_};
-ghost use Prim.Native.Nat.{_+_, _*_, _-_, _≤_, _<_};
+ghost use Prim.Native.Nat.{_+_, _*_, _-_, _%_, _≤_, _<_};
 ghost use lib.ListN.{length};
 ghost use Rattle.refusal.specs.Checks.{_andThen_, bare};
 ghost use Rattle.refusal.specs.Checks;
@@ -34,16 +34,25 @@ pub fn number_at(file: &[u8], at: usize) -> usize
     from_be16(file[at], file[next]) as usize
 }
 
+// The bytes of n lines, where n is a number of two bytes. The product is one of 32 bits: for one of 64 a Cortex-M0+ would need a function of the compiler's.
+pub fn lines_length(n: usize) -> usize
+    ensures { λ r. ⌜ r ≡ 20 * (n % 65536) ⌝ }
+{
+    let lines = (n % 65536) as u32;
+    (20 * lines) as usize
+}
+
 // Whether each of n lines' offsets is the previous end, for the first the end of the contents.
 fn follows(file: &[u8], n: usize) -> bool
     requires { ⌜ n ≤ 64 ⌝ }
     ensures { λ r. ⌜ r ≡ follow (contentsEnd n) (linesFrom (now (file .entry)) 0 n) ⌝ }
 {
-    let mut end = 2 + 20 * n;
+    let mut end = 2 + lines_length(n);
     let mut i = 0;
     while i < n {
-        let offset = number_at(file, 18 + 20 * i);
-        let size = number_at(file, 20 + 20 * i);
+        let line = lines_length(i);
+        let offset = number_at(file, 18 + line);
+        let size = number_at(file, 20 + line);
         if offset != end {
             return false;
         }
@@ -59,8 +68,9 @@ fn last_end(file: &[u8], n: usize) -> usize
     ensures { λ r. ⌜ r ≡ lastEnd (contentsEnd n) (linesFrom (now (file .entry)) 0 n) ⌝ }
 {
     let last = n - 1;
-    let offset = number_at(file, 18 + 20 * last);
-    let size = number_at(file, 20 + 20 * last);
+    let line = lines_length(last);
+    let offset = number_at(file, 18 + line);
+    let size = number_at(file, 20 + line);
     offset + size
 }
 
@@ -148,7 +158,8 @@ pub fn check_bundle(file: &[u8]) -> Checked
     if 64 < n {
         return Checked::Failed(Refusal::BundleCount);
     }
-    if file.len() < 2 + 20 * n {
+    let contents = 2 + lines_length(n);
+    if file.len() < contents {
         return Checked::Failed(Refusal::BundleContents);
     }
     if !follows(file, n) {

@@ -1,6 +1,6 @@
 -- What the reader answers and leaves.
 -- Assumes nothing.
-use Prim.Native.Nat.{ℕ, _+_, _*_, _-_, _≤_, _<_, min}
+use Prim.Native.Nat.{ℕ, _+_, _*_, _-_, _%_, _≤_, _<_, min}
 use mathlib.Core.Path.{_≡_, sym, ap, _∙_}
 use mathlib.Core.List.{List}
 use native.Mathlib.Decide.{decLt}
@@ -11,6 +11,7 @@ use lib.Seq.{drop-length}
 use Rattle.refusal.specs.Checks.{Check, _andThen_, check6}
 use Rattle.refusal.specs.Answers.{Answer, answerTo, bufferAfter}
 use Rattle.slices.proofs.Lists.{rest-drop}
+use Rattle.bundle_contents.proofs.Numbers.{lines-told}
 use Rattle.bundle_rules.specs.Bundle.{contentsEnd, countIn, packedIn, bundleCheck, readCheck, readAnswer, readBuffer}
 
 -- a place, or the end if that comes first
@@ -28,8 +29,8 @@ cut f k r e = go (decLt (length f) k)
         (omega arith, ap (λ (i : ℕ). drop i f) n)
 
 -- the end of the contents, or of the file
-pub cut-at : (f : List ℕ) (n : ℕ) {r : ℕ} → n ≡ countIn f → r ≡ min (2 + 20 * n) (length f) → (r ≤ length f) × (drop r f ≡ packedIn f)
-cut-at f n {r} q e = cut f (contentsEnd (countIn f)) r (rw q at e)
+pub cut-at : (f : List ℕ) (n line : ℕ) {r : ℕ} → n ≡ countIn f → n < 65536 → line ≡ 20 * (n % 65536) → r ≡ min (2 + line) (length f) → (r ≤ length f) × (drop r f ≡ packedIn f)
+cut-at f n line {r} q h l e = cut f (contentsEnd (countIn f)) r (rw (lines-told n line h l, q) at e)
 
 pub read-so : (f out after : List ℕ) (at : ℕ) {r : Answer} {c : Check} → c ≡ bundleCheck f → drop at f ≡ packedIn f
     → r ≡ answerTo (c andThen check6 (length (take (length f - at) (drop at f))) (length out)) (length (take (length f - at) (drop at f)))

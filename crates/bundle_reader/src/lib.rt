@@ -5,6 +5,7 @@ ghost use lib.ListN.{length, drop};
 ghost use Rattle.refusal.specs.Answers.{answerOf};
 ghost use Rattle.bundle_rules.specs.Bundle.{packedIn, readAnswer, readBuffer};
 use bundle_contents::check_bundle;
+use bundle_contents::lines_length;
 use bundle_contents::number_at;
 use refusal::Written;
 use refusal::put;
@@ -15,7 +16,7 @@ fn contents_end(file: &[u8]) -> usize
     ensures inside { λ r. ⌜ r ≤ length (now (file .entry)) ⌝ }
     ensures attributes { λ r. ⌜ drop r (now (file .entry)) ≡ packedIn (now (file .entry)) ⌝ }
 {
-    least(2 + 20 * number_at(file, 0), file.len())
+    least(2 + lines_length(number_at(file, 0)), file.len())
 }
 
 // Reads a bundle: its attributes, packed end to end, go to the start of out.

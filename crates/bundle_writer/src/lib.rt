@@ -7,6 +7,7 @@ ghost use Rattle.refusal.specs.Checks.{pass};
 ghost use Rattle.refusal.specs.Answers.{answerOf};
 ghost use Rattle.slices.specs.Numbers as Numbers;
 ghost use Rattle.bundle_rules.specs.Bundle.{contentsEnd, linesOf, packed, framesCheck, writeAnswer, writeBuffer};
+use bundle_contents::lines_length;
 use bundle_packing::body_length;
 use bundle_packing::check_packed;
 use refusal::Refusal;
@@ -32,14 +33,13 @@ fn put_line(id: &[u8], offset: usize, size: usize, at: usize, out: &mut [u8])
     put_at(&be16(size), at + 18, out);
 }
 
-// Writes the lines of n attributes to out, from index 2 on.
-fn put_lines(attributes: &[u8], n: usize, out: &mut [u8])
+// Writes the lines of attributes to out, from index 2 on. The attributes will begin at `contents`.
+fn put_lines(attributes: &[u8], contents: usize, out: &mut [u8])
     requires { ⌜ framesCheck (packed (now attributes)) ≡ pass ⌝ }
-    requires { ⌜ length (packed (now attributes)) ≡ n ⌝ }
-    requires { ⌜ contentsEnd n + length (now attributes) ≤ length (now out) ⌝ }
-    ensures { λ _. ⌜ now (out .exit) ≡ take 2 (now (out .entry)) ++ (linesOf (contentsEnd n) (packed (now (attributes .entry))) ++ drop (contentsEnd n) (now (out .entry))) ⌝ }
+    requires { ⌜ contents ≡ contentsEnd (length (packed (now attributes))) ⌝ }
+    requires { ⌜ contents + length (now attributes) ≤ length (now out) ⌝ }
+    ensures { λ _. ⌜ now (out .exit) ≡ take 2 (now (out .entry)) ++ (linesOf contents (packed (now (attributes .entry))) ++ drop contents (now (out .entry))) ⌝ }
 {
-    let contents = 2 + 20 * n;
     let mut at = 0;
     let mut place: usize = 2;
     while at < attributes.len() {
@@ -61,13 +61,13 @@ pub fn write(attributes: &[u8], out: &mut [u8]) -> Written
     match check_packed(attributes) {
         Written::Refused(why) => Written::Refused(why),
         Written::Wrote(n) => {
-            let contents = 2 + 20 * n;
+            let contents = 2 + lines_length(n);
             let size = contents + attributes.len();
             if out.len() < size {
                 return Written::Refused(Refusal::Room);
             }
             put_at(&be16(n), 0, out);
-            put_lines(attributes, n, out);
+            put_lines(attributes, contents, out);
             put_at(attributes, contents, out);
             Written::Wrote(size)
         }

@@ -14,10 +14,10 @@ use Rattle.bundle_contents.proofs.check_bundle.Statement.{statement}
 use Rattle.bundle_contents.proofs.check_bundle.Tie as tie
 
 -- the offsets follow, and the last body ends the file
-followed : (c : tie.Else5) → follow (contentsEnd (c .before .before .before .before .before .number-at .result)) (linesFrom (now (c .before .before .before .before .before .before .before .before .args .file)) 0 (c .before .before .before .before .before .number-at .result)) ≡ true
+followed : (c : tie.Else5) → follow (contentsEnd (c .before .before .before .before .before .before .number-at .result)) (linesFrom (now (c .before .before .before .before .before .before .before .before .before .args .file)) 0 (c .before .before .before .before .before .before .number-at .result)) ≡ true
 followed c = sym (c .before .follows .ensures) ∙ not-false _ (c .if5 .left)
 
-ended : (c : tie.Else6) → lastEnd (contentsEnd (c .before .before .before .before .before .before .before .number-at .result)) (linesFrom (now (c .before .before .before .before .before .before .before .before .before .before .args .file)) 0 (c .before .before .before .before .before .before .before .number-at .result)) ≡ length (now (c .before .before .before .before .before .before .before .before .before .before .args .file))
+ended : (c : tie.Else6) → lastEnd (contentsEnd (c .before .before .before .before .before .before .before .before .number-at .result)) (linesFrom (now (c .before .before .before .before .before .before .before .before .before .before .before .args .file)) 0 (c .before .before .before .before .before .before .before .before .number-at .result)) ≡ length (now (c .before .before .before .before .before .before .before .before .before .before .before .args .file))
 ended c = sym (c .before .last-end .ensures) ∙ c .if6 .left
 
 returns : tie.Need-returns
@@ -32,38 +32,42 @@ returns-2 c = bundle-none _ _ (c .before .number-at .ensures .0) (c .if2 .taken)
 returns-3 : tie.Need-returns-3
 returns-3 c = bundle-many _ _ (c .before .before .number-at .ensures .0) (c .if3 .taken)
 
-mul-if4 : tie.Need-mul-if4
-mul-if4 c = search needs
+lines-length-requires : tie.Need-lines-length-requires
+lines-length-requires c κs = search needs
 
-add-if4 : tie.Need-add-if4
-add-if4 c = search needs
+add-contents : tie.Need-add-contents
+add-contents c = omega (arith, c .lines-length .ensures)
 
 returns-4 : tie.Need-returns-4
-returns-4 c = bundle-cut _ _ (c .before .before .before .number-at .ensures .0) (c .before .before .before .before .if1 .left) (c .before .before .if2 .left) (c .before .if3 .left) (c .if4 .taken)
+returns-4 c = bundle-cut _ _ (c .before .before .before .before .number-at .ensures .0) (c .before .before .before .before .before .if1 .left) (c .before .before .before .if2 .left) (c .before .before .if3 .left) (omega (arith, c .if4 .taken, c .before .lines-length .ensures, c .before .before .if3 .left))
 
 follows-requires : tie.Need-follows-requires
 follows-requires c κs = search needs
 
 returns-5 : tie.Need-returns-5
-returns-5 c = bundle-gap _ _ (c .before .before .before .before .before .number-at .ensures .0) (c .before .before .before .before .before .before .if1 .left) (c .before .before .before .before .if2 .left) (c .before .before .before .if3 .left) (c .before .before .if4 .left) (sym (c .before .follows .ensures) ∙ not-true _ (c .if5 .taken))
+returns-5 c = bundle-gap _ _ (c .before .before .before .before .before .before .number-at .ensures .0) (c .before .before .before .before .before .before .before .if1 .left) (c .before .before .before .before .before .if2 .left) (c .before .before .before .before .if3 .left) (omega (arith, c .before .before .if4 .left, c .before .before .before .lines-length .ensures, c .before .before .before .before .if3 .left)) (sym (c .before .follows .ensures) ∙ not-true _ (c .if5 .taken))
 
 last-end-requires : tie.Need-last-end-requires
 last-end-requires c κs = search needs
 
 returns-6 : tie.Need-returns-6
-returns-6 c = bundle-end _ _ (c .before .before .before .before .before .before .before .number-at .ensures .0) (c .before .before .before .before .before .before .before .before .if1 .left) (c .before .before .before .before .before .before .if2 .left) (c .before .before .before .before .before .if3 .left) (c .before .before .before .before .if4 .left) (followed (c .before .before)) (λ p. c .if6 .taken (c .before .last-end .ensures ∙ p))
+returns-6 c = bundle-end _ _ (c .before .before .before .before .before .before .before .before .number-at .ensures .0) (c .before .before .before .before .before .before .before .before .before .if1 .left) (c .before .before .before .before .before .before .before .if2 .left) (c .before .before .before .before .before .before .if3 .left) (omega (arith, c .before .before .before .before .if4 .left, c .before .before .before .before .before .lines-length .ensures, c .before .before .before .before .before .before .if3 .left)) (followed (c .before .before)) (λ p. c .if6 .taken (c .before .last-end .ensures ∙ p))
 
 id-repeats-requires : tie.Need-id-repeats-requires
-id-repeats-requires c κs = search needs
+id-repeats-requires c κs =
+    let k = c .before .before .before .before in
+    (omega arith, omega (arith, k .if4 .left, k .before .lines-length .ensures))
 
 returns-7 : tie.Need-returns-7
-returns-7 c = bundle-twice _ _ (c .before .before .before .before .before .before .before .before .before .number-at .ensures .0) (c .before .before .before .before .before .before .before .before .before .before .if1 .left) (c .before .before .before .before .before .before .before .before .if2 .left) (c .before .before .before .before .before .before .before .if3 .left) (c .before .before .before .before .before .before .if4 .left) (followed (c .before .before .before .before)) (ended (c .before .before)) (sym (c .before .id-repeats .ensures) ∙ c .if7 .taken)
+returns-7 c = bundle-twice _ _ (c .before .before .before .before .before .before .before .before .before .before .number-at .ensures .0) (c .before .before .before .before .before .before .before .before .before .before .before .if1 .left) (c .before .before .before .before .before .before .before .before .before .if2 .left) (c .before .before .before .before .before .before .before .before .if3 .left) (omega (arith, c .before .before .before .before .before .before .if4 .left, c .before .before .before .before .before .before .before .lines-length .ensures, c .before .before .before .before .before .before .before .before .if3 .left)) (followed (c .before .before .before .before)) (ended (c .before .before)) (sym (c .before .id-repeats .ensures) ∙ c .if7 .taken)
 
 check-bodies-requires : tie.Need-check-bodies-requires
-check-bodies-requires c κs = (omega arith, (omega arith, inside-all _ _ _ (followed (c .before .before .before .before)) (ended (c .before .before))))
+check-bodies-requires c κs =
+    let k = c .before .before .before .before .before .before in
+    (omega arith, (omega (arith, k .if4 .left, k .before .lines-length .ensures), inside-all _ _ _ (followed (c .before .before .before .before)) (ended (c .before .before))))
 
 returns-8 : tie.Need-returns-8
-returns-8 c = bundle-bodies _ _ (c .before .before .before .before .before .before .before .before .before .before .number-at .ensures .0) (c .before .before .before .before .before .before .before .before .before .before .before .if1 .left) (c .before .before .before .before .before .before .before .before .before .if2 .left) (c .before .before .before .before .before .before .before .before .if3 .left) (c .before .before .before .before .before .before .before .if4 .left) (followed (c .before .before .before .before .before)) (ended (c .before .before .before)) (sym (c .before .before .id-repeats .ensures) ∙ c .before .if7 .left) (c .check-bodies .ensures)
+returns-8 c = bundle-bodies _ _ (c .before .before .before .before .before .before .before .before .before .before .before .number-at .ensures .0) (c .before .before .before .before .before .before .before .before .before .before .before .before .if1 .left) (c .before .before .before .before .before .before .before .before .before .before .if2 .left) (c .before .before .before .before .before .before .before .before .before .if3 .left) (omega (arith, c .before .before .before .before .before .before .before .if4 .left, c .before .before .before .before .before .before .before .before .lines-length .ensures, c .before .before .before .before .before .before .before .before .before .if3 .left)) (followed (c .before .before .before .before .before)) (ended (c .before .before .before)) (sym (c .before .before .id-repeats .ensures) ∙ c .before .if7 .left) (c .check-bodies .ensures)
 
 pub check-bundle-spec : {M : Type 1} → statement M
 check-bundle-spec =
@@ -73,8 +77,8 @@ check-bundle-spec =
     number-at-requires
     returns-2
     returns-3
-    mul-if4
-    add-if4
+    lines-length-requires
+    add-contents
     returns-4
     follows-requires
     returns-5

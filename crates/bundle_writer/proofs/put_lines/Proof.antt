@@ -1,30 +1,25 @@
 -- `bundle_writer::put_lines` meets its contract.
 -- Assumes nothing.
 use Prim.Native.Nat.{_+_, _≤_, _-_}
+use mathlib.Core.Path.{refl}
 use native.Mathlib.Omega.{arith}
 use borrow.Author.Needs.{needs}
 use denote.Ref.{now}
 use lib.ListN.{length}
-use Rattle.bundle_rules.specs.Bundle.{contentsEnd}
+use Rattle.bundle_rules.specs.Bundle.{contentsEnd, packed}
 use Rattle.bundle_packing.proofs.Walking.{Step, step, id-part, body-long}
 use Rattle.bundle_writer.proofs.Lines.{Lined, lined-start, lined-on, lined-end, lined-room, id-long}
 use Rattle.bundle_writer.proofs.put_lines.Statement.{statement}
 use Rattle.bundle_writer.proofs.put_lines.Tie as tie
 
 abbrev Inv-loop : tie.InvT-loop
-Inv-loop attributes n out₀ contents at₀ place₀ out at place = Lined attributes n out₀ out at place
+Inv-loop attributes contents out₀ at₀ place₀ out at place = Lined attributes (length (packed attributes)) out₀ out at place
 
 abbrev μ-loop : tie.MeasureT-loop
-μ-loop attributes n out₀ contents at₀ place₀ out at place = length attributes - at
-
-mul-contents : tie.Need-mul-contents Inv-loop μ-loop
-mul-contents c = omega arith
-
-add-contents : tie.Need-add-contents Inv-loop μ-loop
-add-contents c = omega arith
+μ-loop attributes contents out₀ at₀ place₀ out at place = length attributes - at
 
 loop-holds : tie.Need-loop-holds Inv-loop μ-loop
-loop-holds c = lined-start _ _ _ (c .before .before .pre .0) (c .before .before .pre .1 .0)
+loop-holds c = lined-start _ _ _ (c .before .before .pre .0) refl
 
 sub-body-length : tie.Need-sub-body-length Inv-loop μ-loop
 sub-body-length c = omega arith
@@ -44,8 +39,8 @@ made c = step _ _ _ (omega arith) (c .body-length .ensures)
 long : (c : tie.After-body-length Inv-loop μ-loop) → c .before .before .before .loop .at + 76 ≤ length (now (c .before .before .before .before .before .before .args .attributes))
 long c = body-long _ _ _ (made c) (c .before .before .before .loop .inv .frames)
 
-contents-fit : (c : tie.After-body-length Inv-loop μ-loop) → contentsEnd (c .before .before .before .before .before .before .args .n) ≤ length (now (c .before .before .before .before .before .before .args .out))
-contents-fit c = omega (arith, c .before .before .before .before .before .before .pre .1 .1)
+contents-fit : (c : tie.After-body-length Inv-loop μ-loop) → let x = c .before .before .before .before .before .before .args in contentsEnd (length (packed (now (x .attributes)))) ≤ length (now (x .out))
+contents-fit c = let p = c .before .before .before .before .before .before .pre in omega (arith, p .1 .0, p .1 .1)
 
 room : (c : tie.After-body-length Inv-loop μ-loop) → c .before .before .before .loop .place + 20 ≤ length (c .before .before .before .loop .out)
 room c = lined-room _ _ _ _ _ _ _ (made c) (c .before .before .before .loop .inv) (contents-fit c)
@@ -87,13 +82,15 @@ loop-again : tie.Need-loop-again Inv-loop μ-loop
 loop-again c =
     let k = c .before .before .before .before .before in
     let l = k .before .before .before .loop in
-    lined-on _ _ _ _ _ _ (l .at) (l .place) _ (made k) (l .inv) (contents-fit k) (id-part _ (l .at) _ (made k) (l .inv .frames)) (c .before .before .put-line .ensures)
+    lined-on _ _ _ _ _ _ (l .at) (l .place) _ (made k) (l .inv) (contents-fit k) (id-part _ (l .at) _ (made k) (l .inv .frames)) (rw (k .before .before .before .before .before .before .pre .1 .0) at (c .before .before .put-line .ensures))
 
 same-length : tie.Need-same-length Inv-loop μ-loop
 same-length c = c .before .loop .inv .size
 
 returns : tie.Need-returns Inv-loop μ-loop
-returns c = let l = c .before .loop in lined-end _ _ _ _ (l .at) (l .place) (l .inv) (omega arith)
+returns c =
+    let l = c .before .loop in
+    rw (c .before .before .before .before .pre .1 .0) (lined-end _ _ _ _ (l .at) (l .place) (l .inv) (omega arith))
 
 pub put-lines-spec : {M : Type 1} → statement M
 put-lines-spec =
@@ -101,8 +98,6 @@ put-lines-spec =
     (tie.spec
     Inv-loop
     μ-loop
-    mul-contents
-    add-contents
     loop-holds
     sub-body-length
     part-body-length-start
