@@ -22,6 +22,8 @@ enum call {
     READ_AREA,
     WRITE_KEY_ATTRIBUTE,
     READ_KEY_ATTRIBUTE,
+    SIGN_PACKET,
+    CHECK_PACKET,
     CALLS
 };
 

@@ -159,4 +159,8 @@ extern "C" {
         out: *mut u8,
         out_len: usize,
     ) -> KeyAttribute;
+
+    pub fn kv_sign_packet(mac_key: *const u8, mac_key_len: usize, kind: u8, packet: *mut u8, packet_len: usize) -> Outcome;
+
+    pub fn kv_check_packet(mac_key: *const u8, mac_key_len: usize, kind: u8, packet: *const u8, packet_len: usize) -> Outcome;
 }

@@ -75,6 +75,8 @@ fn main() -> ExitCode {
         ["kv_read_key_attribute"] "kv_read_key_attribute" => cases::key_attribute::read;
         ["kv_write_key_attribute", "kv_read_key_attribute"] "key attributes, there and back"
             => cases::key_attribute::round_trips;
+        ["kv_sign_packet", "kv_check_packet"] "kv_sign_packet" => cases::packet::sign;
+        ["kv_sign_packet", "kv_check_packet"] "kv_check_packet" => cases::packet::check;
     }
     println!("{} passed, {} failed", total.passed, total.failed);
     if total.failed == 0 {
@@ -90,6 +92,7 @@ fn tell_apart() {
         ("kv_answer_offer, kv_check_renewed", cases::offers::APART),
         ("kv_read_area", cases::area::APART),
         ("kv_read_key_attribute", cases::key_attribute::APART),
+        ("kv_sign_packet, kv_check_packet", cases::packet::APART),
     ];
     println!("pairs of refusals that cannot hold together (all others are tried):");
     for (calls, pairs) in lists {

@@ -5,6 +5,7 @@ pub mod area;
 pub mod key_attribute;
 pub mod key_name;
 pub mod offers;
+pub mod packet;
 pub mod prf;
 pub mod usage;
 pub mod visited;
