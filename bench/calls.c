@@ -16,6 +16,61 @@ kv_outcome kv_sha256(const uint8_t *message, size_t message_len, uint8_t *out, s
     return wrote(32);
 }
 
+/* Where the MAC's attribute stands in a packet, or the refusal. */
+static uint32_t find_mac(size_t mac_key_len, uint8_t type, const uint8_t *packet, size_t packet_len, size_t *place)
+{
+    size_t found = 0;
+    if (mac_key_len < 64 || mac_key_len > 128)
+        return KV_ROOT_KEY_LENGTH;
+    if (type == 0)
+        return KV_ATTRIBUTE_TYPE;
+    if (packet_len < 20 || packet_len > 4096 || (size_t)packet[2] * 256 + packet[3] != packet_len)
+        return KV_PACKET_LENGTH;
+    for (size_t at = 20; at < packet_len; at += packet[at + 1]) {
+        if (packet_len - at < 2 || packet[at + 1] < 2 || packet[at + 1] > packet_len - at)
+            return KV_PACKET_ATTRIBUTE_BOUNDS;
+        if (packet[at] == type) {
+            found++;
+            *place = at;
+        }
+    }
+    if (found != 1 || packet[*place + 1] != 52 || packet[*place + 2] != 0 || packet[*place + 3] != 2)
+        return KV_MAC_ATTRIBUTE;
+    return KV_ACCEPTED;
+}
+
+static void mac_of_packet(const uint8_t *mac_key, size_t mac_key_len, const uint8_t *packet, size_t packet_len, size_t at, uint8_t mac[32])
+{
+    static const uint8_t zeros[32];
+    const part parts[] = {{packet, at + 20}, {zeros, 32}, {packet + at + 52, packet_len - at - 52}};
+    peer_hmac(mac_key, mac_key_len, parts, 3, mac);
+}
+
+kv_outcome kv_sign_packet(const uint8_t *mac_key, size_t mac_key_len, uint8_t type, uint8_t *packet, size_t packet_len)
+{
+    size_t at = 0;
+    uint8_t mac[32];
+    const uint32_t number = find_mac(mac_key_len, type, packet, packet_len, &at);
+    if (number)
+        return refused(number);
+    mac_of_packet(mac_key, mac_key_len, packet, packet_len, at, mac);
+    memcpy(packet + at + 20, mac, 32);
+    return wrote(32);
+}
+
+kv_outcome kv_check_packet(const uint8_t *mac_key, size_t mac_key_len, uint8_t type, const uint8_t *packet, size_t packet_len)
+{
+    size_t at = 0;
+    uint8_t mac[32], differ = 0;
+    const uint32_t number = find_mac(mac_key_len, type, packet, packet_len, &at);
+    if (number)
+        return refused(number);
+    mac_of_packet(mac_key, mac_key_len, packet, packet_len, at, mac);
+    for (int i = 0; i < 32; i++)
+        differ |= mac[i] ^ packet[at + 20 + i];
+    return differ ? refused(KV_MAC_DIFFERS) : wrote(0);
+}
+
 static int is_label(const uint8_t *label, size_t len, const char *text) { return len == strlen(text) && !memcmp(label, text, len); }
 
 static int label_breaches(const uint8_t *label, size_t len)

@@ -60,6 +60,19 @@ static void write_192(void) { write(key192, 192, out, sizeof out); }
 static void read_16(void) { attribute = kv_read_key_attribute(kek, 16, attribute16, 76, out, sizeof out); }
 static void read_192(void) { attribute = kv_read_key_attribute(kek, 16, attribute192, 252, out, sizeof out); }
 
+/* packets with the MAC's attribute first: of 72 bytes, and of 4,096 with attributes of 254 bytes after it */
+static uint8_t packet72[72], packet4096[4096];
+static void frame_packet(uint8_t *packet, size_t n)
+{
+    packet[0] = 2, packet[2] = (uint8_t)(n >> 8), packet[3] = (uint8_t)n;
+    packet[20] = 90, packet[21] = 52, packet[23] = 2;
+    for (size_t at = 72; at < n; at += packet[at + 1])
+        packet[at] = 1, packet[at + 1] = (uint8_t)(n - at < 254 ? n - at : 254);
+}
+static void sign_72(void) { outcome = kv_sign_packet(emsk, 64, 90, packet72, 72); }
+static void sign_4096(void) { outcome = kv_sign_packet(emsk, 64, 90, packet4096, 4096); }
+static void check_4096(void) { outcome = kv_check_packet(emsk, 64, 90, packet4096, 4096); }
+
 static void area_17(void) { found = kv_read_area(area, sizeof area, own_name, NAME, offers, 17); }
 
 static void bundle_write_64(void) { outcome = kv_write_bundle(attributes, sizeof attributes, out, sizeof out); }
@@ -80,6 +93,9 @@ const struct job jobs[JOBS] = {
     {"write-192", write_192},
     {"read-16", read_16},
     {"read-192", read_192},
+    {"sign-72", sign_72},
+    {"sign-4096", sign_4096},
+    {"check-4096", check_4096},
     {"area-17", area_17},
     {"bundle-write-64", bundle_write_64},
     {"bundle-read-64", bundle_read_64},
@@ -100,6 +116,8 @@ void prepare_jobs(void)
     }
     area[4 * OFFERS] = 23, area[4 * OFFERS + 1] = 1 + (NAME + 3) / 4, area[4 * OFFERS + 3] = NAME;
     memcpy(area + 4 * OFFERS + 4, own_name, NAME);
+    frame_packet(packet72, 72);
+    frame_packet(packet4096, 4096);
     write(key16, 16, attribute16, sizeof attribute16);
     write(key192, 192, attribute192, sizeof attribute192);
     for (int i = 0; i < BUNDLED; i++) { /* Key IDs that are counted up */

@@ -1,7 +1,8 @@
-/* What a yard controller does, call by call. It derives a siding's key and the keys of two domains, agrees with a handheld on
- * a key derivation function, reads the attribute area that carried the offers, sends the siding's key to a neighbour as a
- * RADIUS Key attribute, which the neighbour opens, and keeps the names of the keys of a visited domain in slots until their
- * EMSK expires. Each step prints its result; examples/siding.expected has what must be printed. */
+/* What a yard controller does, call by call. It makes an EMSK from a SIM, derives a siding's key and the keys of two domains,
+ * agrees with a handheld on a key derivation function, reads the attribute area that carried the offers, and sends the
+ * siding's key to a neighbour as a RADIUS Key attribute, which the neighbour opens: first alone, then in a packet that is
+ * signed and checked. It keeps the names of the keys of a visited domain in slots until their EMSK expires. Each step prints
+ * its result; examples/siding.expected has what must be printed. */
 #include "ketvaulo.h"
 #include "ketvaulo_text.h"
 
@@ -141,6 +142,43 @@ static void send_key(const uint8_t key[32])
     printf("spoilt on the way: refused %u\n", (unsigned)got.refusal);
 }
 
+/* Delivers the key safely: the Key attribute goes into a RADIUS packet that has a place for a Message-Authentication-Code, and the packet is
+ * signed last. The receiver checks the packet first, and reads the attribute only if that was accepted. Then the lifetime is the sender's
+ * too: with another one on the way the packet is refused. */
+static void deliver_key(const uint8_t key[32])
+{
+    static const uint8_t kek[KV_KEK_LEN] = { 0, 1, 2, 3, 4, 5, 6, 7, 8, 9, 10, 11, 12, 13, 14, 15 };
+    static const uint8_t kek_id[] = "yard kek 0000001", key_id[] = "siding gate/0012", mac_key_id[] = "yard mac 0000001";
+    enum { KEY_AT = 20, MAC_AT = KEY_AT + 32 + KV_KEY_ATTRIBUTE_MORE, LENGTH = MAC_AT + KV_MAC_ATTRIBUTE_LEN };
+    uint8_t packet[LENGTH] = { 2, 7, LENGTH >> 8, LENGTH & 255 }, mac_key[64], opened[KV_WRAPPED_KEY_MAX];
+    for (size_t i = 0; i < sizeof mac_key; i++)
+        mac_key[i] = (uint8_t)(64 + i);
+
+    /* the sender; bytes 4 to 19 are the authenticator that this kind of packet has while it is signed, here zeros */
+    kv_outcome r = kv_write_key_attribute(26, 7, kek_id, KV_ID_LEN, key_id, KV_ID_LEN, 3600, kek, sizeof kek, key, 32, packet + KEY_AT,
+                                          MAC_AT - KEY_AT);
+    expect_accepted("kv_write_key_attribute", r.refusal);
+    packet[MAC_AT] = 27;
+    packet[MAC_AT + 1] = KV_MAC_ATTRIBUTE_LEN;
+    packet[MAC_AT + 3] = 2;
+    memcpy(packet + MAC_AT + 4, mac_key_id, KV_ID_LEN);
+    r = kv_sign_packet(mac_key, sizeof mac_key, 27, packet, sizeof packet);
+    expect_accepted("kv_sign_packet", r.refusal);
+    print_bytes("MAC", packet + MAC_AT + 20, KV_MAC_LEN);
+
+    /* the receiver */
+    r = kv_check_packet(mac_key, sizeof mac_key, 27, packet, sizeof packet);
+    expect_accepted("kv_check_packet", r.refusal);
+    kv_key_attribute got = kv_read_key_attribute(kek, sizeof kek, packet + KEY_AT, MAC_AT - KEY_AT, opened, sizeof opened);
+    expect_accepted("kv_read_key_attribute", got.refusal);
+    printf("delivered a key of %u bytes for %u seconds\n", (unsigned)got.key_len, (unsigned)got.lifetime);
+
+    packet[KEY_AT + 40] ^= 1; /* a lifetime that is longer by 2^24 seconds */
+    got = kv_read_key_attribute(kek, sizeof kek, packet + KEY_AT, MAC_AT - KEY_AT, opened, sizeof opened);
+    r = kv_check_packet(mac_key, sizeof mac_key, 27, packet, sizeof packet);
+    printf("another lifetime on the way: the attribute %u, the packet %u\n", (unsigned)got.refusal, (unsigned)r.refusal);
+}
+
 /* Keeps the name of a key in a slot, below the slot of the key that it was derived from. Returns its slot. */
 static uint64_t keep_key(kv_slots *slots, const char *key, const char *label, size_t label_len, uint64_t parent)
 {
@@ -186,6 +224,7 @@ int main(void)
     negotiate();
     read_area();
     send_key(key);
+    deliver_key(key);
     keep_keys();
     return 0;
 }

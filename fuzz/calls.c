@@ -20,6 +20,9 @@
     (BIT(KV_BUNDLE_COUNT) | BIT(KV_BUNDLE_CONTENTS) | BIT(KV_BUNDLE_END) | BIT(KV_REPEATED_KEY_ID) | FRAME_REFUSALS | \
      BIT(KV_KEY_ID_UNLIKE_CONTENTS))
 
+#define PACKET_REFUSALS \
+    (BIT(KV_ROOT_KEY_LENGTH) | BIT(KV_ATTRIBUTE_TYPE) | BIT(KV_PACKET_LENGTH) | BIT(KV_PACKET_ATTRIBUTE_BOUNDS) | BIT(KV_MAC_ATTRIBUTE))
+
 #define ANY { 0, MOST_BYTES }
 #define ROOT_KEY { 64, 128 }
 #define LABEL { 1, 255 }
@@ -71,6 +74,10 @@ const shape shapes[CALLS] = {
                                           BIT(KV_KEY_TO_WRAP_LENGTH) | BIT(KV_ROOM) },
     [READ_KEY_ATTRIBUTE] = { .name = "kv_read_key_attribute", .slices = 2, BYTES, .counts = { SIXTEEN, { 76, 252 } }, OUT_BYTES(192),
                              .refusals = BIT(KV_KEK_LENGTH) | FRAME_REFUSALS | BIT(KV_ROOM) | BIT(KV_INTEGRITY) },
+    [SIGN_PACKET] = { .name = "kv_sign_packet", .slices = 2, BYTES, .counts = { ROOT_KEY, { 72, 4096 } }, .numbers = { 1 },
+                      .refusals = PACKET_REFUSALS, .changes = 1 },
+    [CHECK_PACKET] = { .name = "kv_check_packet", .slices = 2, BYTES, .counts = { ROOT_KEY, { 72, 4096 } }, .numbers = { 1 },
+                       .refusals = PACKET_REFUSALS | BIT(KV_MAC_DIFFERS) },
     [WRITE_BUNDLE] = { .name = "kv_write_bundle", .slices = 1, BYTES, .counts = { { 76, 16128 } }, OUT_BYTES(17410),
                        .refusals = FRAME_REFUSALS | BIT(KV_BUNDLE_COUNT) | BIT(KV_REPEATED_KEY_ID) | BIT(KV_ROOM) },
     [READ_BUNDLE] = { .name = "kv_read_bundle", .slices = 1, BYTES, .counts = { BUNDLE }, OUT_BYTES(16128),
@@ -125,6 +132,17 @@ static void take_key_attribute(answer *given, kv_key_attribute r)
     given->fields[3] = r.type;
     memcpy(given->kek_id, r.kek_id, 16);
     memcpy(given->key_id, r.key_id, 16);
+}
+
+/* Says which part of an accepted packet may have changed: the 32 bytes from byte 20 on of its first attribute of the type. */
+static void name_signed(const request *asked, answer *given)
+{
+    const uint8_t *packet = asked->in[1].values;
+    size_t at = 20;
+    while (at + 52 <= asked->in[1].count && packet[at] != (uint8_t)asked->numbers[0] && packet[at + 1] >= 2)
+        at += packet[at + 1];
+    given->changed_at = at + 20;
+    given->changed = 32;
 }
 
 kv_slots slots_of(slice bytes)
@@ -184,6 +202,12 @@ static void call(const request *asked, void *const in[SLICES], void *out, answer
                                                    d, dn, out, room), 1);
         break;
     case READ_KEY_ATTRIBUTE: take_key_attribute(given, kv_read_key_attribute(a, an, b, bn, out, room)); break;
+    case SIGN_PACKET:
+        take_outcome(given, kv_sign_packet(a, an, (uint8_t)numbers[0], in[1], bn), 0);
+        if (given->refusal == KV_ACCEPTED)
+            name_signed(asked, given);
+        break;
+    case CHECK_PACKET: take_outcome(given, kv_check_packet(a, an, (uint8_t)numbers[0], b, bn), 0); break;
     case WRITE_BUNDLE: take_outcome(given, kv_write_bundle(a, an, out, room), 1); break;
     case READ_BUNDLE: take_outcome(given, kv_read_bundle(a, an, out, room), 1); break;
     case PUT_SLOT: take_slots(asked, given, slots, kv_put_slot(slots, name_of(numbers[0]), numbers[1])); break;

@@ -345,6 +345,47 @@ static void check_opened(const request *asked, const answer *given)
            "written again is not the same bytes");
 }
 
+/* The MAC of a packet over kv_hmac_sha256: of the packet with zeros for the 32 bytes at a place. */
+static void packet_mac(const request *asked, size_t at, uint8_t mac[DIGEST])
+{
+    text packet = { 0 };
+    append_slice(&packet, asked->in[1]);
+    expect(at + DIGEST <= packet.length, asked, "accepted a packet that has no room for a MAC");
+    memset(packet.bytes + at, 0, DIGEST);
+    expect_digest(asked, kv_hmac_sha256(asked->in[0].values, asked->in[0].count, packet.bytes, packet.length, mac, DIGEST));
+    free(packet.bytes);
+}
+
+/* What was signed has the MAC, is accepted by the check, and is not with any other byte. */
+static void check_signed(const request *asked, const answer *given)
+{
+    uint8_t mac[DIGEST], *packet = (uint8_t *)given->after;
+    const uint8_t type = (uint8_t)asked->numbers[0];
+    expect(given->fields[0] == DIGEST, asked, "did not return 32");
+    packet_mac(asked, given->changed_at, mac);
+    expect(same(packet + given->changed_at, mac, DIGEST), asked, "is not the HMAC of the packet with its MAC as zeros");
+    text copy = { 0 };
+    append(&copy, packet, asked->in[1].count);
+    expect(kv_check_packet(asked->in[0].values, asked->in[0].count, type, copy.bytes, copy.length).refusal == KV_ACCEPTED, asked,
+           "is not accepted by kv_check_packet");
+    copy.bytes[given->changed_at] ^= 1;
+    expect(kv_check_packet(asked->in[0].values, asked->in[0].count, type, copy.bytes, copy.length).refusal == KV_MAC_DIFFERS, asked,
+           "is accepted with another MAC");
+    free(copy.bytes);
+}
+
+/* What is accepted, signed again, is the same bytes. */
+static void check_checked(const request *asked)
+{
+    text copy = { 0 };
+    append_slice(&copy, asked->in[1]);
+    const uint8_t type = (uint8_t)asked->numbers[0];
+    expect(kv_sign_packet(asked->in[0].values, asked->in[0].count, type, copy.bytes, copy.length).refusal == KV_ACCEPTED, asked,
+           "accepted a packet that kv_sign_packet refuses");
+    expect(same(copy.bytes, asked->in[1].values, copy.length), asked, "accepted a packet that signing changes");
+    free(copy.bytes);
+}
+
 /* A bundle reads back to the attributes that it was made of. */
 static void check_bundle(const request *asked, const answer *given)
 {
@@ -411,6 +452,8 @@ void check_relations(const request *asked, const answer *given)
     case READ_AREA_LENIENT: check_area(asked, given); break;
     case WRITE_KEY_ATTRIBUTE: check_attribute(asked, given); break;
     case READ_KEY_ATTRIBUTE: check_opened(asked, given); break;
+    case SIGN_PACKET: check_signed(asked, given); break;
+    case CHECK_PACKET: check_checked(asked); break;
     case WRITE_BUNDLE: check_bundle(asked, given); break;
     case READ_BUNDLE: check_unpacked(asked, given); break;
     case PUT_SLOT: check_put(asked, given); break;

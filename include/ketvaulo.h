@@ -35,7 +35,10 @@
  * the MAC of the message protects the list. docs/NEGOTIATION.md has an example.
  *
  * Key attributes. A key travels to a neighbour wrapped in a RADIUS Key attribute: the sender calls kv_write_key_attribute,
- * the receiver calls kv_read_key_attribute, and both hold the same KEK.
+ * the receiver calls kv_read_key_attribute, and both hold the same KEK. The unwrapping protects the key alone, so a key is
+ * delivered safely in this order. The sender writes the Key attribute into a RADIUS packet that has a place for a
+ * Message-Authentication-Code, and signs the packet last (kv_sign_packet). The receiver checks the packet first
+ * (kv_check_packet), and reads the Key attribute only if that was accepted. Then App ID, IDs and lifetime are the sender's.
  *
  * Bundles. When a box moves, its Key attributes travel in one file, a bundle: kv_write_bundle makes it of the attributes packed
  * end to end, and kv_read_bundle gives them back so. No KEK is wanted for either.
@@ -48,7 +51,7 @@
  *
  * - A slice is a pointer and then its length. The pointer is aligned for its type, and the length counts values of that
  *   type. A slice of length 0 may have a null pointer.
- * - `out` is the slice that a call writes, always from its start. It must not overlap an input of the same call. Inputs
+ * - `out` is the slice that a call writes, always from its start (kv_sign_packet writes a part of `packet`). It must not overlap an input of the same call. Inputs
  *   may overlap each other, and no call alters one.
  * - Every input has an answer. A call gives only the refusals that its comment lists. If several hold, it gives the
  *   first of them.
@@ -137,6 +140,10 @@
 #define KV_WRAPPED_KEY_MAX 192
 #define KV_KEY_ATTRIBUTE_MORE 60  /* a Key attribute is so much longer than its key */
 #define KV_KEY_ATTRIBUTE_MAX 252
+#define KV_PACKET_MIN 20          /* a RADIUS packet */
+#define KV_PACKET_MAX 4096
+#define KV_MAC_ATTRIBUTE_LEN 52   /* a Message-Authentication-Code attribute; its MAC stands from byte 20 on */
+#define KV_MAC_LEN 32
 #define KV_BUNDLE_KEYS_MAX 64     /* attributes of a bundle */
 #define KV_BUNDLE_MAX 17410       /* the largest bundle */
 #define KV_BUNDLE_BODIES_MAX 16128 /* room for the attributes of any bundle, packed end to end */
@@ -410,7 +417,7 @@ KV_USE_RESULT kv_area kv_read_area_lenient(const uint8_t *area, size_t area_len,
  *
  * The unwrapping authenticates the key alone. Type, App ID, both IDs and lifetime are not covered by it: whoever can alter
  * the packet can alter them, and the attribute is still accepted. Rely on them only where the whole packet is
- * authenticated. */
+ * authenticated, which kv_check_packet does. */
 
 /* Writes the attribute that carries a key. Returns its length, which is 60 plus `key_len`.
  * Refusals, in this order: 20 type 0; 21 KEK ID or Key ID not 16 bytes; 22 KEK not 16 bytes; 23 key not a multiple of 8
@@ -435,6 +442,33 @@ KV_LAYOUT(sizeof(kv_key_attribute) == 52 && offsetof(kv_key_attribute, type) == 
  * 27 IV field not eight bytes A6; 6 `out` has no room for the key; 28 the unwrapping does not yield the initial value. */
 KV_USE_RESULT kv_key_attribute kv_read_key_attribute(const uint8_t *kek, size_t kek_len, const uint8_t *attribute,
                                                      size_t attribute_len, uint8_t *out, size_t out_len);
+
+/* The Message-Authentication-Code attribute of a RADIUS packet (draft-zorn-radius-keywrap-03, section 3.3), of MAC Type 2,
+ * HMAC-SHA-256. By byte: 0 type, which the caller gives, 1 length (52), 2 reserved (0), 3 MAC Type (2), 4 MAC Key ID (16),
+ * 20 MAC (32). The MAC is the HMAC-SHA-256 under the MAC key of the whole packet as lent, its own 32 bytes read as zero.
+ *
+ * A packet is 20 to 4,096 bytes: 0 code, 1 identifier, 2 length, 4 authenticator (16), 20 attributes, each a type, a length
+ * in bytes that counts these two, and a value. What is lent is the packet and nothing beyond it.
+ *
+ * What is left to the caller: to put in the authenticator that the section names for that kind of packet, before signing and
+ * before checking; to choose the MAC key by the MAC Key ID, which no call looks at; to refuse a packet that came before.
+ *
+ * What is signed, is accepted under the same key and type number. Signing again changes nothing. A packet is accepted exactly
+ * where signing it would change nothing, and every byte outside the MAC's 32 is covered by the MAC. */
+
+/* Signs a packet: writes the MAC into its attribute of the type, over what stands there. All bytes of the packet but the MAC's
+ * 32 stay as they were. `packet` is lent to be written, and must not overlap the key. Returns 32.
+ * Refusals, in this order: 1 MAC key not 64 to 128 bytes; 20 type 0; 35 packet not 20 to 4,096 bytes, or of another length than
+ * its header says; 36 any attribute shorter than 2 or past the packet's end; 37 no attribute of the type, more than one, or one
+ * that is not 52 bytes long, has a reserved byte that is not zero, or another MAC Type. */
+KV_USE_RESULT kv_outcome kv_sign_packet(const uint8_t *mac_key, size_t mac_key_len, uint8_t type, uint8_t *packet,
+                                        size_t packet_len);
+
+/* Checks a packet: its MAC is the one that kv_sign_packet would write. All 32 bytes are compared, whatever they hold. Writes
+ * nothing, and returns 0.
+ * Refusals, in this order: those of kv_sign_packet; 38 the MAC differs. */
+KV_USE_RESULT kv_outcome kv_check_packet(const uint8_t *mac_key, size_t mac_key_len, uint8_t type, const uint8_t *packet,
+                                         size_t packet_len);
 
 /* A bundle (document 02, request 9): a file of Key attributes with its table of contents first. By byte: 0 the count of the
  * attributes, 1 to 64, in two bytes; then for each attribute a line of 20 bytes, its Key ID (16), its offset from the file's

@@ -89,6 +89,19 @@ int main(void)
     IS(wrap(KV_ID_LEN, KV_KEK_LEN, KV_WRAPPED_KEY_MIN - 8, sizeof out), KV_KEY_TO_WRAP_LENGTH);
     IS(wrap(KV_ID_LEN, KV_KEK_LEN, KV_WRAPPED_KEY_MAX + 8, sizeof out), KV_KEY_TO_WRAP_LENGTH);
 
+    static uint8_t packet[KV_PACKET_MAX + 1];
+    memset(packet, 2, sizeof packet);
+    packet[20] = 90, packet[21] = KV_MAC_ATTRIBUTE_LEN, packet[22] = 0;
+    packet[2] = KV_PACKET_MAX >> 8, packet[3] = KV_PACKET_MAX & 255;
+    GIVES(kv_sign_packet(bytes, KV_ROOT_KEY_MIN, 90, packet, KV_PACKET_MAX), KV_MAC_LEN);
+    IS(kv_check_packet(bytes, KV_ROOT_KEY_MIN, 90, packet, KV_PACKET_MAX), KV_ACCEPTED);
+    packet[3] = 1;
+    IS(kv_check_packet(bytes, KV_ROOT_KEY_MIN, 90, packet, KV_PACKET_MAX + 1), KV_PACKET_LENGTH);
+    packet[2] = 0, packet[3] = KV_PACKET_MIN;
+    IS(kv_check_packet(bytes, KV_ROOT_KEY_MIN, 90, packet, KV_PACKET_MIN), KV_MAC_ATTRIBUTE);
+    packet[3] = KV_PACKET_MIN - 1;
+    IS(kv_check_packet(bytes, KV_ROOT_KEY_MIN, 90, packet, KV_PACKET_MIN - 1), KV_PACKET_LENGTH);
+
     static uint8_t attributes[(KV_BUNDLE_KEYS_MAX + 1) * KV_KEY_ATTRIBUTE_MAX], file[KV_BUNDLE_MAX + KV_KEY_ATTRIBUTE_MAX + 20];
     for (size_t i = 0; i < KV_BUNDLE_KEYS_MAX + 1; i++) {
         uint8_t *attribute = attributes + i * KV_KEY_ATTRIBUTE_MAX;

@@ -55,6 +55,12 @@ impl Lender {
         self.hand_out(place, bytes.len())
     }
 
+    /// Lends bytes that the call may read and write: its output buffer has this content.
+    pub fn changing(&mut self, name: &'static str, bytes: &[u8]) -> Lent<u8> {
+        self.out = self.place(name, bytes, 1);
+        self.hand_out(self.out.clone(), bytes.len())
+    }
+
     /// Lends two-byte values, numbers of the machine, that the call may only read.
     pub fn values(&mut self, name: &'static str, values: &[u16]) -> Lent<u16> {
         let place = self.place(name, &machine_bytes(values), 2);

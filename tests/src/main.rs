@@ -77,6 +77,8 @@ fn main() -> ExitCode {
         ["kv_read_key_attribute"] "kv_read_key_attribute" => cases::key_attribute::read;
         ["kv_write_key_attribute", "kv_read_key_attribute"] "key attributes, there and back"
             => cases::key_attribute::round_trips;
+        ["kv_sign_packet", "kv_check_packet"] "kv_sign_packet" => cases::packet::sign;
+        ["kv_sign_packet", "kv_check_packet"] "kv_check_packet" => cases::packet::check;
         ["kv_write_bundle"] "kv_write_bundle" => cases::bundle::write;
         ["kv_read_bundle"] "kv_read_bundle" => cases::bundle::read;
         ["kv_write_bundle", "kv_read_bundle"] "bundles, there and back" => cases::bundle::round_trips;
@@ -100,6 +102,7 @@ fn tell_apart() {
         ("kv_answer_offer, kv_check_renewed", cases::offers::APART),
         ("kv_read_area, kv_read_area_lenient", cases::area::APART),
         ("kv_read_key_attribute", cases::key_attribute::APART),
+        ("kv_sign_packet, kv_check_packet", cases::packet::APART),
         ("kv_write_bundle", cases::bundle::WRITE_APART),
         ("kv_read_bundle", cases::bundle::READ_APART),
         ("kv_put_slot", cases::slots::APART),

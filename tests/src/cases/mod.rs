@@ -9,6 +9,7 @@ pub mod hash;
 pub mod key_attribute;
 pub mod key_name;
 pub mod offers;
+pub mod packet;
 pub mod paper;
 pub mod published;
 pub mod slots;

@@ -7,6 +7,7 @@ pub mod domain;
 pub mod key_attribute;
 pub mod key_name;
 pub mod offers;
+pub mod packet;
 pub mod prf;
 pub mod slots;
 pub mod usage;
