@@ -5,8 +5,9 @@ ghost use mathlib.Core.List.{_++_};
 ghost use Prim.Native.Nat.{_-_, _≤_};
 ghost use lib.ListN.{length, replicate};
 ghost use Rattle.sha256_block.specs.Fips180.{sha256, compress, H0};
-ghost use Rattle.hmac.specs.Rfc2104 as Rfc2104;
-ghost use Rattle.hmac.specs.Rfc2104.{keyBlock, ipad, opad, hmacSha256};
+ghost use Rattle.rfc2104.specs.Rfc2104 as Rfc2104;
+ghost use Rattle.rfc2104.specs.Rfc2104.{keyBlock, ipad, opad};
+ghost use Rattle.hmac.specs.Rfc2104.{hmacSha256};
 ghost use Rattle.hmac.specs.Keyed.{keyValue, hashAfter, macByValues};
 use sha256::Sha256;
 

@@ -4,7 +4,8 @@ use Prim.Native.Nat.{ℕ, _+_, _-_, _*_}
 use mathlib.Core.Path.{_≡_, _∙_}
 use mathlib.Core.List.{List, [], _∷_, _++_, append-assoc}
 use lib.ListN.{take, drop}
-use Rattle.hmac.specs.Rfc2104.{ipad, opad, hmacSha256}
+use Rattle.rfc2104.specs.Rfc2104.{ipad, opad}
+use Rattle.hmac.specs.Rfc2104.{hmacSha256}
 use Rattle.hmac.specs.Keyed.{keyValue, macByValues}
 use Rattle.hmac.proofs.Laws.{kept-values-give-mac, hmacSha256-length}
 use Rattle.prf_plus.specs.PrfPlus.{inputAfter, block, blocks}

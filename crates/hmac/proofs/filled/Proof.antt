@@ -4,7 +4,7 @@ use mathlib.Core.Path.{_∙_}
 use denote.Ref.{now}
 use lib.ListN.{replicate}
 use Rattle.slices.proofs.Lists.{copied-front}
-use Rattle.hmac.proofs.Blocks.{filled-all}
+use Rattle.rfc2104.proofs.Blocks.{filled-all}
 use borrow.Author.Needs.{needs}
 use Rattle.hmac.proofs.filled.Statement.{statement}
 use Rattle.hmac.proofs.filled.Tie as tie

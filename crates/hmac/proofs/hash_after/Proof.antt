@@ -4,7 +4,7 @@ use mathlib.Core.Path.{ap, _∙_}
 use denote.Ref.{now}
 use Rattle.fips180.specs.Stream.{Progress}
 use Rattle.sha256.specs.Stream.{absorbed, finished}
-use Rattle.hmac.specs.Keyed.{hashAfter}
+use Rattle.rfc2104.specs.Keyed.{hashAfterBy}
 use borrow.Author.Needs.{needs}
 use Rattle.hmac.proofs.hash_after.Statement.{statement}
 use Rattle.hmac.proofs.hash_after.Tie as tie
@@ -19,7 +19,7 @@ finish-requires : tie.Need-finish-requires
 finish-requires c κs = search needs
 
 returns : tie.Need-returns
-unfolding hashAfter
+unfolding hashAfterBy
 returns c =
     let message = now (c .before .before .before .before .args .message) in
     c .finish .ensures ∙ ap finished (c .before .absorb .ensures ∙ ap (λ (s : Progress). absorbed s message) (c .before .before .after .ensures))

@@ -2,7 +2,7 @@
 -- Assumes nothing.
 use denote.Ref.{now}
 use Rattle.sha256_block.specs.Fips180.{sha256}
-use Rattle.hmac.proofs.Blocks.{key-short, key-long}
+use Rattle.rfc2104.proofs.Blocks.{key-short, key-long}
 use borrow.Author.Needs.{needs}
 use Rattle.hmac.proofs.key_block.Statement.{statement}
 use Rattle.hmac.proofs.key_block.Tie as tie

@@ -4,8 +4,9 @@ use mathlib.Core.Path.{ap, _∙_}
 use mathlib.Core.List.{List}
 use Prim.Native.Nat.{ℕ}
 use denote.Ref.{now}
-use Rattle.hmac.specs.Rfc2104.{ipad, opad}
-use Rattle.hmac.specs.Keyed.{hashAfter, macByValues}
+use Rattle.rfc2104.specs.Rfc2104.{ipad, opad}
+use Rattle.rfc2104.specs.Keyed.{macByValuesBy}
+use Rattle.hmac.specs.Keyed.{hashAfter}
 use Rattle.hmac.proofs.Laws.{key-value, kept-values-give-mac}
 use borrow.Author.Needs.{needs}
 use Rattle.hmac.proofs.mac.Statement.{statement}
@@ -27,7 +28,7 @@ outer-hash-requires : tie.Need-outer-hash-requires
 outer-hash-requires c κs = search needs
 
 returns : tie.Need-returns
-unfolding macByValues
+unfolding macByValuesBy
 returns c =
     let hashed = c .before .before in
     let keyed = hashed .before in

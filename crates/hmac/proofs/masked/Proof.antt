@@ -6,8 +6,8 @@ use mathlib.Core.List.{_++_}
 use native.Mathlib.Omega.{arith}
 use borrow.Author.Needs.{needs}
 use lib.ListN.{length, take, drop}
-use Rattle.hmac.specs.Rfc2104 as rfc
-use Rattle.hmac.proofs.Blocks.{mask-turn, masked-all}
+use Rattle.rfc2104.specs.Rfc2104 as rfc
+use Rattle.rfc2104.proofs.Blocks.{mask-turn, masked-all}
 use Rattle.hmac.proofs.masked.Statement.{statement}
 use Rattle.hmac.proofs.masked.Tie as tie
 

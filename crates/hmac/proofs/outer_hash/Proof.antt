@@ -3,7 +3,7 @@
 use mathlib.Core.Path.{ap, _∙_}
 use Rattle.fips180.specs.Stream.{Progress}
 use Rattle.sha256.specs.Stream.{absorbed, finished}
-use Rattle.hmac.specs.Keyed.{hashAfter}
+use Rattle.rfc2104.specs.Keyed.{hashAfterBy}
 use borrow.Author.Needs.{needs}
 use Rattle.hmac.proofs.outer_hash.Statement.{statement}
 use Rattle.hmac.proofs.outer_hash.Tie as tie
@@ -21,7 +21,7 @@ finish-requires : tie.Need-finish-requires
 finish-requires c κs = search needs
 
 returns : tie.Need-returns
-unfolding hashAfter
+unfolding hashAfterBy
 returns c =
     let digest = c .before .before .before .before .args .t2 in
     c .finish .ensures ∙ ap finished (c .before .absorb .ensures ∙ ap (λ (s : Progress). absorbed s digest) (c .before .before .before .after .ensures))

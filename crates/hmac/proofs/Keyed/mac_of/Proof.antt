@@ -6,7 +6,8 @@ use Prim.Native.Nat.{ℕ}
 use denote.Ref.{now}
 use Rattle.fips180.specs.Stream.{Progress}
 use Rattle.sha256.specs.Stream.{absorbed, finished}
-use Rattle.hmac.specs.Keyed.{hashAfter, macByValues}
+use Rattle.rfc2104.specs.Keyed.{hashAfterBy, macByValuesBy}
+use Rattle.hmac.specs.Keyed.{hashAfter}
 use borrow.Author.Needs.{needs}
 use Rattle.hmac.proofs.Keyed.mac_of.Statement.{statement}
 use Rattle.hmac.proofs.Keyed.mac_of.Tie as tie
@@ -21,7 +22,7 @@ outer-hash-requires : tie.Need-outer-hash-requires
 outer-hash-requires c κs = search needs
 
 returns : tie.Need-returns
-unfolding hashAfter macByValues
+unfolding hashAfterBy macByValuesBy
 returns c =
     let a = c .before .before .before .before .before .before .before .before .before .before .before .args in
     let text : List ℕ = now (a .a) ++ (now (a .b) ++ (now (a .c) ++ (now (a .d) ++ (now (a .e) ++ now (a .f))))) in

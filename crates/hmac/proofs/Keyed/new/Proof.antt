@@ -1,7 +1,7 @@
 -- `hmac::Keyed::new` meets its contract: the key's block, masked by each of the two pads.
 -- Assumes nothing.
 use denote.Ref.{now}
-use Rattle.hmac.specs.Rfc2104.{ipad, opad}
+use Rattle.rfc2104.specs.Rfc2104.{ipad, opad}
 use Rattle.hmac.proofs.Laws.{key-value}
 use borrow.Author.Needs.{needs}
 use Rattle.hmac.proofs.Keyed.new.Statement.{statement}

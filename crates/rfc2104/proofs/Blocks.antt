@@ -12,9 +12,7 @@ use lib.Dec.{leb}
 use lib.ListN.{length, getD, set, take, drop, replicate, length-map, List·getD-map, length-append, length-replicate, drop-of-length-le}
 use lib.Seq.{take-all}
 use Rattle.slices.proofs.Lists.{copy-turn}
-use Rattle.sha256_block.specs.Fips180.{sha256}
-use Rattle.sha256.proofs.Stream.{sha256-length}
-use Rattle.hmac.specs.Rfc2104.{masked, shortKey, keyBlock}
+use Rattle.rfc2104.specs.Rfc2104.{masked, shortKey, keyBlock}
 
 drop-replicate : (n m : ℕ) → drop {A = ℕ} n (replicate m 0) ≡ replicate (m - n) 0
 drop-replicate zero m = let e : m ≡ m - 0 = omega arith in ap (λ (k : ℕ). replicate k 0) e
@@ -59,17 +57,17 @@ module _ (hash : List ℕ → List ℕ) where
       let s : cond (leb (length k) 64) k (hash k) ≡ hash k = ap (λ (t : Bool). cond t k (hash k)) (lt-leb (length k) 64 h) in
       e ∙ ap (λ (l : List ℕ). l ++ replicate (64 - length l) 0) (f ∙ sym s)
 
--- the key's block has 64 bytes: a key over 64 bytes becomes one of 32
-pub keyBlock-length : (k : List ℕ) → length (keyBlock sha256 k) ≡ 64
-unfolding keyBlock shortKey
-keyBlock-length k =
-    length-append (shortKey sha256 k) (replicate (64 - length (shortKey sha256 k)) 0)
-    ∙ ap (λ (n : ℕ). length (shortKey sha256 k) + n) (length-replicate (64 - length (shortKey sha256 k)) 0)
-    ∙ filled (length (shortKey sha256 k)) (short (decLt 64 (length k)))
-  where
-    filled : (n : ℕ) → n ≤ 64 → n + (64 - n) ≡ 64
-    filled n h = omega arith
+  -- the key's block has 64 bytes, since a digest has no more
+  pub keyBlock-length : ((m : List ℕ) → length (hash m) ≤ 64) → (k : List ℕ) → length (keyBlock hash k) ≡ 64
+  unfolding keyBlock shortKey
+  keyBlock-length fits k =
+      length-append (shortKey hash k) (replicate (64 - length (shortKey hash k)) 0)
+      ∙ ap (λ (n : ℕ). length (shortKey hash k) + n) (length-replicate (64 - length (shortKey hash k)) 0)
+      ∙ filled (length (shortKey hash k)) (short (decLt 64 (length k)))
+    where
+      filled : (n : ℕ) → n ≤ 64 → n + (64 - n) ≡ 64
+      filled n h = omega arith
 
-    short : Dec (64 < length k) → length (cond (leb (length k) 64) k (sha256 k)) ≤ 64
-    short (yes h) = rw (lt-leb (length k) 64 h) (omega (arith, sha256-length k))
-    short (no h) = let l : length k ≤ 64 = omega arith in rw (le-leb (length k) 64 l) l
+      short : Dec (64 < length k) → length (cond (leb (length k) 64) k (hash k)) ≤ 64
+      short (yes h) = rw (lt-leb (length k) 64 h) (fits k)
+      short (no h) = let l : length k ≤ 64 = omega arith in rw (le-leb (length k) 64 l) l
