@@ -1,7 +1,9 @@
 pub mod Bits
 pub mod Padding
 pub mod Blocks
-pub mod Schedule
+mod Schedule
+pub mod Sha1Schedule
+pub mod Sha256Schedule
 pub mod Stream
 pub mod Absorbing
 pub mod Closing

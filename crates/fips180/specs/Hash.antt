@@ -1,4 +1,5 @@
--- FIPS 180-4: the padding of a message, its blocks and its hash, for any compression of blocks of 64 bytes. Messages are whole bytes.
+-- FIPS 180-4: the padding of a message, its blocks and its hash, for any compression of blocks of 64 bytes, and the words of a block's
+-- schedule, for any rule of the next word. Messages are whole bytes.
 -- Assumes nothing.
 use mathlib.Core.List.{List, [], _∷_, _++_}
 use Prim.Native.Nat.{ℕ, zero, suc, _+_, _-_, _*_, _/_, _%_, _^_}
@@ -15,6 +16,11 @@ padding n = 0x80 ∷ replicate (zeros n) 0 ++ be64 (8 * n % 2 ^ 64)
 
 unfoldable pub padded : List ℕ → List ℕ
 padded m = m ++ padding (length m)
+
+-- 6.1.2 and 6.2.2, 1: the first t words of a schedule; `next` gives a word by the words before it and its place
+unfoldable pub scheduleBy : (List ℕ → ℕ → ℕ) → ℕ → List ℕ
+scheduleBy next zero = []
+scheduleBy next (suc t) = scheduleBy next t ++ (next (scheduleBy next t) t ∷ [])
 
 -- 6.1.2 and 6.2.2: the hash value after the first n blocks of m, from the hash value h
 unfoldable pub blocksBy : (List ℕ → List ℕ → List ℕ) → ℕ → List ℕ → List ℕ → List ℕ

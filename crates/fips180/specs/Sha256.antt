@@ -9,7 +9,7 @@ use lib.Dec.{ltb}
 use lib.ListN.{getD}
 use Rattle.slices.specs.Numbers.{be32}
 use Rattle.fips180.specs.Words.{SHR, ROTR, Ch, Maj, word}
-use Rattle.fips180.specs.Hash.{blocksBy, hashBy}
+use Rattle.fips180.specs.Hash.{scheduleBy, blocksBy, hashBy}
 
 -- 4.1.2: the functions (4.4) to (4.7); Ch and Maj, (4.2) and (4.3), are those of SHA-1 too
 abbrev pub Σ0 : ℕ → ℕ
@@ -48,14 +48,9 @@ nextW w2 w7 w15 w16 = (σ1 w2 + w7 + σ0 w15 + w16) % 2 ^ 32
 unfoldable pub wordAt : List ℕ → List ℕ → ℕ → ℕ
 wordAt b w t = cond (ltb t 16) (word b t) (nextW (getD w (t - 2) 0) (getD w (t - 7) 0) (getD w (t - 15) 0) (getD w (t - 16) 0))
 
--- the schedule's first t words
-unfoldable pub schedule : List ℕ → ℕ → List ℕ
-schedule b zero = []
-schedule b (suc t) = schedule b t ++ (wordAt b (schedule b t) t ∷ [])
-
 -- W t, which the standard defines by its two cases: `ScheduleByCases` of Statements.antt is its text
 unfoldable pub W : List ℕ → ℕ → ℕ
-W b t = getD (schedule b (suc t)) t 0
+W b t = getD (scheduleBy (wordAt b) (suc t)) t 0
 
 -- 6.2.2, 3: a round, on the list of the working variables a b c d e f g h; each sum is taken whole modulo 2 ^ 32
 unfoldable pub T1 : ℕ → ℕ → ℕ → ℕ → ℕ → ℕ → ℕ

@@ -5,6 +5,7 @@ use Prim.Native.Nat.{ℕ, _+_, _-_, _%_, _<_, _≤_}
 use lib.ListN.{length}
 use Rattle.fips180.specs.Words.{word}
 use Rattle.fips180.specs.Hash.{zeros, padded, hashBy}
+use Rattle.fips180.specs.Sha1 as Sha1
 use Rattle.fips180.specs.Sha256.{nextW, W}
 use Rattle.fips180.specs.Stream.{started, startedAfter, absorbedBy, finishedBy}
 
@@ -18,12 +19,19 @@ abbrev pub PaddedIsBlocks : Type 0
 PaddedIsBlocks = (m : List ℕ) → length (padded m) % 64 ≡ 0
 
 -- 6.2.2, 1, word for word: W t is word t of the block for t from 0 to 15, and the sum over the words 2, 7, 15 and 16 before it for t from 16
--- on. `schedule-by-cases` of proofs/Schedule.antt
+-- on. `schedule-by-cases` of proofs/Sha256Schedule.antt
 abbrev pub ScheduleByCases : Type 0
 ScheduleByCases =
     (b : List ℕ) (t : ℕ)
     → (t < 16 → W b t ≡ word b t)
     × (16 ≤ t → W b t ≡ nextW (W b (t - 2)) (W b (t - 7)) (W b (t - 15)) (W b (t - 16)))
+
+-- 6.1.2, 1, word for word: the same for SHA-1, by the words 3, 8, 14 and 16 before W t. `schedule-by-cases` of proofs/Sha1Schedule.antt
+abbrev pub Sha1ScheduleByCases : Type 0
+Sha1ScheduleByCases =
+    (b : List ℕ) (t : ℕ)
+    → (t < 16 → Sha1.W b t ≡ word b t)
+    × (16 ≤ t → Sha1.W b t ≡ Sha1.nextW (Sha1.W b (t - 3)) (Sha1.W b (t - 8)) (Sha1.W b (t - 14)) (Sha1.W b (t - 16)))
 
 module _ (compress : List ℕ → List ℕ → List ℕ) (first : List ℕ) (written : List ℕ → List ℕ) where
   -- the digest of a hash in progress that has absorbed m is the hash of m. `stream-is-hash` of proofs/Stream.antt

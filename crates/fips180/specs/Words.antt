@@ -13,6 +13,10 @@ SHR n x = x / 2 ^ n
 abbrev pub ROTR : ℕ → ℕ → ℕ
 ROTR n x = bitOr (x / 2 ^ n) (x * 2 ^ (32 - n) % 2 ^ 32)
 
+-- 3.2, operation 5: the rotation of a word to the left by n bits, (x << n) ∨ (x >> 32 - n)
+abbrev pub ROTL : ℕ → ℕ → ℕ
+ROTL n x = bitOr (x * 2 ^ n % 2 ^ 32) (x / 2 ^ (32 - n))
+
 -- 4.1.1 and 4.1.2: the functions Ch and Maj. The complement of a word x is 2 ^ 32 - 1 - x
 abbrev pub Ch : ℕ → ℕ → ℕ → ℕ
 Ch x y z = bitXor (bitAnd x y) (bitAnd (2 ^ 32 - 1 - x) z)

@@ -9,7 +9,7 @@ use lib.ListN.{getD, set}
 use lib.Dec.{ltb, lit<}
 use Rattle.fips180.specs.Words.{word}
 use Rattle.fips180.specs.Sha256.{nextW, W}
-use Rattle.fips180.proofs.Schedule.{early, late}
+use Rattle.fips180.proofs.Sha256Schedule.{early, late}
 use Rattle.sha256_block.specs.Internal.{window}
 
 -- a block's own words are the first sixteen
