@@ -8,7 +8,8 @@ use lib.Dec.{eqb}
 use lib.ListN.{length, take}
 use Rattle.slices.specs.Ascii.{ascii}
 use Rattle.refusal.specs.Checks.{Check, bare, unless, _andThen_, check6}
-use Rattle.sha256_block.specs.Fips180.{sha256}
+use Rattle.fips180.specs.Sha256.{sha256}
+use Rattle.hmac_sha1.specs.Rfc2104.{hmacSha1}
 use Rattle.handover_rules.specs.Kdf.{kdfInput, kdf}
 
 -- the labels. The draft's formulas have a capital D and its letter lists a small one; document 02 lets the letter lists decide
@@ -29,21 +30,20 @@ r1Context ad an spa = ad ++ (an ++ spa)
 abbrev pub r0Root : List ℕ → List ℕ
 r0Root rrk = take 32 rrk
 
--- what iteration i of each key's derivation hands to the MAC
+-- what iteration i of each key's derivation hands to HMAC-SHA-1
 unfoldable pub r0Input : List ℕ → List ℕ → ℕ → List ℕ
 r0Input ad spa i = kdfInput r0Label (r0Context ad spa) 256 i
 
 unfoldable pub r1Input : List ℕ → List ℕ → List ℕ → ℕ → List ℕ
 r1Input ad an spa i = kdfInput r1Label (r1Context ad an spa) 256 i
 
-module _ (mac : List ℕ → List ℕ → List ℕ) where
-  -- R0-Key = KDF-256(rRK, "R0 Key derivation", AD-ID || SPA)
-  unfoldable pub r0Key : List ℕ → List ℕ → List ℕ → List ℕ
-  r0Key rrk ad spa = kdf mac (r0Root rrk) r0Label (r0Context ad spa) 256
+-- R0-Key = KDF-256(rRK, "R0 Key derivation", AD-ID || SPA)
+unfoldable pub r0Key : List ℕ → List ℕ → List ℕ → List ℕ
+r0Key rrk ad spa = kdf hmacSha1 (r0Root rrk) r0Label (r0Context ad spa) 256
 
-  -- R1-Key = KDF-256(R0-Key, "R1 Key derivation", AD-ID || AN-ID || SPA)
-  unfoldable pub r1Key : List ℕ → List ℕ → List ℕ → List ℕ → List ℕ
-  r1Key r0 ad an spa = kdf mac r0 r1Label (r1Context ad an spa) 256
+-- R1-Key = KDF-256(R0-Key, "R1 Key derivation", AD-ID || AN-ID || SPA)
+unfoldable pub r1Key : List ℕ → List ℕ → List ℕ → List ℕ → List ℕ
+r1Key r0 ad an spa = kdf hmacSha1 r0 r1Label (r1Context ad an spa) 256
 
 -- R0Name = Truncate-128(SHA-256(R0-Key || "R0 Key Name" || AD-ID || SPA))
 unfoldable pub r0Name : List ℕ → List ℕ → List ℕ → List ℕ

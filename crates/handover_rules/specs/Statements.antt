@@ -7,6 +7,7 @@ use mathlib.Core.Logic.{_↔_}
 use mathlib.Core.List.{List, [], _∷_, _++_}
 use lib.ListN.{length, take, replicate}
 use Rattle.refusal.specs.Checks.{pass, refuse, bare}
+use Rattle.hmac_sha1.specs.Rfc2104.{hmacSha1}
 use Rattle.handover_rules.specs.Kdf.{iterations}
 use Rattle.handover_rules.specs.Handover.{r0Input, r1Input, r0Key, r1Key, r0Check, r1Check, nameCheck}
 
@@ -47,12 +48,14 @@ InputBytes =
     ∷ ((ad ++ (an ++ spa)) ++ (0x00 ∷ 0x01 ∷ [])))
 
 -- The inputs that these speak of are those of the keys. A key is the first 32 bytes of the MACs of its two inputs, one after the other: under the
--- first 32 bytes of the rRK for an R0-Key, under the R0-Key for an R1-Key. There are two iterations
-abbrev pub KeyOfBlocks : (List ℕ → List ℕ → List ℕ) → Type 0
-KeyOfBlocks mac =
+-- first 32 bytes of the rRK for an R0-Key, under the R0-Key for an R1-Key. There are two iterations, and a key has 32 bytes
+abbrev pub KeyOfBlocks : Type 0
+KeyOfBlocks =
     (iterations 256 ≡ 2)
-    × ((rrk ad spa : List ℕ) → r0Key mac rrk ad spa ≡ take 32 (mac (take 32 rrk) (r0Input ad spa 1) ++ mac (take 32 rrk) (r0Input ad spa 2)))
-    × ((r0 ad an spa : List ℕ) → r1Key mac r0 ad an spa ≡ take 32 (mac r0 (r1Input ad an spa 1) ++ mac r0 (r1Input ad an spa 2)))
+    × ((rrk ad spa : List ℕ) → r0Key rrk ad spa ≡ take 32 (hmacSha1 (take 32 rrk) (r0Input ad spa 1) ++ hmacSha1 (take 32 rrk) (r0Input ad spa 2)))
+    × ((r0 ad an spa : List ℕ) → r1Key r0 ad an spa ≡ take 32 (hmacSha1 r0 (r1Input ad an spa 1) ++ hmacSha1 r0 (r1Input ad an spa 2)))
+    × ((rrk ad spa : List ℕ) → length (r0Key rrk ad spa) ≡ 32)
+    × ((r0 ad an spa : List ℕ) → length (r1Key r0 ad an spa) ≡ 32)
 
 -- Some requests are accepted, and others are refused with the first number that holds
 abbrev pub SomeAccepted : Type 0
