@@ -1,5 +1,5 @@
 // HMAC-SHA-256 (RFC 2104). `mac` is the MAC of one message. A caller that has a message in parts, or many under one key, keeps the
-// hash values after the key's two blocks in a `Keyed` (section 4), and each message starts with them.
+// hash values after the key's two blocks in a `Keyed` (section 4). It begins each message's hash with the inner value, and closes it.
 ghost use mathlib.Core.Path.{_≡_};
 ghost use mathlib.Core.List.{_++_};
 ghost use Prim.Native.Nat.{_-_, _≤_};
@@ -8,7 +8,7 @@ ghost use Rattle.sha256_block.specs.Fips180.{sha256, compress, H0};
 ghost use Rattle.rfc2104.specs.Rfc2104 as Rfc2104;
 ghost use Rattle.rfc2104.specs.Rfc2104.{keyBlock, ipad, opad};
 ghost use Rattle.hmac.specs.Rfc2104.{hmacSha256};
-ghost use Rattle.hmac.specs.Keyed.{keyValue, hashAfter, macByValues};
+ghost use Rattle.hmac.specs.Keyed.{keyValue, hashAfter};
 use sha256::Sha256;
 
 // The bytes that the key's block is masked with, for the inner hash and for the outer one.
@@ -71,7 +71,7 @@ fn outer_hash(value: [u32; 8], digest: [u8; Sha256::DIGEST]) -> [u8; Sha256::DIG
 
 // A key as it is kept for many messages: the hash values that the inner and the outer hash start with.
 pub struct Keyed {
-    inner: [u32; 8],
+    pub inner: [u32; 8],
     outer: [u32; 8],
 }
 
@@ -87,21 +87,11 @@ impl Keyed {
         Keyed { inner, outer }
     }
 
-    // The MAC of a message in six parts.
-    pub fn mac_of<'a>(
-        self,
-        a: &'a [u8],
-        b: &'a [u8],
-        c: &'a [u8],
-        d: &'a [u8],
-        e: &'a [u8],
-        f: &'a [u8],
-    ) -> [u8; Sha256::DIGEST]
-        ensures { λ r. ⌜ r ≡ macByValues (self .inner) (self .outer) (now (a .entry) ++ (now (b .entry) ++ (now (c .entry) ++ (now (d .entry) ++ (now (e .entry) ++ now (f .entry)))))) ⌝ }
+    // The MAC of a message, from the digest of its inner hash: the outer hash.
+    pub fn close(self, digest: [u8; Sha256::DIGEST]) -> [u8; Sha256::DIGEST]
+        ensures { λ r. ⌜ r ≡ hashAfter (self .outer) digest ⌝ }
     {
-        let inner = self.inner;
         let outer = self.outer;
-        let digest = Sha256::after(inner).finish_with(a, b, c, d, e, f);
         outer_hash(outer, digest)
     }
 }

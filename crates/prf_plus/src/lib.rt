@@ -7,7 +7,8 @@ ghost use lib.ListN.{length, drop};
 ghost use Rattle.refusal.specs.Checks.{_andThen_};
 ghost use Rattle.refusal.specs.Answers.{checkedAs, answerOf, answerTo, bufferAfter};
 ghost use Rattle.hmac.specs.Rfc2104.{hmacSha256};
-ghost use Rattle.prf_plus.specs.PrfPlus.{prfPlus, expandCheck};
+ghost use Rattle.hmac.specs.Keyed.{macByValues};
+ghost use Rattle.prf_plus.specs.PrfPlus.{inputAfter, prfPlus, expandCheck};
 use hmac::Keyed;
 use refusal::Checked;
 use refusal::Refusal;
@@ -23,6 +24,24 @@ fn check_expand(n: usize, room: usize) -> Checked
 {
     let length = refusal::unless(refusal::in_range(1, LONGEST, n), Refusal::KeyLength);
     refusal::then_check(length, refusal::check_room(n, room))
+}
+
+// A block of the expansion: the MAC of the block before it, the text and the block's number. Its hash begins after the key's block.
+fn block<'a>(
+    k: Keyed,
+    previous: &'a [u8],
+    a: &'a [u8],
+    b: &'a [u8],
+    c: &'a [u8],
+    d: &'a [u8],
+    i: u8,
+) -> [u8; Sha256::DIGEST]
+    ensures { λ r. ⌜ r ≡ macByValues (k .inner) (k .outer) (inputAfter (now (previous .entry)) (now (a .entry) ++ (now (b .entry) ++ (now (c .entry) ++ now (d .entry)))) i) ⌝ }
+{
+    let inner = k.inner;
+    let number = [i];
+    let digest = Sha256::after(inner).finish_with(previous, a, b, c, d, &number);
+    k.close(digest)
 }
 
 // n bytes of the expansion at the start of out. A block is written where the next finds it.
@@ -45,9 +64,8 @@ fn fill<'a>(
     let mut at = 0;
     while at < n {
         let next = i + 1;
-        let byte = next as u8;
-        let number = [byte];
-        let t = k.mac_of(&out[from..at], a, b, c, d, &number);
+        let number = next as u8;
+        let t = block(k, &out[from..at], a, b, c, d, number);
         let m = slices::least(Sha256::DIGEST, n - at);
         bytes::copy(&t[..m], &mut out[at..]);
         i = next;

@@ -5,11 +5,20 @@ use mathlib.Core.Path.{_≡_, ap, _∙_}
 use mathlib.Core.List.{List, _++_}
 use lib.ListN.{length}
 use Rattle.fips180.specs.Hash.{hashBy}
+use Rattle.fips180.specs.Stream.{Progress, startedAfter, absorbedBy, finishedBy}
 use Rattle.fips180.proofs.Stream.{after-block-is-hash}
 use Rattle.rfc2104.specs.Rfc2104.{masked, keyBlock, ipad, opad, hmac}
 use Rattle.rfc2104.specs.Keyed.{keyValueBy, hashAfterBy, macByValuesBy}
 use Rattle.rfc2104.specs.Statements.{KeptValuesGiveMac}
 use Rattle.rfc2104.proofs.Blocks.{masked-length, keyBlock-length}
+
+-- the MAC of a text as a program computes it from a key's two hash values: s is the inner hash begun, d its digest, r the outer hash
+pub mac-by-hashes : (compress : List ℕ → List ℕ → List ℕ) (written : List ℕ → List ℕ) (outer text : List ℕ) {inner d r : List ℕ} {s : Progress}
+    → s ≡ startedAfter inner → d ≡ finishedBy compress written (absorbedBy compress s text) → r ≡ hashAfterBy compress written outer d
+    → r ≡ macByValuesBy compress written inner outer text
+unfolding hashAfterBy macByValuesBy
+mac-by-hashes compress written outer text es ed er =
+    er ∙ ap (hashAfterBy compress written outer) (ed ∙ ap (λ (t : Progress). finishedBy compress written (absorbedBy compress t text)) es)
 
 module _ (compress : List ℕ → List ℕ → List ℕ) (first : List ℕ) (written : List ℕ → List ℕ) where
   abbrev hash : List ℕ → List ℕ

@@ -36,23 +36,20 @@ loop-holds c = (omega arith, omega arith, omega arith, refl, refl)
 add-next : tie.Need-add-next Inv-loop μ-loop
 add-next c = search needs
 
-cast-byte : tie.Need-cast-byte Inv-loop μ-loop
-cast-byte c = search needs
+cast-number : tie.Need-cast-number Inv-loop μ-loop
+cast-number c = search needs
 
-sub-mac-of : tie.Need-sub-mac-of Inv-loop μ-loop
-sub-mac-of c = search needs
+sub-block : tie.Need-sub-block Inv-loop μ-loop
+sub-block c = search needs
 
-part-mac-of-start : tie.Need-part-mac-of-start Inv-loop μ-loop
-part-mac-of-start c = search needs
+part-block-start : tie.Need-part-block-start Inv-loop μ-loop
+part-block-start c = search needs
 
-part-mac-of-end : tie.Need-part-mac-of-end Inv-loop μ-loop
-part-mac-of-end c = search needs
+part-block-end : tie.Need-part-block-end Inv-loop μ-loop
+part-block-end c = search needs
 
-slice-aggregate-mac-of : tie.Need-slice-aggregate-mac-of Inv-loop μ-loop
-slice-aggregate-mac-of c = search needs
-
-mac-of-requires : tie.Need-mac-of-requires Inv-loop μ-loop
-mac-of-requires c κs = search needs
+block-requires : tie.Need-block-requires Inv-loop μ-loop
+block-requires c κs = search needs
 
 sub-least : tie.Need-sub-least Inv-loop μ-loop
 sub-least c = search needs
@@ -65,11 +62,9 @@ array-share-prefix-t c = search needs
 
 slice-aggregate-copy : tie.Need-slice-aggregate-copy Inv-loop μ-loop
 slice-aggregate-copy c =
-    let m = c .before .least .result in
-    let t = c .before .before .mac-of .result in
+    let t = c .before .before .block .result in
     let l : length t ≡ 32 = search needs in
-    let h : m ≤ length t = omega arith in
-    sym (length-take-le m t h)
+    sym (length-take-le _ t (omega arith))
 
 sub-copy : tie.Need-sub-copy Inv-loop μ-loop
 sub-copy c = search needs
@@ -82,27 +77,29 @@ part-copy-end c = search needs
 
 copy-requires : tie.Need-copy-requires Inv-loop μ-loop
 copy-requires c κs =
-    let p = c .before .before .before .before .before .before .before .before in
-    let room : p .before .before .before .before .before .before .before .before .args .n ≤ length (now (p .before .before .before .before .before .before .before .before .args .out)) = p .before .before .before .before .before .before .before .before .pre .1 in
+    let p = c .before .before .before .before .before .before .before in
+    let start = p .before .before .before .before .before .before .before .before in
+    let room : start .args .n ≤ length (now (start .args .out)) = start .pre .1 in
     let size = c .before .before .least .ensures in
     let kept = p .loop .inv .3 in
     simp (length-take, length-drop) (omega arith)
 
 add-at : tie.Need-add-at Inv-loop μ-loop
 add-at c =
-    let l = c .before .before .before .before .before .before .before .before .before .before .before in
-    let most : l .before .before .before .before .before .before .before .before .args .n ≤ 8160 = l .before .before .before .before .before .before .before .before .pre .0 in
+    let l = c .before .before .before .before .before .before .before .before .before .before in
+    let start = l .before .before .before .before .before .before .before .before in
+    let most : start .args .n ≤ 8160 = start .pre .0 in
     let inv = l .loop .inv .1 in
     let size = c .before .before .before .before .before .least .ensures in
     search needs
 
 loop-less : tie.Need-loop-less Inv-loop μ-loop
-loop-less c = closer _ _ _ (c .before .before .before .before .before .before .before .before .before .before .loop-test .taken) (c .before .before .before .before .before .least .ensures)
+loop-less c = closer _ _ _ (c .before .before .before .before .before .before .before .before .before .loop-test .taken) (c .before .before .before .before .before .least .ensures)
 
 loop-again : tie.Need-loop-again Inv-loop μ-loop
 loop-again c =
     let p = c .before .before .before .before .before .before in
-    let here = p .before .before .before .before .before in
+    let here = p .before .before .before .before in
     let l = here .loop in
     let start = here .before .before .before .before .before .before .before .before in
     let s = start .args in
@@ -111,10 +108,10 @@ loop-again c =
     let text : List ℕ = now (s .a) ++ (now (s .b) ++ (now (s .c) ++ now (s .d))) in
     let m = c .before .before .before .before .before .least .result in
     let size : m ≡ min 32 (s .n - l .at) = c .before .before .before .before .before .least .ensures in
-    let t = p .mac-of .result in
-    let left : l .at < s .n = p .before .before .before .before .loop-test .taken in
+    let t = p .block .result in
+    let left : l .at < s .n = p .before .before .before .loop-test .taken in
     let full : l .at ≡ 32 * l .i = omega arith in
-    let b = next-under-key key (now (s .a)) (now (s .b)) (now (s .c)) (now (s .d)) (now (s .out)) (l .out) (l .i) (l .from) (l .at) (here .before .new .ensures .0) (here .before .new .ensures .1) (p .mac-of .ensures) (l .inv .0) full (l .inv .4) in
+    let b = next-under-key key text (now (s .out)) (l .out) (l .i) (l .from) (l .at) (here .before .new .ensures .0) (here .before .new .ensures .1) (p .block .ensures) (l .inv .0) full (l .inv .4) in
     let copied = copied-part (l .out) (take m t) (l .at) (c .before .before .copy .ensures .1) in
     let long : length (take m t) ≤ m = simp length-take (omega arith) in
     let fits : l .at + length (take m t) ≤ length (l .out) = omega (arith, l .inv .3) in (
@@ -146,12 +143,11 @@ fill-spec =
     new-requires
     loop-holds
     add-next
-    cast-byte
-    sub-mac-of
-    part-mac-of-start
-    part-mac-of-end
-    slice-aggregate-mac-of
-    mac-of-requires
+    cast-number
+    sub-block
+    part-block-start
+    part-block-end
+    block-requires
     sub-least
     least-requires
     array-share-prefix-t

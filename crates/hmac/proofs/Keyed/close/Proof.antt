@@ -1,0 +1,14 @@
+-- `hmac::Keyed::close` meets its contract: the outer hash.
+-- Assumes nothing.
+use borrow.Author.Needs.{needs}
+use Rattle.hmac.proofs.Keyed.close.Statement.{statement}
+use Rattle.hmac.proofs.Keyed.close.Tie as tie
+
+outer-hash-requires : tie.Need-outer-hash-requires
+outer-hash-requires c κs = search needs
+
+returns : tie.Need-returns
+returns c = c .outer-hash .ensures
+
+pub close-spec : {M : Type 1} → statement M
+close-spec = tie.close (tie.spec outer-hash-requires returns)
