@@ -1,11 +1,11 @@
--- The functions Ch and Maj of FIPS 180-4 with one `and`, and two functions of three words that agree on digits agree.
+-- The functions Ch and Maj of FIPS 180-4 with one `and`, Maj as a sum, and two functions of three words that agree on digits agree.
 -- Assumes nothing.
 use mathlib.Core.Path.{_≡_, refl, sym, ap, _∙_, subst}
 use Prim.Native.Nat.{ℕ, zero, suc, _+_, _-_, _*_, _/_, _%_, _^_, _<_}
-use native.Mathlib.Nat.{mod-lt, pow-suc}
+use native.Mathlib.Nat.{mod-lt, mod-eq-of-lt, pow-suc}
 use native.Mathlib.Omega.{arith}
 use lib.Pow.{pow-pos}
-use lib.Bits.{bitAnd, bitXor, xor-shr, and-shr, xor-mod, and-mod}
+use lib.Bits.{bitAnd, bitXor, xor-shr, and-shr, xor-mod, and-mod, xor-disjoint, xor-lt, and-lt}
 use Rattle.fips180.specs.Words.{Ch, Maj}
 
 -- the operations, shut
@@ -104,6 +104,35 @@ majority =
     (λ k x y z h. simp (xor-half, and-half)) (λ k x y z h. simp (xor-odd, and-odd)) (λ k x y z. simp (xor-half, and-half)) (λ k x y z. simp (xor-odd, and-odd))
     majority-none majority-table 32
 
+-- Maj as a sum: the words that are added have no bit in common
+apart-none : and (and 0 (xor 0 0)) (and 0 0) ≡ 0
+unfolding xor and
+apart-none = refl
+
+apart-table : (x y z : ℕ) → x < 2 → y < 2 → z < 2 → and (and x (xor y z)) (and y z) ≡ 0
+unfolding xor and
+apart-table = on-digits (λ x y z. and (and x (xor y z)) (and y z) ≡ 0) refl refl refl refl refl refl refl refl
+
+apart : (x y z : ℕ) → x < 2 ^ 32 → y < 2 ^ 32 → z < 2 ^ 32 → and (and x (xor y z)) (and y z) ≡ 0
+apart =
+    by-digits (λ k x y z. and (and x (xor y z)) (and y z)) (λ k x y z. 0)
+    (λ k x y z h. simp (xor-half, and-half)) (λ k x y z h. simp (xor-odd, and-odd)) (λ k x y z. refl) (λ k x y z. refl)
+    apart-none apart-table 32
+
+joined-none : xor (and 0 (xor 0 0)) (and 0 0) ≡ xor (xor (and 0 0) (and 0 0)) (and 0 0)
+unfolding xor and
+joined-none = refl
+
+joined-table : (x y z : ℕ) → x < 2 → y < 2 → z < 2 → xor (and x (xor y z)) (and y z) ≡ xor (xor (and x y) (and x z)) (and y z)
+unfolding xor and
+joined-table = on-digits (λ x y z. xor (and x (xor y z)) (and y z) ≡ xor (xor (and x y) (and x z)) (and y z)) refl refl refl refl refl refl refl refl
+
+joined : (x y z : ℕ) → x < 2 ^ 32 → y < 2 ^ 32 → z < 2 ^ 32 → xor (and x (xor y z)) (and y z) ≡ xor (xor (and x y) (and x z)) (and y z)
+joined =
+    by-digits (λ k x y z. xor (and x (xor y z)) (and y z)) (λ k x y z. xor (xor (and x y) (and x z)) (and y z))
+    (λ k x y z h. simp (xor-half, and-half)) (λ k x y z h. simp (xor-odd, and-odd)) (λ k x y z. simp (xor-half, and-half)) (λ k x y z. simp (xor-odd, and-odd))
+    joined-none joined-table 32
+
 -- Ch with one `and`. A word's complement has the complement's digits
 not-half : (p x : ℕ) → x < p * 2 → (p * 2 - 1 - x) / 2 ≡ p - 1 - x / 2
 not-half p x h = omega arith
@@ -142,3 +171,10 @@ one-and-ch x y z hx hy hz = sym (choice x y z hx hy hz)
 pub one-and-maj : (x y z : ℕ) → x < 2 ^ 32 → y < 2 ^ 32 → z < 2 ^ 32 → bitXor y (bitAnd (bitXor x y) (bitXor y z)) ≡ Maj x y z
 unfolding xor and
 one-and-maj x y z hx hy hz = majority x y z hx hy hz
+
+pub sum-maj : (x y z : ℕ) → x < 2 ^ 32 → y < 2 ^ 32 → z < 2 ^ 32 → (bitAnd x (bitXor y z) + bitAnd y z) % 2 ^ 32 ≡ Maj x y z
+unfolding xor and
+sum-maj x y z hx hy hz =
+    let e : bitAnd x (bitXor y z) + bitAnd y z ≡ Maj x y z = sym (xor-disjoint (bitAnd x (bitXor y z)) (bitAnd y z) (apart x y z hx hy hz)) ∙ joined x y z hx hy hz in
+    let l : Maj x y z < 2 ^ 32 = xor-lt 32 (bitXor (bitAnd x y) (bitAnd x z)) (bitAnd y z) (xor-lt 32 (bitAnd x y) (bitAnd x z) (and-lt 32 x y hx hy) (and-lt 32 x z hx hz)) (and-lt 32 y z hy hz) in
+    ap (λ (n : ℕ). n % 2 ^ 32) e ∙ mod-eq-of-lt l

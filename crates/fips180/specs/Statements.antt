@@ -3,7 +3,7 @@ use mathlib.Core.Path.{_≡_}
 use mathlib.Core.List.{List, _++_}
 use Prim.Native.Nat.{ℕ, _+_, _-_, _%_, _<_, _≤_}
 use lib.ListN.{length}
-use Rattle.fips180.specs.Words.{word}
+use Rattle.fips180.specs.Words.{Ch, Maj, word}
 use Rattle.fips180.specs.Hash.{zeros, padded, hashBy}
 use Rattle.fips180.specs.Sha1 as Sha1
 use Rattle.fips180.specs.Sha256.{nextW, W}
@@ -32,6 +32,18 @@ Sha1ScheduleByCases =
     (b : List ℕ) (t : ℕ)
     → (t < 16 → Sha1.W b t ≡ word b t)
     × (16 ≤ t → Sha1.W b t ≡ Sha1.nextW (Sha1.W b (t - 3)) (Sha1.W b (t - 8)) (Sha1.W b (t - 14)) (Sha1.W b (t - 16)))
+
+-- 4.1.1 and 4.2.1: the function and the constant of SHA-1's round t, by the standard's four cases. `round-by-cases` of proofs/Sha1Rounds.antt
+abbrev pub Has : (ℕ → ℕ → ℕ → ℕ) → ℕ → ℕ → Type 0
+Has f k t = ((x y z : ℕ) → Sha1.f t x y z ≡ f x y z) × (Sha1.K t ≡ k)
+
+abbrev pub Sha1RoundByCases : Type 0
+Sha1RoundByCases =
+    (t : ℕ)
+    → (t < 20 → Has Ch 0x5a827999 t)
+    × (20 ≤ t → t < 40 → Has Sha1.Parity 0x6ed9eba1 t)
+    × (40 ≤ t → t < 60 → Has Maj 0x8f1bbcdc t)
+    × (60 ≤ t → Has Sha1.Parity 0xca62c1d6 t)
 
 module _ (compress : List ℕ → List ℕ → List ℕ) (first : List ℕ) (written : List ℕ → List ℕ) where
   -- the digest of a hash in progress that has absorbed m is the hash of m. `stream-is-hash` of proofs/Stream.antt

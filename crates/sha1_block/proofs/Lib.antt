@@ -1,0 +1,2 @@
+mod Schedule
+mod Rounds

@@ -1,0 +1,30 @@
+-- `sha1_round::round_ch` meets its contract.
+-- Assumes nothing.
+use Rattle.sha1_round.specs.Variables.{variables, stepBy}
+use borrow.Author.Needs.{needs}
+use Rattle.sha1_round.proofs.round_ch.Statement.{statement}
+use Rattle.sha1_round.proofs.round_ch.Tie as tie
+
+array-read-ch : tie.Need-array-read-ch
+array-read-ch c = search needs
+
+array-read-ch-2 : tie.Need-array-read-ch-2
+array-read-ch-2 c = search needs
+
+array-read-ch-3 : tie.Need-array-read-ch-3
+array-read-ch-3 c = search needs
+
+ch-requires : tie.Need-ch-requires
+ch-requires c κs = search needs
+
+step-requires : tie.Need-step-requires
+step-requires c κs = search needs
+
+returns : tie.Need-returns
+unfolding variables stepBy
+returns c = cc
+
+pub round-ch-spec : {M : Type 1} → statement M
+round-ch-spec =
+    tie.close
+    (tie.spec array-read-ch array-read-ch-2 array-read-ch-3 ch-requires step-requires returns)
