@@ -1,7 +1,7 @@
 //! The second program: compares each call of libketvaulo.a with an answer written from the papers.
 //!
 //! SHA-256, HMAC and key wrapping are OpenSSL's; everything above them (`model`) is this program's own reading of
-//! document 01. `cases` has the inputs, `guard` the lent buffers, of which every byte is compared after each call.
+//! documents 01 and 02. `cases` has the inputs, `guard` the lent buffers, of which every byte is compared after each call.
 //! The last line is `N passed, M failed`; the exit status is 0 only if none failed.
 
 // a library that does not have every call yet leaves parts unused
@@ -63,6 +63,10 @@ fn main() -> ExitCode {
         ["kv_visited_master_key"] "kv_visited_master_key" => cases::visited::master_keys;
         ["kv_visited_reauth_key"] "kv_visited_reauth_key" => cases::visited::reauth_keys;
         ["kv_key_name"] "kv_key_name" => cases::key_name::run;
+        ["kv_r0_key"] "kv_r0_key" => cases::handover::r0_keys;
+        ["kv_r1_key"] "kv_r1_key" => cases::handover::r1_keys;
+        ["kv_r0_name"] "kv_r0_name" => cases::handover::r0_names;
+        ["kv_r0_key", "kv_r1_key", "kv_r0_name"] "handovers" => cases::handover::handovers;
         ["kv_choose_offer"] "kv_choose_offer" => cases::offers::choose;
         ["kv_answer_offer"] "kv_answer_offer" => cases::offers::answer;
         ["kv_check_renewed"] "kv_check_renewed" => cases::offers::recheck;

@@ -1,3 +1,4 @@
 mod Answers
+mod Derived
 mod Names
 mod Texts

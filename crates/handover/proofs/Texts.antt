@@ -48,3 +48,21 @@ r1-laid ad an spa {t₁} {t₂} {t₃} {t₄} la ln ls e₁ e₂ e₃ e₄ =
     e₄ ∙ ap (λ (t : List ℕ). paste t 20 ad 16) (e₃ ∙ ap (λ (t : List ℕ). paste t 36 an 16) (e₂ ∙ ap (λ (t : List ℕ). paste (set t 59 1) 52 spa 6) e₁))
     ∙ (λ i. r1Head ++ (whole 16 ad la i ++ (whole 16 an ln i ++ (whole 6 spa ls i ++ bits))))
     ∙ ap (λ (l : List ℕ). r1Head ++ l) (ap (λ (l : List ℕ). ad ++ l) (sym (append-assoc an spa bits)) ∙ sym (append-assoc ad (an ++ spa) bits))
+
+-- the text of the second iteration: only the number at its start is another
+pub r0-next : (ad spa : List ℕ) → set (r0Input ad spa 1) 0 2 ≡ r0Input ad spa 2
+unfolding r0Input kdfInput
+r0-next ad spa = refl
+
+pub r1-next : (ad an spa : List ℕ) → set (r1Input ad an spa 1) 0 2 ≡ r1Input ad an spa 2
+unfolding r1Input kdfInput
+r1-next ad an spa = refl
+
+-- a text has a first byte
+pub r0-begun : (ad spa : List ℕ) {text : List ℕ} → text ≡ r0Input ad spa 1 → 1 ≤ length text
+unfolding r0Input kdfInput
+r0-begun ad spa e = let l = ap length e in omega arith
+
+pub r1-begun : (ad an spa : List ℕ) {text : List ℕ} → text ≡ r1Input ad an spa 1 → 1 ≤ length text
+unfolding r1Input kdfInput
+r1-begun ad an spa e = let l = ap length e in omega arith

@@ -3,14 +3,26 @@
 ghost use mathlib.Core.Path.{_≡_};
 ghost use mathlib.Core.List.{_++_};
 ghost use Prim.Native.Nat.{_+_, _≤_};
-ghost use lib.ListN.{length};
+ghost use lib.ListN.{length, take, drop, set};
 ghost use lib.Seq.{paste};
 ghost use Rattle.slices.specs.Ascii.{ascii};
 ghost use Rattle.refusal.specs.Checks as Checks;
 ghost use Rattle.refusal.specs.Checks.{bare, _andThen_, check6};
 ghost use Rattle.refusal.specs.Answers.{checkedAs, answerOf, answerTo, bufferAfter};
 ghost use Rattle.fips180.specs.Sha256.{sha256};
-ghost use Rattle.handover_rules.specs.Handover.{check34, nameCheck, r0Input, r1Input, r0Name};
+ghost use Rattle.hmac_sha1.specs.Rfc2104.{hmacSha1};
+ghost use Rattle.handover_rules.specs.Handover.{
+  check34,
+  r0Check,
+  r1Check,
+  r0NameCheck,
+  r0Input,
+  r1Input,
+  r0Key,
+  r1Key,
+  r0Name,
+};
+use hmac_sha1::Keyed;
 use refusal::Checked;
 use refusal::Refusal;
 use refusal::Written;
@@ -37,14 +49,14 @@ fn check_call(key: bool, identifiers: bool, n: usize, room: usize) -> Checked
     refusal::then_check(c34, refusal::check_room(n, room))
 }
 
-// Writes the first n bytes of `part` into the text, from index `at` on.
-fn put(text: &mut [u8], at: usize, part: &[u8], n: usize)
+// Writes the first n bytes of `part` into `bytes`, from index `at` on.
+fn put(bytes: &mut [u8], at: usize, part: &[u8], n: usize)
     requires { ⌜ n ≤ length (now part) ⌝ }
-    requires { ⌜ at + n ≤ length (now text) ⌝ }
-    ensures { λ _. ⌜ now (text .exit) ≡ paste (now (text .entry)) at (now (part .entry)) n ⌝ }
+    requires { ⌜ at + n ≤ length (now bytes) ⌝ }
+    ensures { λ _. ⌜ now (bytes .exit) ≡ paste (now (bytes .entry)) at (now (part .entry)) n ⌝ }
 {
     for j in 0..n {
-        text[at + j] = part[j];
+        bytes[at + j] = part[j];
     }
 }
 
@@ -75,6 +87,53 @@ fn r1_text(ad_id: &[u8], an_id: &[u8], spa: &[u8]) -> [u8; 60]
     text
 }
 
+// Two iterations of the KDF under a key: the 32 bytes at the start of out are those of the MACs of the text, which begins with 1, and of the
+// text with 2 in its place.
+fn derive(key: &[u8], text: &mut [u8], out: &mut [u8])
+    requires { ⌜ 1 ≤ length (now text) ⌝ }
+    requires { ⌜ 32 ≤ length (now out) ⌝ }
+    ensures { λ _. ⌜ now (out .exit) ≡ take 32 (hmacSha1 (now (key .entry)) (now (text .entry)) ++ hmacSha1 (now (key .entry)) (set (now (text .entry)) 0 2)) ++ drop 32 (now (out .entry)) ⌝ }
+{
+    let keyed = Keyed::new(key);
+    let first = keyed.mac_of(text);
+    put(out, 0, &first, 20);
+    text[0] = 2;
+    let second = keyed.mac_of(text);
+    put(out, 20, &second, 12);
+}
+
+// Writes the R0-Key of an access domain and a handheld under an rRK: 32 bytes at the start of out.
+pub fn r0_key(rrk: &[u8], ad_id: &[u8], spa: &[u8], out: &mut [u8]) -> Written
+    ensures answer { λ r. ⌜ answerOf r ≡ answerTo (r0Check (now (rrk .entry)) (now («ad_id» .entry)) (now (spa .entry)) (length (now (out .entry)))) 32 ⌝ }
+    ensures buffer { λ _. ⌜ now (out .exit) ≡ bufferAfter (r0Check (now (rrk .entry)) (now («ad_id» .entry)) (now (spa .entry)) (length (now (out .entry)))) 32 (r0Key (now (rrk .entry)) (now («ad_id» .entry)) (now (spa .entry))) (now (out .entry)) ⌝ }
+{
+    let ids = (ad_id.len() == ID) & (spa.len() == SPA);
+    match check_call(rrk.len() == RRK, ids, KEY, out.len()) {
+        Checked::Failed(why) => Written::Refused(why),
+        Checked::Passed => {
+            let mut text = r0_text(ad_id, spa);
+            derive(&rrk[..KEY], &mut text, out);
+            Written::Wrote(KEY)
+        }
+    }
+}
+
+// Writes the R1-Key of an access node and a handheld under an R0-Key: 32 bytes at the start of out.
+pub fn r1_key(r0_key: &[u8], ad_id: &[u8], an_id: &[u8], spa: &[u8], out: &mut [u8]) -> Written
+    ensures answer { λ r. ⌜ answerOf r ≡ answerTo (r1Check (now («r0_key» .entry)) (now («ad_id» .entry)) (now («an_id» .entry)) (now (spa .entry)) (length (now (out .entry)))) 32 ⌝ }
+    ensures buffer { λ _. ⌜ now (out .exit) ≡ bufferAfter (r1Check (now («r0_key» .entry)) (now («ad_id» .entry)) (now («an_id» .entry)) (now (spa .entry)) (length (now (out .entry)))) 32 (r1Key (now («r0_key» .entry)) (now («ad_id» .entry)) (now («an_id» .entry)) (now (spa .entry))) (now (out .entry)) ⌝ }
+{
+    let ids = (ad_id.len() == ID) & (an_id.len() == ID) & (spa.len() == SPA);
+    match check_call(r0_key.len() == KEY, ids, KEY, out.len()) {
+        Checked::Failed(why) => Written::Refused(why),
+        Checked::Passed => {
+            let mut text = r1_text(ad_id, an_id, spa);
+            derive(r0_key, &mut text, out);
+            Written::Wrote(KEY)
+        }
+    }
+}
+
 // The hash that a name is the first half of.
 fn name_hash<'a>(r0_key: &'a [u8], ad_id: &'a [u8], spa: &'a [u8]) -> [u8; Sha256::DIGEST]
     ensures { λ r. ⌜ r ≡ sha256 (now («r0_key» .entry) ++ (ascii "R0 Key Name" ++ (now («ad_id» .entry) ++ now (spa .entry)))) ⌝ }
@@ -84,8 +143,8 @@ fn name_hash<'a>(r0_key: &'a [u8], ad_id: &'a [u8], spa: &'a [u8]) -> [u8; Sha25
 
 // Writes the R0Name of an R0-Key: 16 bytes at the start of out.
 pub fn r0_name<'a>(r0_key: &'a [u8], ad_id: &'a [u8], spa: &'a [u8], out: &mut [u8]) -> Written
-    ensures answer { λ r. ⌜ answerOf r ≡ answerTo (nameCheck (now («r0_key» .entry)) (now («ad_id» .entry)) (now (spa .entry)) (length (now (out .entry)))) 16 ⌝ }
-    ensures buffer { λ _. ⌜ now (out .exit) ≡ bufferAfter (nameCheck (now («r0_key» .entry)) (now («ad_id» .entry)) (now (spa .entry)) (length (now (out .entry)))) 16 (r0Name (now («r0_key» .entry)) (now («ad_id» .entry)) (now (spa .entry))) (now (out .entry)) ⌝ }
+    ensures answer { λ r. ⌜ answerOf r ≡ answerTo (r0NameCheck (now («r0_key» .entry)) (now («ad_id» .entry)) (now (spa .entry)) (length (now (out .entry)))) 16 ⌝ }
+    ensures buffer { λ _. ⌜ now (out .exit) ≡ bufferAfter (r0NameCheck (now («r0_key» .entry)) (now («ad_id» .entry)) (now (spa .entry)) (length (now (out .entry)))) 16 (r0Name (now («r0_key» .entry)) (now («ad_id» .entry)) (now (spa .entry))) (now (out .entry)) ⌝ }
 {
     let ids = (ad_id.len() == ID) & (spa.len() == SPA);
     match check_call(r0_key.len() == KEY, ids, NAME, out.len()) {

@@ -10,7 +10,7 @@ use Rattle.refusal.specs.Checks.{unless, _andThen_}
 use Rattle.hmac_sha1.specs.Rfc2104.{hmacSha1}
 use Rattle.hmac_sha1.proofs.Laws.{hmacSha1-length}
 use Rattle.handover_rules.specs.Kdf.{kdfInput, iterations, resultAfter, kdf}
-use Rattle.handover_rules.specs.Handover.{r0Label, r1Label, r0Input, r1Input, r0Key, r1Key, r0Check, r1Check, nameCheck}
+use Rattle.handover_rules.specs.Handover.{r0Label, r1Label, r0Input, r1Input, r0Key, r1Key, r0Check, r1Check, r0NameCheck}
 use Rattle.handover_rules.specs.Statements.{InputBytes, KeyOfBlocks, SomeAccepted}
 
 pub input-bytes : InputBytes
@@ -42,5 +42,5 @@ key-of-blocks = (
 )
 
 pub some-accepted : SomeAccepted
-unfolding r0Check r1Check nameCheck _andThen_ unless
+unfolding r0Check r1Check r0NameCheck _andThen_ unless
 some-accepted = (refl, refl, refl, refl, refl, refl, refl)

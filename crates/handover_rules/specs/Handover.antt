@@ -71,5 +71,5 @@ r0Check rrk ad spa room = check33 64 rrk andThen check34 (isId ad && isSpa spa) 
 unfoldable pub r1Check : List ℕ → List ℕ → List ℕ → List ℕ → ℕ → Check
 r1Check r0 ad an spa room = check33 32 r0 andThen check34 (isId ad && isId an && isSpa spa) andThen check6 32 room
 
-unfoldable pub nameCheck : List ℕ → List ℕ → List ℕ → ℕ → Check
-nameCheck r0 ad spa room = check33 32 r0 andThen check34 (isId ad && isSpa spa) andThen check6 16 room
+unfoldable pub r0NameCheck : List ℕ → List ℕ → List ℕ → ℕ → Check
+r0NameCheck r0 ad spa room = check33 32 r0 andThen check34 (isId ad && isSpa spa) andThen check6 16 room

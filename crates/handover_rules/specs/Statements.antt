@@ -9,7 +9,7 @@ use lib.ListN.{length, take, replicate}
 use Rattle.refusal.specs.Checks.{pass, refuse, bare}
 use Rattle.hmac_sha1.specs.Rfc2104.{hmacSha1}
 use Rattle.handover_rules.specs.Kdf.{iterations}
-use Rattle.handover_rules.specs.Handover.{r0Input, r1Input, r0Key, r1Key, r0Check, r1Check, nameCheck}
+use Rattle.handover_rules.specs.Handover.{r0Input, r1Input, r0Key, r1Key, r0Check, r1Check, r0NameCheck}
 
 -- the iterations of a key: 1 and 2
 abbrev pub KdfBlock : ℕ → Type 0
@@ -62,8 +62,8 @@ abbrev pub SomeAccepted : Type 0
 SomeAccepted =
     (r0Check (replicate 64 7) (replicate 16 1) (replicate 6 2) 32 ≡ pass)
     × (r1Check (replicate 32 7) (replicate 16 1) (replicate 16 3) (replicate 6 2) 32 ≡ pass)
-    × (nameCheck (replicate 32 7) (replicate 16 1) (replicate 6 2) 16 ≡ pass)
+    × (r0NameCheck (replicate 32 7) (replicate 16 1) (replicate 6 2) 16 ≡ pass)
     × (r0Check (replicate 32 7) (replicate 6 1) (replicate 6 2) 31 ≡ refuse (bare 33))
     × (r0Check (replicate 64 7) (replicate 16 1) (replicate 16 2) 31 ≡ refuse (bare 34))
     × (r0Check (replicate 64 7) (replicate 16 1) (replicate 6 2) 31 ≡ refuse (bare 6))
-    × (nameCheck (replicate 64 7) (replicate 6 1) (replicate 6 2) 15 ≡ refuse (bare 33))
+    × (r0NameCheck (replicate 64 7) (replicate 6 1) (replicate 6 2) 15 ≡ refuse (bare 33))

@@ -5,7 +5,7 @@ use mathlib.Core.Path.{_≡_, ap, _∙_}
 use mathlib.Core.List.{List, _++_}
 use native.Mathlib.Omega.{arith}
 use lib.ListN.{length, take, drop, replicate}
-use lib.Seq.{length-take-le}
+use lib.Seq.{length-take-le, take-all}
 use Rattle.slices.proofs.Lists.{copied-front, copied-all}
 use Rattle.rfc2104.proofs.Blocks.{drop-replicate}
 
@@ -22,3 +22,7 @@ part-filled s n e copy =
     ∙ ap (λ (k : ℕ). take n s ++ drop k (replicate 64 0)) (part-length s n e)
     ∙ copied-all (replicate 64 0) s n e
     ∙ ap (λ (l : List ℕ). take 64 s ++ l) (drop-replicate (length s) 64)
+
+-- bytes that fit in a block stand there whole
+pub filled-short : (s : List ℕ) {r : List ℕ} → length s ≤ 64 → r ≡ take 64 s ++ replicate (64 - length s) 0 → r ≡ s ++ replicate (64 - length s) 0
+filled-short s h e = e ∙ ap (λ (l : List ℕ). l ++ replicate (64 - length s) 0) (take-all 64 s h)

@@ -1,1 +1,1 @@
-mod Filling
+pub mod Filling

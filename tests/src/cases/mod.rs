@@ -2,6 +2,7 @@
 
 pub mod area;
 pub mod exports;
+pub mod handover;
 pub mod hash;
 pub mod key_attribute;
 pub mod key_name;

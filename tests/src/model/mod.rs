@@ -1,6 +1,7 @@
-//! The second program's own reading of document 01: for each call the numbers of its order and what it writes.
+//! The second program's own reading of documents 01 and 02: for each call the numbers of its order and what it writes.
 
 pub mod area;
+pub mod handover;
 pub mod key_attribute;
 pub mod key_name;
 pub mod offers;

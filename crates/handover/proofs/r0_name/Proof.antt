@@ -3,7 +3,7 @@
 use mathlib.Core.Path.{sym}
 use denote.Ref.{now}
 use Rattle.refusal.proofs.Answering.{passed, refused-so, written-so}
-use Rattle.handover_rules.specs.Handover.{nameCheck, r0Name}
+use Rattle.handover_rules.specs.Handover.{r0NameCheck, r0Name}
 use Rattle.handover.proofs.Names.{name-size, name-fits, name-put}
 use borrow.Author.Needs.{needs}
 use Rattle.handover.proofs.r0_name.Statement.{statement}
@@ -35,7 +35,7 @@ copy-requires c κs =
     name-fits _ (now (k .before .before .before .before .before .args .out)) _ (h .name-hash .ensures) (passed (k .check-call .ensures) (t .enum-told .given .1))
 
 returns : tie.Need-returns
-unfolding nameCheck
+unfolding r0NameCheck
 returns c =
     let k = c .before .before .before in
     refused-so 16 _ _ (k .check-call .ensures) (c .before .why .given .1)
@@ -44,7 +44,7 @@ same-length : tie.Need-same-length
 same-length c = search needs
 
 returns-2 : tie.Need-returns-2
-unfolding nameCheck
+unfolding r0NameCheck
 returns-2 c =
     let p = c .before .before in
     let h = p .before .before .before in
