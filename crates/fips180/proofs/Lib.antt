@@ -10,3 +10,5 @@ pub mod Window
 pub mod Stream
 pub mod Absorbing
 pub mod Closing
+pub mod Marked
+pub mod Copies

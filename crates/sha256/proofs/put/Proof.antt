@@ -1,7 +1,7 @@
--- `sha256::put` meets its contract: a copy into the part from `at` on (proofs/Copies.antt, `copied-part`).
+-- `sha256::put` meets its contract: a copy into the part from `at` on (`copied-part` of fips180).
 -- Assumes nothing.
 use denote.Ref.{now}
-use Rattle.sha256.proofs.Copies.{copied-part}
+use Rattle.fips180.proofs.Copies.{copied-part}
 use borrow.Author.Needs.{needs}
 use Rattle.sha256.proofs.put.Statement.{statement}
 use Rattle.sha256.proofs.put.Tie as tie

@@ -1,0 +1,3 @@
+pub mod Stream
+mod Digests
+mod Parts

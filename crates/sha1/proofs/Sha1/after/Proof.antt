@@ -1,0 +1,11 @@
+-- `sha1::Sha1::after` meets its contract: its fields are those of a hash after one block.
+-- Assumes nothing.
+use mathlib.Core.Path.{refl}
+use Rattle.sha1.proofs.Sha1.after.Statement.{statement}
+use Rattle.sha1.proofs.Sha1.after.Tie as tie
+
+returns : tie.Need-returns
+returns c = refl
+
+pub after-spec : {M : Type 1} → statement M
+after-spec = tie.close (tie.spec returns)

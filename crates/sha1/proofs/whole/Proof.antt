@@ -1,0 +1,28 @@
+-- `sha1::whole` meets its contract.
+-- Assumes nothing.
+use mathlib.Core.Path.{_≡_, ap}
+use Prim.Native.Nat.{ℕ, _/_}
+use native.Mathlib.Omega.{arith}
+use denote.Ref.{now}
+use lib.ListN.{length}
+use Rattle.fips180.specs.Hash.{blocksBy}
+use Rattle.fips180.specs.Sha1.{blocks}
+use borrow.Author.Needs.{needs}
+use Rattle.sha1.proofs.whole.Statement.{statement}
+use Rattle.sha1.proofs.whole.Tie as tie
+
+returns : tie.Need-returns
+unfolding blocksBy
+returns c =
+    let a = c .before .before .args in
+    let none : 0 ≡ length (now (a .message)) / 64 = omega arith in
+    ap (λ (n : ℕ). blocks n (a .h) (now (a .message))) none
+
+compress-blocks-requires : tie.Need-compress-blocks-requires
+compress-blocks-requires c κs = search needs
+
+returns-2 : tie.Need-returns-2
+returns-2 c = search needs
+
+pub whole-spec : {M : Type 1} → statement M
+whole-spec = tie.close (tie.spec returns compress-blocks-requires returns-2)
