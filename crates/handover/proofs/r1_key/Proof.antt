@@ -1,5 +1,6 @@
 -- `handover::r1_key` meets its contract.
 -- Assumes nothing.
+use native.Mathlib.Omega.{arith}
 use denote.Ref.{now}
 use lib.ListN.{length}
 use Rattle.refusal.proofs.Answering.{passed, refused-so, written-so}
@@ -26,7 +27,8 @@ unfolding r1Check
 r1-text-requires c κs =
     let k = c .before .before in
     let a = k .before .before .before .before .before .before .args in
-    r1-lengths (now (a .r0-key)) (now (a .ad-id)) (now (a .an-id)) (now (a .spa)) (length (now (a .out))) (passed (k .check-call .ensures) (c .enum-told .given .1))
+    let lengths = r1-lengths (now (a .r0-key)) (now (a .ad-id)) (now (a .an-id)) (now (a .spa)) (length (now (a .out))) (passed (k .check-call .ensures) (c .enum-told .given .1)) in
+    (omega arith, omega arith, omega arith)
 
 slice-aggregate-derive : tie.Need-slice-aggregate-derive
 slice-aggregate-derive c = search needs
