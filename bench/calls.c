@@ -140,6 +140,45 @@ kv_outcome kv_usage_key(const uint8_t *emsk, size_t emsk_len, const uint8_t *lab
     return wrote(n);
 }
 
+/* the text of an R0-Key or R1-Key: number, label, 0, identifiers, 256 in two bytes; the AN-ID may have no bytes */
+static void derive(const uint8_t *key, char digit, const uint8_t *ad_id, const uint8_t *an_id, size_t an_id_len, const uint8_t *spa,
+                   uint8_t *out)
+{
+    uint8_t text[60] = "\1\0R? Key derivation";
+    text[3] = (uint8_t)digit;
+    memcpy(text + 20, ad_id, 16);
+    memcpy(text + 36, an_id, an_id_len);
+    memcpy(text + 36 + an_id_len, spa, 6);
+    text[43 + an_id_len] = 1;
+    peer_kdf(key, text, 44 + an_id_len, out);
+}
+
+kv_outcome kv_r0_key(const uint8_t *rrk, size_t rrk_len, const uint8_t *ad_id, size_t ad_id_len, const uint8_t *spa, size_t spa_len,
+                     uint8_t *out, size_t out_len)
+{
+    if (rrk_len != 64)
+        return refused(KV_HANDOVER_KEY_LENGTH);
+    if (ad_id_len != 16 || spa_len != 6)
+        return refused(KV_IDENTIFIER_LENGTH);
+    if (out_len < 32)
+        return refused(KV_ROOM);
+    derive(rrk, '0', ad_id, ad_id, 0, spa, out);
+    return wrote(32);
+}
+
+kv_outcome kv_r1_key(const uint8_t *r0_key, size_t r0_key_len, const uint8_t *ad_id, size_t ad_id_len, const uint8_t *an_id,
+                     size_t an_id_len, const uint8_t *spa, size_t spa_len, uint8_t *out, size_t out_len)
+{
+    if (r0_key_len != 32)
+        return refused(KV_HANDOVER_KEY_LENGTH);
+    if (ad_id_len != 16 || an_id_len != 16 || spa_len != 6)
+        return refused(KV_IDENTIFIER_LENGTH);
+    if (out_len < 32)
+        return refused(KV_ROOM);
+    derive(r0_key, '1', ad_id, an_id, 16, spa, out);
+    return wrote(32);
+}
+
 static int in_domain(uint8_t byte)
 {
     return (byte >= 'A' && byte <= 'Z') || (byte >= 'a' && byte <= 'z') || (byte >= '0' && byte <= '9') || byte == '-' || byte == '.';

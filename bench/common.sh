@@ -74,15 +74,16 @@ size=size
 sizes() {
     local column=$1 jobs=$2 prefix=$3 kind calls
     shift 3
-    for kind in hash usage attribute area bundle all; do
+    for kind in hash usage handover attribute area bundle all; do
         on "$jobs" $kind || continue
         case $kind in
         hash) calls=sha256 ;;
         usage) calls=usage_key ;;
+        handover) calls='r0_key r1_key' ;;
         attribute) calls='write_key_attribute read_key_attribute' ;;
         area) calls=read_area ;;
         bundle) calls='write_bundle read_bundle' ;;
-        all) calls='sha256 usage_key write_key_attribute read_key_attribute read_area write_bundle read_bundle' ;;
+        all) calls='sha256 usage_key r0_key r1_key write_key_attribute read_key_attribute read_area write_bundle read_bundle' ;;
         esac
         # shellcheck disable=SC2046,SC2086 # words
         $gcc -static -nostdlib -Wl,--gc-sections,--unresolved-symbols=ignore-all "-Wl,-e,$prefix${calls##* }" \

@@ -9,6 +9,7 @@ const uint8_t label20[20] = {'y', 'a', 'r', 'd', '-', 'g', 'a', 't', 'e', '@', '
 static const uint8_t kek[16] = {0, 1, 2, 3, 4, 5, 6, 7, 8, 9, 10, 11, 12, 13, 14, 15};
 static const uint8_t key16[16] = {0x00, 0x11, 0x22, 0x33, 0x44, 0x55, 0x66, 0x77, 0x88, 0x99, 0xaa, 0xbb, 0xcc, 0xdd, 0xee, 0xff};
 static const uint8_t kek_id[16] = "kek-of-the-yard", key_id[16] = "key-of-the-gate";
+static const uint8_t spa[6] = {0x02, 0x11, 0x22, 0x33, 0x44, 0x55};
 static uint8_t attribute16[76], attribute192[252];
 enum { BUNDLED = 64 };
 static uint8_t attributes[BUNDLED * 252], bundle[2 + BUNDLED * (20 + 252)];
@@ -44,6 +45,9 @@ static void aka_keys(void) { outcome = kv_aka_keys(emsk, 16, emsk + 16, 16, wlan
 static void usage_64(void) { outcome = kv_usage_key(emsk, 64, label20, 20, data, 0, 64, out, sizeof out); }
 static void usage_64_data(void) { outcome = kv_usage_key(emsk, 128, label20, 20, data, 2048, 64, out, sizeof out); }
 static void usage_8160(void) { outcome = kv_usage_key(emsk, 128, label255, 255, data, 2048, 8160, out, sizeof out); }
+
+static void r0_key(void) { outcome = kv_r0_key(emsk, 64, kek_id, 16, spa, 6, out, sizeof out); }
+static void r1_key(void) { outcome = kv_r1_key(emsk, 32, kek_id, 16, key_id, 16, spa, 6, out, sizeof out); }
 
 /* 38 bytes: the longest domain whose first block of the expansion is hashed in one block */
 static const uint8_t domain38[] = "yard-0012.north.mills.sidings.examples";
@@ -87,6 +91,8 @@ const struct job jobs[JOBS] = {
     {"usage-64", usage_64},
     {"usage-64-data", usage_64_data},
     {"usage-8160", usage_8160},
+    {"r0-key", r0_key},
+    {"r1-key", r1_key},
     {"domain-root", domain_root},
     {"domain-reauth", domain_reauth},
     {"write-16", write_16},

@@ -10,6 +10,9 @@ void peer_sha256(const uint8_t *message, size_t len, uint8_t out[32]);
 void peer_expand(const uint8_t *key, size_t key_len, const uint8_t *label, size_t label_len, const uint8_t *data, size_t data_len,
                  size_t n, uint8_t *out);
 
+/* The 32 bytes that HMAC-SHA-1 under a key of 32 bytes begins with, over the text with 1 and then with 2 as its first byte. */
+void peer_kdf(const uint8_t *key, uint8_t *text, size_t len, uint8_t *out);
+
 /* HMAC-SHA-256 of a message in parts. */
 typedef struct {
     const uint8_t *bytes;

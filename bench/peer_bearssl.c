@@ -47,6 +47,21 @@ void peer_expand(const uint8_t *key, size_t key_len, const uint8_t *label, size_
     }
 }
 
+void peer_kdf(const uint8_t *key, uint8_t *text, size_t len, uint8_t *out)
+{
+    br_hmac_key_context k;
+    br_hmac_context c;
+    uint8_t t[40];
+    br_hmac_key_init(&k, &br_sha1_vtable, key, 32);
+    for (int i = 0; i < 2; i++) {
+        text[0] = (uint8_t)(i + 1);
+        br_hmac_init(&c, &k, 0);
+        br_hmac_update(&c, text, len);
+        br_hmac_out(&c, t + 20 * i);
+    }
+    memcpy(out, t, 32);
+}
+
 void peer_hmac(const uint8_t *key, size_t key_len, const part *parts, size_t count, uint8_t out[32])
 {
     br_hmac_key_context k;

@@ -6,6 +6,7 @@
 int sha256_vector(size_t num, const uint8_t *addr[], const size_t *len, uint8_t *mac);
 int hmac_sha256_kdf(const uint8_t *secret, size_t secret_len, const char *label, const uint8_t *seed, size_t seed_len, uint8_t *out,
                     size_t outlen);
+int hmac_sha1(const uint8_t *key, size_t key_len, const uint8_t *data, size_t data_len, uint8_t *mac);
 int hmac_sha256_vector(const uint8_t *key, size_t key_len, size_t num_elem, const uint8_t *addr[], const size_t *len, uint8_t *mac);
 int aes_wrap(const uint8_t *kek, size_t kek_len, int n, const uint8_t *plain, uint8_t *cipher);
 int aes_unwrap(const uint8_t *kek, size_t kek_len, int n, const uint8_t *cipher, uint8_t *plain);
@@ -26,6 +27,16 @@ void peer_expand(const uint8_t *key, size_t key_len, const uint8_t *label, size_
     seed[data_len] = (uint8_t)(n >> 8);
     seed[data_len + 1] = (uint8_t)n;
     hmac_sha256_kdf(key, key_len, text, seed, data_len + 2, out, n);
+}
+
+void peer_kdf(const uint8_t *key, uint8_t *text, size_t len, uint8_t *out)
+{
+    uint8_t t[40];
+    for (int i = 0; i < 2; i++) {
+        text[0] = (uint8_t)(i + 1);
+        hmac_sha1(key, 32, text, len, t + 20 * i);
+    }
+    memcpy(out, t, 32);
 }
 
 void peer_hmac(const uint8_t *key, size_t key_len, const part *parts, size_t count, uint8_t out[32])

@@ -39,6 +39,24 @@ void peer_expand(const uint8_t *key, size_t key_len, const uint8_t *label, size_
     mbedtls_md_free(&c);
 }
 
+void peer_kdf(const uint8_t *key, uint8_t *text, size_t len, uint8_t *out)
+{
+    mbedtls_md_context_t c;
+    uint8_t t[40];
+    mbedtls_md_init(&c);
+    mbedtls_md_setup(&c, mbedtls_md_info_from_type(MBEDTLS_MD_SHA1), 1);
+    mbedtls_md_hmac_starts(&c, key, 32);
+    for (int i = 0; i < 2; i++) {
+        if (i)
+            mbedtls_md_hmac_reset(&c);
+        text[0] = (uint8_t)(i + 1);
+        mbedtls_md_hmac_update(&c, text, len);
+        mbedtls_md_hmac_finish(&c, t + 20 * i);
+    }
+    mbedtls_md_free(&c);
+    memcpy(out, t, 32);
+}
+
 void peer_hmac(const uint8_t *key, size_t key_len, const part *parts, size_t count, uint8_t out[32])
 {
     mbedtls_md_context_t c;

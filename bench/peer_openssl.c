@@ -48,6 +48,31 @@ void peer_expand(const uint8_t *key, size_t key_len, const uint8_t *label, size_
     }
 }
 
+void peer_kdf(const uint8_t *key, uint8_t *text, size_t len, uint8_t *out)
+{
+    SHA_CTX inner, outer, c;
+    uint8_t pad[64] = {0}, t[40];
+    memcpy(pad, key, 32);
+    for (int j = 0; j < 64; j++)
+        pad[j] ^= 0x36;
+    SHA1_Init(&inner);
+    SHA1_Update(&inner, pad, 64);
+    for (int j = 0; j < 64; j++)
+        pad[j] ^= 0x36 ^ 0x5c;
+    SHA1_Init(&outer);
+    SHA1_Update(&outer, pad, 64);
+    for (int i = 0; i < 2; i++) {
+        text[0] = (uint8_t)(i + 1);
+        c = inner;
+        SHA1_Update(&c, text, len);
+        SHA1_Final(t + 20 * i, &c);
+        c = outer;
+        SHA1_Update(&c, t + 20 * i, 20);
+        SHA1_Final(t + 20 * i, &c);
+    }
+    memcpy(out, t, 32);
+}
+
 void peer_hmac(const uint8_t *key, size_t key_len, const part *parts, size_t count, uint8_t out[32])
 {
     SHA256_CTX c;

@@ -36,6 +36,21 @@ void peer_expand(const uint8_t *key, size_t key_len, const uint8_t *label, size_
     wc_HmacFree(&c);
 }
 
+void peer_kdf(const uint8_t *key, uint8_t *text, size_t len, uint8_t *out)
+{
+    Hmac c;
+    uint8_t t[40];
+    wc_HmacInit(&c, NULL, INVALID_DEVID);
+    wc_HmacSetKey(&c, WC_SHA, key, 32);
+    for (int i = 0; i < 2; i++) {
+        text[0] = (uint8_t)(i + 1);
+        wc_HmacUpdate(&c, text, (word32)len);
+        wc_HmacFinal(&c, t + 20 * i);
+    }
+    wc_HmacFree(&c);
+    memcpy(out, t, 32);
+}
+
 void peer_hmac(const uint8_t *key, size_t key_len, const part *parts, size_t count, uint8_t out[32])
 {
     Hmac c;

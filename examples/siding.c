@@ -1,8 +1,8 @@
-/* What a yard controller does, call by call. It makes an EMSK from a SIM, derives a siding's key and the keys of two domains,
- * agrees with a handheld on a key derivation function, reads the attribute area that carried the offers, and sends the
- * siding's key to a neighbour as a RADIUS Key attribute, which the neighbour opens: first alone, then in a packet that is
- * signed and checked. It keeps the names of the keys of a visited domain in slots until their EMSK expires. Each step prints
- * its result; examples/siding.expected has what must be printed. */
+/* What a yard controller does, call by call. It makes an EMSK from a SIM, derives a siding's key, the keys of two domains and
+ * the keys of a handheld that moves to another access node, agrees with a handheld on a key derivation function, reads the
+ * attribute area that carried the offers, and sends the siding's key to a neighbour as a RADIUS Key attribute, which the
+ * neighbour opens: first alone, then in a packet that is signed and checked. It keeps the names of the keys of a visited
+ * domain in slots until their EMSK expires. Each step prints its result; examples/siding.expected has what must be printed. */
 #include "ketvaulo.h"
 #include "ketvaulo_text.h"
 
@@ -78,6 +78,33 @@ static void refused_label(const uint8_t emsk[64])
     kv_outcome r = kv_usage_key(emsk, 64, label, 5, NULL, 0, 4, out, 4);
     printf("label with a zero byte: refused %u at %u\n", (unsigned)r.refusal, (unsigned)r.value);
     print_bytes("out", out, 4);
+}
+
+/* A handheld moves to another access node. The rRK is a usage key of the login; the server and the handheld hold it. The server
+ * derives the R0-Key of the access domain from it, and the domain's controller the R1-Key of the node from that. */
+static void hand_over(const uint8_t emsk[64])
+{
+    static const char label[] = "EAP Re-authentication Root Key@ietf.org";
+    static const uint8_t ad_id[] = "yard north 00001", an_id[] = "node dock 000001";
+    static const uint8_t spa[KV_SPA_LEN] = { 0x02, 0x11, 0x22, 0x33, 0x44, 0x55 };
+    uint8_t rrk[KV_RRK_LEN], r0_key[KV_HANDOVER_KEY_LEN], r0_name[KV_R0_NAME_LEN], r1_key[KV_HANDOVER_KEY_LEN];
+    kv_outcome r = kv_usage_key(emsk, 64, (const uint8_t *)label, sizeof label - 1, NULL, 0, KV_RRK_LEN, rrk, sizeof rrk);
+    expect_accepted("kv_usage_key", r.refusal);
+
+    r = kv_r0_key(rrk, sizeof rrk, ad_id, KV_HANDOVER_ID_LEN, spa, sizeof spa, r0_key, sizeof r0_key);
+    expect_accepted("kv_r0_key", r.refusal);
+    print_bytes("R0-Key", r0_key, (size_t)r.value);
+
+    r = kv_r0_name(r0_key, sizeof r0_key, ad_id, KV_HANDOVER_ID_LEN, spa, sizeof spa, r0_name, sizeof r0_name);
+    expect_accepted("kv_r0_name", r.refusal);
+    print_bytes("R0Name", r0_name, (size_t)r.value);
+
+    r = kv_r1_key(r0_key, sizeof r0_key, ad_id, KV_HANDOVER_ID_LEN, an_id, KV_HANDOVER_ID_LEN, spa, sizeof spa, r1_key, sizeof r1_key);
+    expect_accepted("kv_r1_key", r.refusal);
+    print_bytes("R1-Key", r1_key, (size_t)r.value);
+
+    r = kv_r1_key(rrk, sizeof rrk, ad_id, KV_HANDOVER_ID_LEN, an_id, KV_HANDOVER_ID_LEN, spa, sizeof spa, r1_key, sizeof r1_key);
+    printf("an rRK for an R0-Key: refused %u\n", (unsigned)r.refusal);
 }
 
 /* The server offers 2 and 1. The handheld supports 1 alone, so it asks for that and checks what the server answers. */
@@ -220,6 +247,7 @@ int main(void)
     log_in_by_sim();
     derive_key(emsk, key);
     refused_label(emsk);
+    hand_over(emsk);
     derive_domain_keys(emsk);
     negotiate();
     read_area();

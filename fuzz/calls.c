@@ -14,6 +14,7 @@
 #define AREA_REFUSALS \
     (BIT(KV_ATTRIBUTE_BOUNDS) | BIT(KV_KDF_LENGTH) | BIT(KV_KDF_INPUT) | BIT(KV_KDF_INPUT_PADDING) | BIT(KV_NETWORK_NAME) | \
      BIT(KV_OFFER_COUNT))
+#define HANDOVER_REFUSALS (BIT(KV_HANDOVER_KEY_LENGTH) | BIT(KV_IDENTIFIER_LENGTH) | BIT(KV_ROOM))
 #define FRAME_REFUSALS \
     (BIT(KV_KEY_ATTRIBUTE_LENGTH) | BIT(KV_ATTRIBUTE_TYPE) | BIT(KV_RESERVED_BYTE) | BIT(KV_ENC_TYPE) | BIT(KV_IV_FIELD))
 #define BUNDLE_REFUSALS \
@@ -29,6 +30,8 @@
 #define DOMAIN { 1, 253 }
 #define OFFERS { 1, 16 }
 #define SIXTEEN { 16, 16 }
+#define R0 { 32, 32 }
+#define SPA { 6, 6 }
 #define BUNDLE { 98, 17410 }
 
 #define BYTES .width = 1
@@ -58,6 +61,12 @@ const shape shapes[CALLS] = {
                             .refusals = BIT(KV_ROOT_KEY_LENGTH) | BIT(KV_ROOM) },
     [KEY_NAME] = { .name = "kv_key_name", .slices = 2, BYTES, .counts = { { 1, 255 }, LABEL }, OUT_BYTES(8),
                    .refusals = BIT(KV_SESSION_ID) | LABEL_REFUSALS | BIT(KV_ROOM) },
+    [R0_KEY] = { .name = "kv_r0_key", .slices = 3, BYTES, .counts = { { 64, 64 }, SIXTEEN, SPA }, OUT_BYTES(32),
+                 .refusals = HANDOVER_REFUSALS },
+    [R1_KEY] = { .name = "kv_r1_key", .slices = 4, BYTES, .counts = { R0, SIXTEEN, SIXTEEN, SPA }, OUT_BYTES(32),
+                 .refusals = HANDOVER_REFUSALS },
+    [R0_NAME] = { .name = "kv_r0_name", .slices = 3, BYTES, .counts = { R0, SIXTEEN, SPA }, OUT_BYTES(16),
+                  .refusals = HANDOVER_REFUSALS },
     [CHOOSE_OFFER] = { .name = "kv_choose_offer", .slices = 2, VALUES, .counts = { OFFERS, { 1, MOST_BYTES } },
                        .refusals = LIST_REFUSALS | BIT(KV_NO_OFFER_SUPPORTED) },
     [ANSWER_OFFER] = { .name = "kv_answer_offer", .slices = 1, VALUES, .counts = { OFFERS }, .numbers = { 2 }, OUT_VALUES(17),
@@ -192,6 +201,9 @@ static void call(const request *asked, void *const in[SLICES], void *out, answer
     case DOMAIN_ROOT_KEY: take_outcome(given, kv_domain_root_key(a, an, b, bn, out, room), 1); break;
     case DOMAIN_REAUTH_KEY: take_outcome(given, kv_domain_reauth_key(a, an, out, room), 1); break;
     case KEY_NAME: take_outcome(given, kv_key_name(a, an, b, bn, out, room), 1); break;
+    case R0_KEY: take_outcome(given, kv_r0_key(a, an, b, bn, c, cn, out, room), 1); break;
+    case R1_KEY: take_outcome(given, kv_r1_key(a, an, b, bn, c, cn, d, dn, out, room), 1); break;
+    case R0_NAME: take_outcome(given, kv_r0_name(a, an, b, bn, c, cn, out, room), 1); break;
     case CHOOSE_OFFER: take_first_round(given, kv_choose_offer(list, an, other, bn)); break;
     case ANSWER_OFFER: take_outcome(given, kv_answer_offer(list, an, (uint16_t)numbers[0], out, room), 1); break;
     case CHECK_RENEWED: take_outcome(given, kv_check_renewed(list, an, (uint16_t)numbers[0], other, bn), 0); break;

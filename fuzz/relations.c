@@ -201,6 +201,53 @@ static void check_key_name(const request *asked, const answer *given)
     free(named.bytes);
 }
 
+/* Two keys of 32 bytes are the same, or they are not. */
+static void expect_key(const request *asked, const answer *given, kv_outcome r, const uint8_t key[32], int equal, const char *what)
+{
+    expect(r.refusal == KV_ACCEPTED && r.value == 32, asked, "refuses a request of the same lengths");
+    expect(same(given->out, key, 32) == equal, asked, what);
+}
+
+/* Only the first 32 bytes of an rRK count, and another SPA has another R0-Key. */
+static void check_r0_key(const request *asked, const answer *given)
+{
+    const uint8_t *ad_id = asked->in[1].values;
+    uint8_t rrk[64], spa[6], key[32];
+    expect(given->written == 32, asked, "did not return 32");
+    memcpy(rrk, asked->in[0].values, 64);
+    memcpy(spa, asked->in[2].values, 6);
+    memset(rrk + 32, rrk[0], 32);
+    expect_key(asked, given, kv_r0_key(rrk, 64, ad_id, 16, spa, 6, key, 32), key, 1, "depends on the second half of the rRK");
+    spa[5] ^= 1;
+    expect_key(asked, given, kv_r0_key(rrk, 64, ad_id, 16, spa, 6, key, 32), key, 0, "is the R0-Key of another SPA");
+}
+
+/* The two IDs do not stand for each other, and the first 32 bytes of an rRK derive another key as an R0-Key. */
+static void check_r1_key(const request *asked, const answer *given)
+{
+    const uint8_t *r0_key = asked->in[0].values, *ad_id = asked->in[1].values, *an_id = asked->in[2].values, *spa = asked->in[3].values;
+    uint8_t rrk[64] = { 0 }, key[32];
+    expect(given->written == 32, asked, "did not return 32");
+    expect_key(asked, given, kv_r1_key(r0_key, 32, an_id, 16, ad_id, 16, spa, 6, key, 32), key, same(ad_id, an_id, 16),
+               "does not tell AD-ID and AN-ID apart");
+    memcpy(rrk, r0_key, 32);
+    expect_key(asked, given, kv_r0_key(rrk, 64, ad_id, 16, spa, 6, key, 32), key, 0, "is an R0-Key");
+}
+
+static void check_r0_name(const request *asked, const answer *given)
+{
+    static const char label[] = "R0 Key Name";
+    uint8_t digest[DIGEST];
+    text named = { 0 };
+    append_slice(&named, asked->in[0]);
+    append(&named, label, strlen(label));
+    append_slice(&named, asked->in[1]);
+    append_slice(&named, asked->in[2]);
+    expect_digest(asked, kv_sha256(named.bytes, named.length, digest, DIGEST));
+    expect(given->written == 16 && same(given->out, digest, 16), asked, "is not the first 16 bytes of kv_sha256");
+    free(named.bytes);
+}
+
 static int contains(slice list, uint16_t value)
 {
     const uint16_t *values = list.values;
@@ -445,6 +492,9 @@ void check_relations(const request *asked, const answer *given)
     case DOMAIN_ROOT_KEY: check_domain_root_key(asked, given); break;
     case DOMAIN_REAUTH_KEY: check_domain_reauth_key(asked, given); break;
     case KEY_NAME: check_key_name(asked, given); break;
+    case R0_KEY: check_r0_key(asked, given); break;
+    case R1_KEY: check_r1_key(asked, given); break;
+    case R0_NAME: check_r0_name(asked, given); break;
     case CHOOSE_OFFER: check_choice(asked, given); break;
     case ANSWER_OFFER: check_answer(asked, given); break;
     case CHECK_RENEWED: check_renewed(asked, given); break;

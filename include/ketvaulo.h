@@ -16,6 +16,11 @@
  * the EMSK, kv_visited_master_key under that key, and kv_visited_reauth_key under that one. kv_key_name makes a public name
  * for a key. All of these are made of kv_sha256 and kv_hmac_sha256.
  *
+ * Handover keys. A handheld that moves from one access node to another does not log in again. The server and the handheld hold
+ * the rRK, a usage key of 64 bytes. For each access domain the server derives an R0-Key (kv_r0_key) and gives it to that
+ * domain's controller, with its name (kv_r0_name). The controller derives an R1-Key for each of its access nodes (kv_r1_key)
+ * and gives it to that node. The handheld derives the same keys itself, and so shares a key with each node that it meets.
+ *
  * Offers. A login negotiates which key derivation function it uses. The peer is the side that logs in, and the server is the
  * side that it logs in to. So a controller is the peer at its own login, and makes the calls of steps 2 and 4. The call of
  * step 3 is the server's; a controller makes it only where it serves the logins of others.
@@ -74,7 +79,7 @@
  * - On a core with 32 bits, the C functions by which the calls reach the proved program: they are compared with x86-64.
  * - How long a call takes, and what it leaves on the stack. AES looks up tables by secret bytes, which can show in the
  *   cache of a processor that has one. No call wipes its stack: ketvaulo_wipe.h has functions that do.
- * - That SHA-256, HMAC and AES are secure. The proofs say that the library computes them as the standards define them.
+ * - That SHA-1, SHA-256, HMAC and AES are secure. The proofs say that the library computes them as the standards define them.
  *
  * The proofs were checked with the Rattle kit whose KIT-ID is "rattle-kit-5b-plain logic 097e4c862dff5811".
  *
@@ -93,7 +98,7 @@
  *        Derivation"; only document 02 uses it
  *   004  draft-zorn-radius-keywrap-03, "RADIUS Attributes for Key Delivery"
  *
- * The standards are FIPS 180-4 (SHA-256), FIPS 197 (AES), RFC 2104 (HMAC), RFC 3394 (AES key wrap), RFC 4306 (prf+),
+ * The standards are FIPS 180-4 (SHA-1, SHA-256), FIPS 197 (AES), RFC 2104 (HMAC), RFC 3394 (AES key wrap), RFC 4306 (prf+),
  * RFC 5295, RFC 5296 and RFC 5448.
  */
 #ifndef KETVAULO_H
@@ -132,6 +137,11 @@
 #define KV_DOMAIN_MAX 253
 #define KV_SESSION_ID_MAX 255
 #define KV_KEY_NAME_LEN 8
+#define KV_RRK_LEN 64             /* an rRK that is lent */
+#define KV_HANDOVER_KEY_LEN 32    /* an R0-Key or R1-Key */
+#define KV_HANDOVER_ID_LEN 16     /* an AD-ID or AN-ID */
+#define KV_SPA_LEN 6              /* the link layer address of a handheld */
+#define KV_R0_NAME_LEN 16
 #define KV_OFFERS_MAX 16          /* offers of a server */
 #define KV_OFFERS_ROOM 17         /* room for the offers of any area, and for any renewed list */
 #define KV_KEK_LEN 16
@@ -335,6 +345,37 @@ KV_USE_RESULT kv_outcome kv_domain_reauth_key(const uint8_t *dsrk, size_t dsrk_l
  * kv_usage_key; 6 `out` has fewer than 8 bytes. */
 KV_USE_RESULT kv_outcome kv_key_name(const uint8_t *session_id, size_t session_id_len, const uint8_t *label,
                                      size_t label_len, uint8_t *out, size_t out_len);
+
+/* The handover keys of a handheld (draft-cao-hoakey-hierarchical-hokey-00). An rRK is a usage key of 64 bytes under the EMSK:
+ * RFC 5296 gives it the label "EAP Re-authentication Root Key@ietf.org" and no data; the draft's section 4.1 has the data
+ * "Roaming USRK Derivation" and a label that both ends agree on. The AD-ID names the access domain and has 16 bytes, the AN-ID
+ * names the access node and has 16, the SPA is the handheld's link layer address and has 6.
+ *
+ * A key is the first 32 bytes of two MACs, one after the other. Each is the HMAC-SHA-1 under K of: the number 1 or 2 in two
+ * bytes, low byte first; a label; one zero byte; the identifiers; 00 01, which is 256 in two bytes, low byte first. Requests
+ * under one K that differ in any identifier never give the same bytes to HMAC, and an R0-Key and an R1-Key never do. */
+
+/* The R0-Key of an access domain and a handheld, under an rRK: K is the first 32 bytes of the rRK, the label is
+ * "R0 Key derivation", the identifiers are AD-ID and SPA. The server derives it for the domain's controller, and the handheld
+ * for itself. Writes 32 bytes and returns 32.
+ * Refusals, in this order: 33 rRK not 64 bytes; 34 AD-ID not 16 or SPA not 6 bytes; 6 `out` has fewer than 32 bytes. */
+KV_USE_RESULT kv_outcome kv_r0_key(const uint8_t *rrk, size_t rrk_len, const uint8_t *ad_id, size_t ad_id_len,
+                                   const uint8_t *spa, size_t spa_len, uint8_t *out, size_t out_len);
+
+/* The R1-Key of an access node and a handheld, under the R0-Key of the node's domain: K is the R0-Key, the label is
+ * "R1 Key derivation", the identifiers are AD-ID, AN-ID and SPA. The domain's controller derives it for the node, and the
+ * handheld for itself. Writes 32 bytes and returns 32.
+ * Refusals, in this order: 33 R0-Key not 32 bytes; 34 AD-ID or AN-ID not 16 or SPA not 6 bytes; 6 `out` has fewer than 32
+ * bytes. */
+KV_USE_RESULT kv_outcome kv_r1_key(const uint8_t *r0_key, size_t r0_key_len, const uint8_t *ad_id, size_t ad_id_len,
+                                   const uint8_t *an_id, size_t an_id_len, const uint8_t *spa, size_t spa_len,
+                                   uint8_t *out, size_t out_len);
+
+/* The R0Name, which names an R0-Key and is no secret: the first 16 bytes of SHA-256 over the R0-Key, "R0 Key Name", AD-ID and
+ * SPA. Writes 16 bytes and returns 16.
+ * Refusals, in this order: 33 R0-Key not 32 bytes; 34 AD-ID not 16 or SPA not 6 bytes; 6 `out` has fewer than 16 bytes. */
+KV_USE_RESULT kv_outcome kv_r0_name(const uint8_t *r0_key, size_t r0_key_len, const uint8_t *ad_id, size_t ad_id_len,
+                                    const uint8_t *spa, size_t spa_len, uint8_t *out, size_t out_len);
 
 /* What the peer's first round returns. `value` is the offer that is picked. `ask` is 0 for Carry On: this is the first
  * offer, and it is used. `ask` is 1 for Ask: the offer stands at `position`, counted from 0, and the peer has to ask the

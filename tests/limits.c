@@ -38,6 +38,15 @@ static kv_outcome master(size_t server, size_t domain)
 
 static kv_outcome name(size_t session, size_t label) { return kv_key_name(bytes, session, bytes, label, out, KV_KEY_NAME_LEN); }
 
+static kv_outcome r0_key(size_t rrk, size_t id, size_t spa, size_t room) { return kv_r0_key(bytes, rrk, bytes, id, bytes, spa, out, room); }
+
+static kv_outcome r1_key(size_t r0, size_t ad, size_t an, size_t spa)
+{
+    return kv_r1_key(bytes, r0, bytes, ad, bytes, an, bytes, spa, out, KV_HANDOVER_KEY_LEN);
+}
+
+static kv_outcome r0_name(size_t r0, size_t room) { return kv_r0_name(bytes, r0, bytes, KV_HANDOVER_ID_LEN, bytes, KV_SPA_LEN, out, room); }
+
 static kv_outcome wrap(size_t id, size_t kek, size_t key, size_t room)
 {
     return kv_write_key_attribute(1, 2, bytes, id, bytes, id, 3, bytes, kek, bytes, key, out, room);
@@ -80,6 +89,15 @@ int main(void)
     IS(kv_domain_reauth_key(bytes, KV_DOMAIN_KEY_LEN + 1, out, KV_DOMAIN_KEY_LEN), KV_ROOT_KEY_LENGTH);
     GIVES(name(KV_SESSION_ID_MAX, 1), KV_KEY_NAME_LEN);
     IS(name(KV_SESSION_ID_MAX + 1, 1), KV_SESSION_ID);
+    GIVES(r0_key(KV_RRK_LEN, KV_HANDOVER_ID_LEN, KV_SPA_LEN, KV_HANDOVER_KEY_LEN), KV_HANDOVER_KEY_LEN);
+    IS(r0_key(KV_RRK_LEN - 1, KV_HANDOVER_ID_LEN, KV_SPA_LEN, KV_HANDOVER_KEY_LEN), KV_HANDOVER_KEY_LENGTH);
+    IS(r0_key(KV_RRK_LEN, KV_HANDOVER_ID_LEN + 1, KV_SPA_LEN, KV_HANDOVER_KEY_LEN), KV_IDENTIFIER_LENGTH);
+    IS(r0_key(KV_RRK_LEN, KV_HANDOVER_ID_LEN, KV_SPA_LEN, KV_HANDOVER_KEY_LEN - 1), KV_ROOM);
+    GIVES(r1_key(KV_HANDOVER_KEY_LEN, KV_HANDOVER_ID_LEN, KV_HANDOVER_ID_LEN, KV_SPA_LEN), KV_HANDOVER_KEY_LEN);
+    IS(r1_key(KV_HANDOVER_KEY_LEN, KV_HANDOVER_ID_LEN, KV_HANDOVER_ID_LEN - 1, KV_SPA_LEN), KV_IDENTIFIER_LENGTH);
+    IS(r1_key(KV_HANDOVER_KEY_LEN, KV_HANDOVER_ID_LEN, KV_HANDOVER_ID_LEN, KV_SPA_LEN + 1), KV_IDENTIFIER_LENGTH);
+    GIVES(r0_name(KV_HANDOVER_KEY_LEN, KV_R0_NAME_LEN), KV_R0_NAME_LEN);
+    IS(r0_name(KV_HANDOVER_KEY_LEN, KV_R0_NAME_LEN - 1), KV_ROOM);
     GIVES(kv_answer_offer(offers, KV_OFFERS_MAX, 2, renewed, KV_OFFERS_ROOM), KV_OFFERS_ROOM);
     IS(kv_answer_offer(offers, KV_OFFERS_MAX + 1, 2, renewed, KV_OFFERS_ROOM), KV_OFFER_COUNT);
     GIVES(wrap(KV_ID_LEN, KV_KEK_LEN, KV_WRAPPED_KEY_MAX, KV_KEY_ATTRIBUTE_MAX), KV_KEY_ATTRIBUTE_MAX);

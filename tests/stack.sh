@@ -1,6 +1,7 @@
 #!/usr/bin/env bash
-# Paints the stack under every call of the library at its largest input (tests/controller/largest), on x86-64 and on the cores of controllers
-# under qemu, and holds the deepest use against tests/stack.txt. Looks too that include/ketvaulo_wipe.h wipes as much as any call takes, and
+# Paints the stack under every call of the library at its largest input (tests/controller/largest), and under a function that derives a handover
+# key inside a key delivery (tests/controller/delivery.c), on x86-64 and on the cores of controllers under qemu, and holds the deepest use against
+# tests/stack.txt. Looks too that include/ketvaulo_wipe.h wipes as much as any call takes, and
 # that after it no eight bytes in a row of an input or of the output are left on the stack. A new call needs its request in that file and
 # its line in tests/stack.txt, which 'tests/stack.sh update' writes. Last line: 'N passed, M failed'.
 set -u
@@ -51,10 +52,11 @@ update() {
     local call target
     {
         printf '# The bytes of stack that each call takes at its largest input, below the frame of its caller. On x86-64 the return address is\n'
-        printf "# counted; elsewhere it is in a register. tests/stack.sh holds the library against this, and 'tests/stack.sh update' writes it.\n"
+        printf "# counted; elsewhere it is in a register. The last line is a caller's function: a handover inside a key delivery. tests/stack.sh holds\n"
+        printf "# the library against this, and 'tests/stack.sh update' writes it.\n"
         # shellcheck disable=SC2086 # words
         row call $targets
-        for call in $(declared_calls); do
+        for call in $(declared_calls) deliver; do
             # shellcheck disable=SC2046 # words
             row "$call" $(for target in $targets; do of "$call" "$target" 3; done)
         done
@@ -81,6 +83,8 @@ for target in $targets; do
         check "$target: the stack of $call" within_table "$call" "$target"
         check "$target: what $call and the wipe leave" wiped "$call" "$target"
     done
+    check "$target: a handover inside a key delivery" accepted deliver "$target"
+    check "$target: the stack of a handover inside a key delivery" within_table deliver "$target"
     check "$target: something is left without the wipe" sees "$target"
     check "$target: a secret that is wiped" wipes_a_secret "$target"
 done

@@ -97,7 +97,7 @@ run_example() {
 # make_watched: what the program that looks at the stack is made of besides its sources
 make_watched() {
     make_seeds tests/controller/largest "$made/seeds.c"
-    declared_calls | sed 's/^/watched /' >"$made/watched.inc"
+    { declared_calls; echo deliver; } | sed 's/^/watched /' >"$made/watched.inc"
 }
 
 # watch_program TARGET OUT ARCHIVE [FLAG]: the program that looks at the stack under the calls
@@ -109,7 +109,7 @@ watch_program() {
     cortex-*) machine=arm ;;
     rv32*) machine=riscv ;;
     esac
-    bare_objects "$target" "$out.o" tests/controller/stack.c "tests/controller/watch_$machine.S" tests/controller/lent.c fuzz/calls.c \
+    bare_objects "$target" "$out.o" tests/controller/stack.c tests/controller/delivery.c "tests/controller/watch_$machine.S" tests/controller/lent.c fuzz/calls.c \
         fuzz/requests.c "$made/seeds.c" "$@" || return 1
     wraps=$(sed 's/^watched /--wrap=/' "$made/watched.inc")
     # shellcheck disable=SC2086 # words

@@ -1,7 +1,8 @@
 /* Makes each request of a file like fuzz/seeds, first as it is and then with the stack wiped after the call. Prints for each: the call,
  * its refusal, the bytes of stack that it took, its instructions (where the machine counts them, watch.h), and how many bytes in a row of an
  * input or of the output were left on the stack, without the wipe and with it. The first line is the same for a key that a function had in
- * its frame, without kv_wipe and with it. */
+ * its frame, without kv_wipe and with it; the last line has the stack of a handover inside a key delivery. */
+#include "delivery.h"
 #include "ketvaulo_wipe.h"
 #include "port.h"
 #include "requests.h"
@@ -104,5 +105,9 @@ int program(void)
         printf("%s %u %u %u %u %u\n", shapes[asked.call].name, given.refusal, bytes, count, before, left(&asked, &given));
         free_request(&asked);
     }
+    size_t arrived = send_r0_key();
+    watch_wipes = 0;
+    uint32_t refusal = deliver(arrived), bytes = depth();
+    printf("deliver %u %u %u 0 0\n", refusal, bytes, instructions());
     return 0;
 }

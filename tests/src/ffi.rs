@@ -144,6 +144,41 @@ extern "C" {
         out_len: usize,
     ) -> Outcome;
 
+    pub fn kv_r0_key(
+        rrk: *const u8,
+        rrk_len: usize,
+        ad_id: *const u8,
+        ad_id_len: usize,
+        spa: *const u8,
+        spa_len: usize,
+        out: *mut u8,
+        out_len: usize,
+    ) -> Outcome;
+
+    pub fn kv_r1_key(
+        r0_key: *const u8,
+        r0_key_len: usize,
+        ad_id: *const u8,
+        ad_id_len: usize,
+        an_id: *const u8,
+        an_id_len: usize,
+        spa: *const u8,
+        spa_len: usize,
+        out: *mut u8,
+        out_len: usize,
+    ) -> Outcome;
+
+    pub fn kv_r0_name(
+        r0_key: *const u8,
+        r0_key_len: usize,
+        ad_id: *const u8,
+        ad_id_len: usize,
+        spa: *const u8,
+        spa_len: usize,
+        out: *mut u8,
+        out_len: usize,
+    ) -> Outcome;
+
     pub fn kv_choose_offer(
         offers: *const u16,
         offers_len: usize,

@@ -67,6 +67,10 @@ fn main() -> ExitCode {
         ["kv_domain_root_key", "kv_usage_key"] "kv_domain_root_key" => cases::domain::root_keys;
         ["kv_domain_reauth_key"] "kv_domain_reauth_key" => cases::domain::reauth_keys;
         ["kv_key_name"] "kv_key_name" => cases::key_name::run;
+        ["kv_r0_key"] "kv_r0_key" => cases::handover::r0_keys;
+        ["kv_r1_key"] "kv_r1_key" => cases::handover::r1_keys;
+        ["kv_r0_name"] "kv_r0_name" => cases::handover::r0_names;
+        ["kv_r0_key", "kv_r1_key", "kv_r0_name"] "handovers" => cases::handover::handovers;
         ["kv_choose_offer"] "kv_choose_offer" => cases::offers::choose;
         ["kv_answer_offer"] "kv_answer_offer" => cases::offers::answer;
         ["kv_check_renewed"] "kv_check_renewed" => cases::offers::recheck;

@@ -1,9 +1,11 @@
-//! The primitives, by OpenSSL's libcrypto: SHA-256, HMAC-SHA-256 and AES-128 key wrap of RFC 3394.
+//! The primitives, by OpenSSL's libcrypto: SHA-256, HMAC-SHA-256, HMAC-SHA-1 and AES-128 key wrap of RFC 3394.
 
 use std::ffi::{c_int, c_uint, c_void};
 use std::ptr;
 
 pub const DIGEST: usize = 32;
+
+pub const SHA1_DIGEST: usize = 20;
 
 /// The initial value of RFC 3394, section 2.2.3.1.
 pub const INITIAL_VALUE: [u8; 8] = [0xa6; 8];
@@ -18,6 +20,7 @@ struct AesKey {
 extern "C" {
     fn SHA256(message: *const u8, len: usize, digest: *mut u8) -> *mut u8;
     fn EVP_sha256() -> *const c_void;
+    fn EVP_sha1() -> *const c_void;
     fn HMAC(
         hash: *const c_void,
         key: *const c_void,
@@ -41,12 +44,23 @@ pub fn sha256(message: &[u8]) -> [u8; DIGEST] {
 }
 
 pub fn hmac_sha256(key: &[u8], message: &[u8]) -> [u8; DIGEST] {
-    let mut mac = [0; DIGEST];
-    // SAFETY: key and message are read for their lengths, the MAC has the 32 bytes that are written, and its length is
+    // SAFETY: a hash of OpenSSL, with digests of 32 bytes.
+    unsafe { hmac(EVP_sha256(), key, message) }
+}
+
+pub fn hmac_sha1(key: &[u8], message: &[u8]) -> [u8; SHA1_DIGEST] {
+    // SAFETY: a hash of OpenSSL, with digests of 20 bytes.
+    unsafe { hmac(EVP_sha1(), key, message) }
+}
+
+/// The MAC by a hash of OpenSSL whose digests have `LEN` bytes.
+unsafe fn hmac<const LEN: usize>(hash: *const c_void, key: &[u8], message: &[u8]) -> [u8; LEN] {
+    let mut mac = [0; LEN];
+    // SAFETY: key and message are read for their lengths, the MAC has the bytes that are written, and its length is
     // not asked for.
     let made = unsafe {
         HMAC(
-            EVP_sha256(),
+            hash,
             key.as_ptr().cast(),
             key.len() as c_int,
             message.as_ptr(),

@@ -1,5 +1,5 @@
 // Computes test vectors of the primitives and prints a line for each result: the source, the input in words, the bytes. Most inputs are
-// published. Seven are not: three SHA-256 messages at the edges of the padding, and four keys that are wrapped. The file stdout has the
+// published. Fourteen are not: ten messages at the edges of the padding, and four keys that are wrapped. The file stdout has the
 // expected lines; docs/VECTORS.md says where each comes from.
 ghost use Prim.Native.Nat.{_≤_};
 use libc::STDOUT_FILENO;
@@ -82,6 +82,29 @@ fn edges() {
     hash(b"SHA-256 1000 zeros", &zeros);
 }
 
+// Prints the SHA-1 digest of a message.
+fn hash_1(name: &[u8], message: &[u8]) {
+    let d = sha1::digest(message);
+    line(name, &d);
+}
+
+// NIST's examples for FIPS 180-4, SHA-1; and messages of zeros at the edges of the padding, which are not published.
+fn sha_1() {
+    hash_1(b"SHA-1 abc", b"abc");
+    hash_1(
+        b"SHA-1 448 bits",
+        b"abcdbcdecdefdefgefghfghighijhijkijkljklmklmnlmnomnopnopq",
+    );
+    let zeros = [0u8; 120];
+    hash_1(b"SHA-1 empty", b"");
+    hash_1(b"SHA-1 55 zeros", &zeros[..55]);
+    hash_1(b"SHA-1 56 zeros", &zeros[..56]);
+    hash_1(b"SHA-1 63 zeros", &zeros[..63]);
+    hash_1(b"SHA-1 64 zeros", &zeros[..64]);
+    hash_1(b"SHA-1 119 zeros", &zeros[..119]);
+    hash_1(b"SHA-1 120 zeros", &zeros);
+}
+
 // RFC 4231, section 4.
 fn rfc_4231() {
     mac(b"RFC 4231 case 1", &[0x0b; 20], b"Hi There");
@@ -126,6 +149,36 @@ fn rfc_4231() {
         b"RFC 4231 case 7",
         &long,
         b"This is a test using a larger than block-size key and a larger than block-size data. The key needs to be hashed before being used by the HMAC algorithm.",
+    );
+}
+
+// Prints the HMAC-SHA-1 of a message under a key.
+fn mac_1(name: &[u8], key: &[u8], message: &[u8]) {
+    let m = hmac_sha1::mac(key, message);
+    line(name, &m);
+}
+
+// RFC 2202, section 3.
+fn rfc_2202() {
+    mac_1(b"RFC 2202 case 1", &[0x0b; 20], b"Hi There");
+    mac_1(b"RFC 2202 case 2", b"Jefe", b"what do ya want for nothing?");
+    mac_1(b"RFC 2202 case 3", &[0xaa; 20], &[0xdd; 50]);
+    mac_1(
+        b"RFC 2202 case 4",
+        b"\x01\x02\x03\x04\x05\x06\x07\x08\x09\x0a\x0b\x0c\x0d\x0e\x0f\x10\x11\x12\x13\x14\x15\x16\x17\x18\x19",
+        &[0xcd; 50],
+    );
+    mac_1(b"RFC 2202 case 5", &[0x0c; 20], b"Test With Truncation");
+    let long = [0xaa; 80];
+    mac_1(
+        b"RFC 2202 case 6",
+        &long,
+        b"Test Using Larger Than Block-Size Key - Hash Key First",
+    );
+    mac_1(
+        b"RFC 2202 case 7",
+        &long,
+        b"Test Using Larger Than Block-Size Key and Larger Than One Block-Size Data",
     );
 }
 
@@ -303,7 +356,9 @@ fn rfc_3394() {
 fn main() {
     nist();
     edges();
+    sha_1();
     rfc_4231();
+    rfc_2202();
     fips_197();
     rfc_3394();
 }

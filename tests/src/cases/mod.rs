@@ -5,6 +5,7 @@ pub mod area;
 pub mod bundle;
 pub mod domain;
 pub mod exports;
+pub mod handover;
 pub mod hash;
 pub mod key_attribute;
 pub mod key_name;

@@ -3,17 +3,19 @@
 use crate::bytes::hex;
 use crate::call::Group;
 use crate::model::area::{names_agree, ReadArea, Way};
+use crate::model::handover::{iteration, kdf};
 use crate::model::key_attribute::WriteKey;
 use crate::model::offers::{Answer, Choose, Recheck, Reply};
 use crate::model::prf::prf_plus;
 use crate::model::usage::text;
-use crate::openssl::{hmac_sha256, sha256, unwrap, wrap, INITIAL_VALUE};
+use crate::openssl::{hmac_sha1, hmac_sha256, sha256, unwrap, wrap, INITIAL_VALUE};
 
 pub fn run(group: &mut Group) {
     texts(group);
     offers(group);
     key_lengths(group);
     listing(group);
+    handover(group);
     names(group);
     primitives(group);
 }
@@ -98,12 +100,22 @@ fn names(group: &mut Group) {
     }
 }
 
-/// That the primitives are called as they should be: FIPS 180-4, RFC 4231 (case 2), RFC 3394 (4.1).
+/// Source document 003, section 5, by hand: a key of two iterations, which are not chained, and its first 32 bytes.
+fn handover(group: &mut Group) {
+    let (first, second) = (hex("01 00 6c 00 63 00 01"), hex("02 00 6c 00 63 00 01"));
+    row(group, "an iteration's bytes", iteration(b"l", b"c", 256, 1) == first);
+    let both = [hmac_sha1(b"key", &first), hmac_sha1(b"key", &second)].concat();
+    row(group, "a key of 256 bits", kdf(b"key", b"l", b"c", 256) == both[..32]);
+}
+
+/// That the primitives are called as they should be: FIPS 180-4, RFC 4231 and RFC 2202 (case 2), RFC 3394 (4.1).
 fn primitives(group: &mut Group) {
     let digest = hex("ba7816bf8f01cfea414140de5dae2223b00361a396177a9cb410ff61f20015ad");
     row(group, "SHA-256 of abc", sha256(b"abc")[..] == digest);
     let mac = hex("5bdcc146bf60754e6a042426089575c75a003f089d2739839dec58b964ec3843");
     row(group, "RFC 4231 case 2", hmac_sha256(b"Jefe", b"what do ya want for nothing?")[..] == mac);
+    let mac = hex("effcdf6ae5eb2fa2d27416d5f184df9c259a7c79");
+    row(group, "RFC 2202 case 2", hmac_sha1(b"Jefe", b"what do ya want for nothing?")[..] == mac);
     let kek: [u8; 16] = std::array::from_fn(|at| at as u8);
     let key = hex("00112233445566778899AABBCCDDEEFF");
     let wrapped = hex("1FA68B0A8112B447AEF34BD8FB5A7B829D3E862371D2CFE5");

@@ -2,6 +2,7 @@
 
 pub mod aka;
 pub mod area;
+pub mod handover;
 pub mod bundle;
 pub mod domain;
 pub mod key_attribute;

@@ -1,0 +1,4 @@
+mod Answers
+mod Derived
+mod Names
+mod Texts

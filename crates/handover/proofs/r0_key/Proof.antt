@@ -1,0 +1,83 @@
+-- `handover::r0_key` meets its contract.
+-- Assumes nothing.
+use mathlib.Core.Path.{sym}
+use mathlib.Core.Bool.{_&&_}
+use denote.Ref.{now}
+use lib.ListN.{length}
+use Rattle.refusal.specs.Checks.{check6}
+use Rattle.refusal.proofs.Answering.{passed, refused-so, written-so}
+use Rattle.handover_rules.specs.Handover.{check34, isId, isSpa, r0Check, r0Key}
+use Rattle.handover_rules.proofs.Accepting.{r0-lengths}
+use Rattle.handover.proofs.Answers.{half-length, room-passed}
+use Rattle.handover.proofs.Derived.{r0-put}
+use Rattle.handover.proofs.Texts.{r0-begun}
+use borrow.Author.Needs.{needs}
+use Rattle.handover.proofs.r0_key.Statement.{statement}
+use Rattle.handover.proofs.r0_key.Tie as tie
+
+check-call-requires : tie.Need-check-call-requires
+check-call-requires c κs = search needs
+
+enum-known-why : tie.Need-enum-known-why
+enum-known-why c = search needs
+
+enum-told : tie.Need-enum-told
+enum-told c = search needs
+
+r0-text-requires : tie.Need-r0-text-requires
+unfolding r0Check
+r0-text-requires c κs =
+    let k = c .before .before in
+    let a = k .before .before .before .before .before .args in
+    r0-lengths (now (a .rrk)) (now (a .ad-id)) (now (a .spa)) (length (now (a .out))) (passed (k .check-call .ensures) (c .enum-told .given .1))
+
+slice-aggregate-derive : tie.Need-slice-aggregate-derive
+slice-aggregate-derive c =
+    let t = c .before .before in
+    let k = t .before .before in
+    let a = k .before .before .before .before .before .args in
+    sym (half-length (now (a .rrk)) (check34 (isId (now (a .ad-id)) && isSpa (now (a .spa)))) (check6 32 (length (now (a .out)))) (passed (k .check-call .ensures) (t .enum-told .given .1)))
+
+slice-aggregate-derive-2 : tie.Need-slice-aggregate-derive-2
+slice-aggregate-derive-2 c = search needs
+
+derive-requires : tie.Need-derive-requires
+derive-requires c κs =
+    let x = c .before .before .before in
+    let t = x .before in
+    let k = t .before .before in
+    (r0-begun _ _ (x .r0-text .ensures), room-passed _ 32 _ (passed (k .check-call .ensures) (t .enum-told .given .1)))
+
+returns : tie.Need-returns
+unfolding r0Check
+returns c = refused-so 32 _ _ (c .before .before .before .check-call .ensures) (c .before .why .given .1)
+
+same-length : tie.Need-same-length
+same-length c = search needs
+
+returns-2 : tie.Need-returns-2
+unfolding r0Check
+returns-2 c =
+    let d = c .before .before .before in
+    let x = d .before .before .before .before in
+    let t = x .before in
+    let k = t .before .before in
+    let a = k .before .before .before .before .before .args in
+    let out = now (a .out) in
+    written-so 32 (r0Key (now (a .rrk)) (now (a .ad-id)) (now (a .spa))) out (k .check-call .ensures) (t .enum-told .given .1)
+    (r0-put (now (a .rrk)) (now (a .ad-id)) (now (a .spa)) out (x .r0-text .ensures) (d .derive .ensures))
+
+pub r0-key-spec : {M : Type 1} → statement M
+r0-key-spec =
+    tie.close
+    (tie.spec
+    check-call-requires
+    enum-known-why
+    enum-told
+    r0-text-requires
+    slice-aggregate-derive
+    slice-aggregate-derive-2
+    derive-requires
+    returns
+    same-length
+    returns-2)

@@ -1,0 +1,3 @@
+pub mod Kdf
+pub mod Handover
+pub mod Statements

@@ -1,0 +1,37 @@
+-- `hmac_sha1::Keyed::mac_of` meets its contract: the inner hash of the message, and the outer hash of that.
+-- Assumes nothing.
+use denote.Ref.{now}
+use Rattle.hmac_sha1.proofs.Laws.{mac-of-law}
+use borrow.Author.Needs.{needs}
+use Rattle.hmac_sha1.proofs.Keyed.mac_of.Statement.{statement}
+use Rattle.hmac_sha1.proofs.Keyed.mac_of.Tie as tie
+
+after-requires : tie.Need-after-requires
+after-requires c κs = search needs
+
+value-with-requires : tie.Need-value-with-requires
+value-with-requires c κs = search needs
+
+after-requires-2 : tie.Need-after-requires-2
+after-requires-2 c κs = search needs
+
+finish-with-digest-requires : tie.Need-finish-with-digest-requires
+finish-with-digest-requires c κs = search needs
+
+returns : tie.Need-returns
+returns c =
+    let q = c .before in
+    let v = q .before in
+    let p = v .before in
+    let a = p .before .before .before .before .args in
+    mac-of-law (a .self .inner) (a .self .outer) (now (a .message)) (p .after .ensures) (v .value-with .ensures) (q .after2 .ensures) (c .finish-with-digest .ensures)
+
+pub mac-of-spec : {M : Type 1} → statement M
+mac-of-spec =
+    tie.close
+    (tie.spec
+    after-requires
+    value-with-requires
+    after-requires-2
+    finish-with-digest-requires
+    returns)

@@ -1,0 +1,55 @@
+-- HMAC-SHA-1 by the hash values after a key's two blocks is RFC 2104's (`KeptValuesGiveMac` of rfc2104), and a MAC has 20 bytes.
+-- Assumes nothing.
+use Prim.Native.Nat.{ℕ, _≤_}
+use mathlib.Core.Path.{_≡_, refl, ap, _∙_}
+use mathlib.Core.List.{List}
+use native.Mathlib.Omega.{arith}
+use lib.Dec.{lit≤}
+use lib.ListN.{length}
+use Rattle.rfc2104.specs.Rfc2104.{masked, keyBlock, ipad, opad, hmac}
+use Rattle.rfc2104.specs.Keyed.{hashAfterBy, macByValuesBy}
+use Rattle.rfc2104.proofs.Laws as laws
+use Rattle.fips180.specs.Hash.{hashBy}
+use Rattle.fips180.specs.Stream.{Progress, finishedBy}
+use Rattle.fips180.specs.Sha1.{sha1, compress, H0, digest}
+use Rattle.sha1.specs.Stream.{startedAfter, absorbed, finished, lastValue}
+use Rattle.hmac_sha1.specs.Rfc2104.{hmacSha1}
+use Rattle.hmac_sha1.specs.Keyed.{keyValue, macByValues}
+
+-- the hash value that the code computes from a key's block
+pub key-value : (key : List ℕ) (pad : ℕ) {block v : List ℕ} → block ≡ keyBlock sha1 key → v ≡ compress H0 (masked block pad) → v ≡ keyValue key pad
+unfolding sha1
+key-value = laws.key-value compress H0 digest
+
+digest-fits : (value : List ℕ) → length (digest value) ≤ 64
+unfolding digest
+digest-fits value = lit≤ tt
+
+pub kept-values-give-mac : (key message : List ℕ) → macByValues (keyValue key ipad) (keyValue key opad) message ≡ hmacSha1 key message
+unfolding hmacSha1 sha1
+kept-values-give-mac = laws.kept-values-give-mac compress H0 digest digest-fits
+
+-- the MAC that a program makes of a message with the two hash values of a key
+pub mac-by-values : (key message : List ℕ) {inner outer m : List ℕ} → inner ≡ keyValue key ipad → outer ≡ keyValue key opad → m ≡ macByValues inner outer message
+    → m ≡ hmacSha1 key message
+mac-by-values key message ei eo e = e ∙ (λ i. macByValues (ei i) (eo i) message) ∙ kept-values-give-mac key message
+
+-- the MAC by a hash in progress: the last hash value of the inner hash goes to the outer one
+pub mac-of-law : (inner outer message : List ℕ) {p q : Progress} {v m : List ℕ} → p ≡ startedAfter inner → v ≡ lastValue (absorbed p message) → q ≡ startedAfter outer
+    → m ≡ finished (absorbed q (digest v)) → m ≡ macByValues inner outer message
+unfolding macByValuesBy hashAfterBy finishedBy
+mac-of-law inner outer message ep ev eq em =
+    em ∙ (λ i. finished (absorbed (eq i) (digest ((ev ∙ ap (λ (s : Progress). lastValue (absorbed s message)) ep) i))))
+
+-- a digest has 20 bytes
+pub sha1-length : (m : List ℕ) → length (sha1 m) ≡ 20
+unfolding sha1 hashBy digest
+sha1-length m = refl
+
+-- and so it fits in a block
+pub digest-short : (m : List ℕ) {d : List ℕ} → d ≡ sha1 m → length d ≤ 64
+digest-short m e = let l = ap length e ∙ sha1-length m in omega arith
+
+pub hmacSha1-length : (key message : List ℕ) → length (hmacSha1 key message) ≡ 20
+unfolding hmacSha1 hmac
+hmacSha1-length key message = sha1-length _

@@ -1,0 +1,45 @@
+-- `hmac_sha1::key_block` meets its contract.
+-- Assumes nothing.
+use denote.Ref.{now}
+use Rattle.fips180.specs.Sha1.{sha1}
+use Rattle.rfc2104.proofs.Blocks.{key-short, key-long}
+use Rattle.hmac_block.proofs.Filling.{filled-short}
+use Rattle.hmac_sha1.proofs.Laws.{digest-short}
+use borrow.Author.Needs.{needs}
+use Rattle.hmac_sha1.proofs.key_block.Statement.{statement}
+use Rattle.hmac_sha1.proofs.key_block.Tie as tie
+
+filled-requires : tie.Need-filled-requires
+filled-requires c κs = search needs
+
+returns : tie.Need-returns
+returns c =
+    let key = now (c .before .before .before .args .key) in
+    let short = c .before .if1 .taken in
+    key-short sha1 key short (filled-short key short (c .filled .ensures))
+
+digest-requires : tie.Need-digest-requires
+digest-requires c κs = search needs
+
+slice-aggregate-filled : tie.Need-slice-aggregate-filled
+slice-aggregate-filled c = search needs
+
+filled-requires-2 : tie.Need-filled-requires-2
+filled-requires-2 c κs = search needs
+
+returns-2 : tie.Need-returns-2
+returns-2 c =
+    let d = c .before .before in
+    let key = now (d .before .before .before .args .key) in
+    key-long sha1 key (d .before .if1 .left) (d .digest .ensures) (filled-short (d .digest .result) (digest-short key (d .digest .ensures)) (c .filled2 .ensures))
+
+pub key-block-spec : {M : Type 1} → statement M
+key-block-spec =
+    tie.close
+    (tie.spec
+    filled-requires
+    returns
+    digest-requires
+    slice-aggregate-filled
+    filled-requires-2
+    returns-2)
