@@ -118,8 +118,8 @@ pub fn mac_of_parts(
 ) -> [u8; Sha256::DIGEST]
     ensures { λ r. ⌜ r ≡ hmacSha256 (now (key .entry)) (now (a .entry) ++ (now (b .entry) ++ (now (c .entry) ++ (now (d .entry) ++ now (e .entry))))) ⌝ }
 {
-    let k = key_block(key);
-    let begun = Sha256::after(key_value(k, IPAD));
+    let block = key_block(key);
+    let begun = Sha256::after(key_value(block, IPAD));
     let digest = begun
         .absorb(a)
         .absorb(b)
@@ -127,5 +127,5 @@ pub fn mac_of_parts(
         .absorb(d)
         .absorb(e)
         .finish();
-    outer_hash(key_value(k, OPAD), digest)
+    outer_hash(key_value(block, OPAD), digest)
 }
