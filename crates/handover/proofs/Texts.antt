@@ -2,10 +2,11 @@
 -- Assumes nothing.
 use Prim.Native.Nat.{ℕ, _≤_}
 use mathlib.Core.Path.{_≡_, refl, sym, ap, _∙_}
-use mathlib.Core.List.{List, [], _∷_, _++_, append-assoc}
+use mathlib.Core.List.{List, [], _∷_, _++_, append-nil, append-assoc}
 use native.Mathlib.Omega.{arith}
 use lib.ListN.{length, take, drop, set, replicate, length-set}
 use lib.Seq.{paste, take-all}
+use Rattle.slices.specs.Ascii.{ascii}
 use Rattle.handover_rules.specs.Kdf.{kdfInput}
 use Rattle.handover_rules.specs.Handover.{r0Label, r1Label, r0Input, r1Input}
 
@@ -66,3 +67,10 @@ r0-begun ad spa e = let l = ap length e in omega arith
 pub r1-begun : (ad an spa : List ℕ) {text : List ℕ} → text ≡ r1Input ad an spa 1 → 1 ≤ length text
 unfolding r1Input kdfInput
 r1-begun ad an spa e = let l = ap length e in omega arith
+
+pub name-laid : (ad spa : List ℕ) {t₁ t₂ t₃ : List ℕ} → length ad ≡ 16 → length spa ≡ 6
+    → t₁ ≡ take 11 (ascii "R0 Key Name") ++ drop 11 (replicate 33 0) → t₂ ≡ paste t₁ 27 spa 6 → t₃ ≡ paste t₂ 11 ad 16 → t₃ ≡ ascii "R0 Key Name" ++ (ad ++ spa)
+name-laid ad spa {t₁} {t₂} {t₃} la ls e₁ e₂ e₃ =
+    e₃ ∙ ap (λ (t : List ℕ). paste t 11 ad 16) (e₂ ∙ ap (λ (t : List ℕ). paste t 27 spa 6) e₁)
+    ∙ (λ i. ascii "R0 Key Name" ++ (whole 16 ad la i ++ (whole 6 spa ls i ++ [])))
+    ∙ ap (λ (l : List ℕ). ascii "R0 Key Name" ++ (ad ++ l)) (append-nil spa)

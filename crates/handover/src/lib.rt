@@ -9,7 +9,6 @@ ghost use Rattle.slices.specs.Ascii.{ascii};
 ghost use Rattle.refusal.specs.Checks as Checks;
 ghost use Rattle.refusal.specs.Checks.{bare, _andThen_, check6};
 ghost use Rattle.refusal.specs.Answers.{checkedAs, answerOf, answerTo, bufferAfter};
-ghost use Rattle.fips180.specs.Sha256.{sha256};
 ghost use Rattle.hmac_sha1.specs.Rfc2104.{hmacSha1};
 ghost use Rattle.handover_rules.specs.Handover.{
   check34,
@@ -26,7 +25,6 @@ use hmac_sha1::Keyed;
 use refusal::Checked;
 use refusal::Refusal;
 use refusal::Written;
-use sha256::Sha256;
 
 // The number of bytes in an rRK, in an R0-Key or R1-Key, and in an R0Name.
 const RRK: usize = 64;
@@ -134,11 +132,16 @@ pub fn r1_key(r0_key: &[u8], ad_id: &[u8], an_id: &[u8], spa: &[u8], out: &mut [
     }
 }
 
-// The hash that a name is the first half of.
-fn name_hash<'a>(r0_key: &'a [u8], ad_id: &'a [u8], spa: &'a [u8]) -> [u8; Sha256::DIGEST]
-    ensures { λ r. ⌜ r ≡ sha256 (now («r0_key» .entry) ++ (ascii "R0 Key Name" ++ (now («ad_id» .entry) ++ now (spa .entry)))) ⌝ }
+// What a name's hash takes after the R0-Key: the label, AD-ID and SPA.
+fn name_text(ad_id: &[u8], spa: &[u8]) -> [u8; 33]
+    requires { ⌜ (length (now «ad_id») ≡ 16) × (length (now spa) ≡ 6) ⌝ }
+    ensures { λ r. ⌜ r ≡ ascii "R0 Key Name" ++ (now («ad_id» .entry) ++ now (spa .entry)) ⌝ }
 {
-    Sha256::new().finish_with(r0_key, b"R0 Key Name", ad_id, spa, b"", b"")
+    let mut text = [0u8; 33];
+    bytes::copy(b"R0 Key Name", &mut text);
+    put(&mut text, 27, spa, SPA);
+    put(&mut text, 11, ad_id, ID);
+    text
 }
 
 // Writes the R0Name of an R0-Key: 16 bytes at the start of out.
@@ -150,7 +153,8 @@ pub fn r0_name<'a>(r0_key: &'a [u8], ad_id: &'a [u8], spa: &'a [u8], out: &mut [
     match check_call(r0_key.len() == KEY, ids, NAME, out.len()) {
         Checked::Failed(why) => Written::Refused(why),
         Checked::Passed => {
-            let hash = name_hash(r0_key, ad_id, spa);
+            let text = name_text(ad_id, spa);
+            let hash = sha256::digest_of_two(r0_key, &text);
             bytes::copy(&hash[..NAME], out);
             Written::Wrote(NAME)
         }

@@ -2,9 +2,10 @@
 -- Assumes nothing.
 use mathlib.Core.Path.{sym}
 use denote.Ref.{now}
+use lib.ListN.{length}
 use Rattle.refusal.proofs.Answering.{passed, refused-so, written-so}
 use Rattle.handover_rules.specs.Handover.{r0NameCheck, r0Name}
-use Rattle.handover.proofs.Names.{name-size, name-fits, name-put}
+use Rattle.handover.proofs.Names.{name-size, name-fits, name-lengths, name-put}
 use borrow.Author.Needs.{needs}
 use Rattle.handover.proofs.r0_name.Statement.{statement}
 use Rattle.handover.proofs.r0_name.Tie as tie
@@ -18,27 +19,35 @@ enum-known-why c = search needs
 enum-told : tie.Need-enum-told
 enum-told c = search needs
 
-name-hash-requires : tie.Need-name-hash-requires
-name-hash-requires c κs = search needs
+name-text-requires : tie.Need-name-text-requires
+unfolding r0NameCheck
+name-text-requires c κs =
+    let k = c .before .before in
+    let a = k .before .before .before .before .before .args in
+    name-lengths (now (a .r0-key)) (now (a .ad-id)) (now (a .spa)) (length (now (a .out))) (passed (k .check-call .ensures) (c .enum-told .given .1))
+
+slice-aggregate-digest-of-two : tie.Need-slice-aggregate-digest-of-two
+slice-aggregate-digest-of-two c = search needs
+
+digest-of-two-requires : tie.Need-digest-of-two-requires
+digest-of-two-requires c κs = search needs
 
 array-share-prefix-hash : tie.Need-array-share-prefix-hash
 array-share-prefix-hash c = search needs
 
 slice-aggregate-copy : tie.Need-slice-aggregate-copy
-slice-aggregate-copy c = sym (name-size _ (c .before .name-hash .ensures))
+slice-aggregate-copy c = sym (name-size _ (c .before .digest-of-two .ensures))
 
 copy-requires : tie.Need-copy-requires
 copy-requires c κs =
-    let h = c .before .before in
-    let t = h .before in
+    let d = c .before .before in
+    let t = d .before .before .before in
     let k = t .before .before in
-    name-fits _ (now (k .before .before .before .before .before .args .out)) _ (h .name-hash .ensures) (passed (k .check-call .ensures) (t .enum-told .given .1))
+    name-fits _ (now (k .before .before .before .before .before .args .out)) _ (d .digest-of-two .ensures) (passed (k .check-call .ensures) (t .enum-told .given .1))
 
 returns : tie.Need-returns
 unfolding r0NameCheck
-returns c =
-    let k = c .before .before .before in
-    refused-so 16 _ _ (k .check-call .ensures) (c .before .why .given .1)
+returns c = refused-so 16 _ _ (c .before .before .before .check-call .ensures) (c .before .why .given .1)
 
 same-length : tie.Need-same-length
 same-length c = search needs
@@ -47,12 +56,13 @@ returns-2 : tie.Need-returns-2
 unfolding r0NameCheck
 returns-2 c =
     let p = c .before .before in
-    let h = p .before .before .before in
-    let t = h .before in
+    let d = p .before .before .before in
+    let x = d .before .before in
+    let t = x .before in
     let k = t .before .before in
     let a = k .before .before .before .before .before .args in
     written-so 16 (r0Name (now (a .r0-key)) (now (a .ad-id)) (now (a .spa))) (now (a .out)) (k .check-call .ensures) (t .enum-told .given .1)
-    (name-put (now (a .r0-key)) (now (a .ad-id)) (now (a .spa)) (now (a .out)) (h .name-hash .ensures) (p .copy .ensures .1))
+    (name-put (now (a .r0-key)) (now (a .ad-id)) (now (a .spa)) (now (a .out)) (x .name-text .ensures) (d .digest-of-two .ensures) (p .copy .ensures .1))
 
 pub r0-name-spec : {M : Type 1} → statement M
 r0-name-spec =
@@ -61,7 +71,9 @@ r0-name-spec =
     check-call-requires
     enum-known-why
     enum-told
-    name-hash-requires
+    name-text-requires
+    slice-aggregate-digest-of-two
+    digest-of-two-requires
     array-share-prefix-hash
     slice-aggregate-copy
     copy-requires
