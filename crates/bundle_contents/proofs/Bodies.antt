@@ -1,6 +1,6 @@
 -- The bodies of a file walked from the first on.
 -- Assumes nothing.
-use Prim.Native.Nat.{ℕ, _+_, _*_, _-_, _≤_, _<_}
+use Prim.Native.Nat.{ℕ, _+_, _*_, _-_, _%_, _≤_, _<_}
 use mathlib.Core.Path.{_≡_, sym, _∙_}
 use mathlib.Core.Bool.{true}
 use mathlib.Core.List.{List, [], _∷_}
@@ -17,6 +17,7 @@ use Rattle.slices.specs.Numbers.{be16At}
 use Rattle.bundle_rules.specs.Bundle.{keyIdIn, Line, lineAt, linesFrom, follow, lastEnd, bodyOf, bodiesCheck}
 use Rattle.bundle_rules.proofs.Reading.{end-le}
 use Rattle.bundle_contents.specs.Internal.{Inside, none, more}
+use Rattle.bundle_contents.proofs.Numbers.{lines-told}
 use Rattle.bundle_contents.proofs.Walking.{lines-next, lines-done, line-id}
 
 -- where each offset is the previous end and the last end is the file's, each body ends within the file
@@ -68,7 +69,7 @@ body-part f offset size =
     let m : offset + size - offset ≡ size = omega arith in
     rw m
 
-pub body-told : (f : List ℕ) (i offset size : ℕ) {c : Check}
-    → c ≡ bodyCheck (take (2 + 20 * i + 16 - (2 + 20 * i)) (drop (2 + 20 * i) f)) (take (offset + size - offset) (drop offset f))
+pub body-told : (f : List ℕ) (i line offset size : ℕ) {c : Check} → i < 65536 → line ≡ 20 * (i % 65536)
+    → c ≡ bodyCheck (take (2 + line + 16 - (2 + line)) (drop (2 + line) f)) (take (offset + size - offset) (drop offset f))
     → bodyCheck (take 16 (drop (2 + 20 * i) f)) (take size (drop offset f)) ≡ c
-body-told f i offset size e = sym (rw (line-id f i, body-part f offset size) at e)
+body-told f i line offset size h l e = sym (rw (lines-told i line h l, line-id f i, body-part f offset size) at e)

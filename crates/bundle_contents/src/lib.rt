@@ -129,10 +129,11 @@ fn check_bodies(file: &[u8], n: usize) -> Checked
 {
     let mut i = 0;
     while i < n {
-        let at = 2 + 20 * i;
+        let line = lines_length(i);
+        let at = 2 + line;
         let id_end = at + 16;
-        let offset = number_at(file, 18 + 20 * i);
-        let size = number_at(file, 20 + 20 * i);
+        let offset = number_at(file, 18 + line);
+        let size = number_at(file, 20 + line);
         let end = offset + size;
         match check_body(&file[at..id_end], &file[offset..end]) {
             Checked::Failed(why) => return Checked::Failed(why),

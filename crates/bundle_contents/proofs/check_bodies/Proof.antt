@@ -9,6 +9,7 @@ use borrow.Author.Needs.{needs}
 use Rattle.refusal.specs.Answers.{checkedAs}
 use Rattle.bundle_rules.specs.Bundle.{linesFrom, bodiesCheck}
 use Rattle.bundle_contents.specs.Internal.{Inside}
+use Rattle.bundle_contents.proofs.Numbers.{number-of-line}
 use Rattle.bundle_contents.proofs.Bodies.{inside-here, inside-on, bodies-stop, bodies-on, bodies-done, body-told}
 use Rattle.bundle_contents.proofs.check_bodies.Statement.{statement}
 use Rattle.bundle_contents.proofs.check_bodies.Tie as tie
@@ -22,29 +23,23 @@ abbrev μ-loop : tie.MeasureT-loop
 loop-holds : tie.Need-loop-holds Inv-loop μ-loop
 loop-holds c = (omega arith, rw sub-zero (c .before .pre .1 .1), rw sub-zero)
 
-mul-at : tie.Need-mul-at Inv-loop μ-loop
-mul-at c = omega arith
+lines-length-requires : tie.Need-lines-length-requires Inv-loop μ-loop
+lines-length-requires c κs = search needs
 
 add-at : tie.Need-add-at Inv-loop μ-loop
-add-at c = omega arith
+add-at c = omega (arith, c .lines-length .ensures)
 
 add-id-end : tie.Need-add-id-end Inv-loop μ-loop
-add-id-end c = omega arith
-
-mul-number-at : tie.Need-mul-number-at Inv-loop μ-loop
-mul-number-at c = omega arith
+add-id-end c = omega (arith, c .lines-length .ensures)
 
 add-number-at : tie.Need-add-number-at Inv-loop μ-loop
-add-number-at c = omega arith
+add-number-at c = omega (arith, c .lines-length .ensures)
 
 number-at-requires : tie.Need-number-at-requires Inv-loop μ-loop
 number-at-requires c κs = search needs
 
-mul-number-at-2 : tie.Need-mul-number-at-2 Inv-loop μ-loop
-mul-number-at-2 c = omega arith
-
 add-number-at-2 : tie.Need-add-number-at-2 Inv-loop μ-loop
-add-number-at-2 c = omega arith
+add-number-at-2 c = omega (arith, c .before .lines-length .ensures)
 
 number-at-requires-2 : tie.Need-number-at-requires-2 Inv-loop μ-loop
 number-at-requires-2 c κs = search needs
@@ -53,13 +48,13 @@ add-end : tie.Need-add-end Inv-loop μ-loop
 add-end c = omega arith
 
 sub-check-body : tie.Need-sub-check-body Inv-loop μ-loop
-sub-check-body c = omega arith
+sub-check-body c = omega (arith, c .before .before .lines-length .ensures)
 
 part-check-body-start : tie.Need-part-check-body-start Inv-loop μ-loop
-part-check-body-start c = omega arith
+part-check-body-start c = omega (arith, c .before .before .lines-length .ensures)
 
 part-check-body-end : tie.Need-part-check-body-end Inv-loop μ-loop
-part-check-body-end c = omega arith
+part-check-body-end c = omega (arith, c .before .before .lines-length .ensures)
 
 sub-check-body-2 : tie.Need-sub-check-body-2 Inv-loop μ-loop
 sub-check-body-2 c = omega arith
@@ -69,8 +64,12 @@ part-check-body-start-2 c = omega arith
 
 part-check-body-end-2 : tie.Need-part-check-body-end-2 Inv-loop μ-loop
 part-check-body-end-2 c =
-    let l = c .before .before .before .before .loop in
-    omega (arith, inside-here _ (l .i) _ _ _ (omega arith) (l .inv .1) (c .before .before .number-at .ensures .0) (c .before .number-at2 .ensures .0))
+    let l = c .before .before .before .before .before .loop in
+    let line = c .before .before .before .lines-length .ensures in
+    let f = now (c .before .before .before .before .before .before .before .args .file) in
+    let offset = number-of-line f 18 (l .i) _ (omega arith) line (c .before .before .number-at .ensures .0) in
+    let size = number-of-line f 20 (l .i) _ (omega arith) line (c .before .number-at2 .ensures .0) in
+    omega (arith, inside-here f (l .i) _ _ _ (omega arith) (l .inv .1) offset size)
 
 check-body-requires : tie.Need-check-body-requires Inv-loop μ-loop
 check-body-requires c κs = search needs
@@ -81,8 +80,12 @@ enum-known-why c = search needs
 returns : tie.Need-returns Inv-loop μ-loop
 returns c =
     let k = c .before .before .before .before .before in
-    let l = k .before .before .before .before .loop in
-    bodies-stop _ (l .i) _ _ _ (omega arith) (k .before .before .number-at .ensures .0) (k .before .number-at2 .ensures .0) (l .inv .2) (body-told (now (k .before .before .before .before .before .before .args .file)) (l .i) (k .before .before .number-at .result) (k .before .number-at2 .result) (c .before .before .before .check-body .ensures) ∙ ap checkedAs (c .before .why .given .1))
+    let l = k .before .before .before .before .before .loop in
+    let line = k .before .before .before .lines-length .ensures in
+    let f = now (k .before .before .before .before .before .before .before .args .file) in
+    let offset = number-of-line f 18 (l .i) _ (omega arith) line (k .before .before .number-at .ensures .0) in
+    let size = number-of-line f 20 (l .i) _ (omega arith) line (k .before .number-at2 .ensures .0) in
+    bodies-stop f (l .i) _ _ _ (omega arith) offset size (l .inv .2) (body-told f (l .i) _ (k .before .before .number-at .result) (k .before .number-at2 .result) (omega arith) line (c .before .before .before .check-body .ensures) ∙ ap checkedAs (c .before .why .given .1))
 
 enum-told : tie.Need-enum-told Inv-loop μ-loop
 enum-told c = search needs
@@ -96,10 +99,14 @@ loop-less c = omega arith
 loop-again : tie.Need-loop-again Inv-loop μ-loop
 loop-again c =
     let k = c .before .before .before .before in
-    let l = k .before .before .before .before .loop in (
+    let l = k .before .before .before .before .before .loop in
+    let line = k .before .before .before .lines-length .ensures in
+    let f = now (k .before .before .before .before .before .before .before .args .file) in
+    let offset = number-of-line f 18 (l .i) _ (omega arith) line (k .before .before .number-at .ensures .0) in
+    let size = number-of-line f 20 (l .i) _ (omega arith) line (k .before .number-at2 .ensures .0) in (
       omega arith,
       inside-on _ (l .i) _ (omega arith) (l .inv .1),
-      bodies-on _ (l .i) _ _ _ (omega arith) (k .before .before .number-at .ensures .0) (k .before .number-at2 .ensures .0) (l .inv .2) (body-told (now (k .before .before .before .before .before .before .args .file)) (l .i) (k .before .before .number-at .result) (k .before .number-at2 .result) (c .before .before .check-body .ensures) ∙ ap checkedAs (c .enum-told .given .1)),
+      bodies-on f (l .i) _ _ _ (omega arith) offset size (l .inv .2) (body-told f (l .i) _ (k .before .before .number-at .result) (k .before .number-at2 .result) (omega arith) line (c .before .before .check-body .ensures) ∙ ap checkedAs (c .enum-told .given .1)),
     )
 
 returns-2 : tie.Need-returns-2 Inv-loop μ-loop
@@ -112,13 +119,11 @@ check-bodies-spec =
     Inv-loop
     μ-loop
     loop-holds
-    mul-at
+    lines-length-requires
     add-at
     add-id-end
-    mul-number-at
     add-number-at
     number-at-requires
-    mul-number-at-2
     add-number-at-2
     number-at-requires-2
     add-end

@@ -5,8 +5,8 @@ use borrow.Author.Needs.{needs}
 use Rattle.bundle_reader.proofs.read.Statement.{statement}
 use Rattle.bundle_reader.proofs.read.Tie as tie
 
-contents-end-requires : tie.Need-contents-end-requires
-contents-end-requires c κs = search needs
+first-offset-requires : tie.Need-first-offset-requires
+first-offset-requires c κs = search needs
 
 check-bundle-requires : tie.Need-check-bundle-requires
 check-bundle-requires c κs = search needs
@@ -27,13 +27,13 @@ same-length : tie.Need-same-length
 same-length c = search needs
 
 returns : tie.Need-returns
-returns c = read-so _ _ _ _ (c .before .before .before .before .before .check-bundle .ensures) (c .before .before .before .before .before .before .contents-end .ensures .1) (c .before .before .put .ensures .0) (c .before .before .put .ensures .1)
+returns c = read-so _ _ _ _ (c .before .before .before .before .before .check-bundle .ensures) (c .before .before .before .before .before .before .first-offset .ensures .1) (c .before .before .put .ensures .0) (c .before .before .put .ensures .1)
 
 pub read-spec : {M : Type 1} → statement M
 read-spec =
     tie.close
     (tie.spec
-    contents-end-requires
+    first-offset-requires
     check-bundle-requires
     sub-put
     part-put-start

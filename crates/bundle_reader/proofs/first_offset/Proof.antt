@@ -1,0 +1,18 @@
+-- `bundle_reader::first_offset` meets its contract.
+-- Assumes nothing.
+use borrow.Author.Needs.{needs}
+use Rattle.bundle_reader.proofs.Reading.{start-at}
+use Rattle.bundle_reader.proofs.first_offset.Statement.{statement}
+use Rattle.bundle_reader.proofs.first_offset.Tie as tie
+
+number-at-requires : tie.Need-number-at-requires
+number-at-requires c κs = search needs
+
+least-requires : tie.Need-least-requires
+least-requires c κs = search needs
+
+returns : tie.Need-returns
+returns c = start-at _ (c .before .number-at .ensures .0) (c .least .ensures)
+
+pub first-offset-spec : {M : Type 1} → statement M
+first-offset-spec = tie.close (tie.spec number-at-requires least-requires returns)
