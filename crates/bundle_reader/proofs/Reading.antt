@@ -48,7 +48,7 @@ start-at f {at} {r} q e =
 -- bytes that are the same where the tests pass are written alike
 same-written : (c : Check) (v w out : List ℕ) → (c ≡ pass → v ≡ w)
     → (answerTo (c andThen check6 (length v) (length out)) (length v) ≡ answerTo (c andThen check6 (length w) (length out)) (length w))
-        × (bufferAfter (c andThen check6 (length v) (length out)) (length v) v out ≡ bufferAfter (c andThen check6 (length w) (length out)) (length w) w out)
+    × (bufferAfter (c andThen check6 (length v) (length out)) (length v) v out ≡ bufferAfter (c andThen check6 (length w) (length out)) (length w) w out)
 unfolding _andThen_
 same-written pass v w out p = (rw (p refl), rw (p refl))
 same-written (refuse x) v w out p = (refl, refl)
