@@ -58,10 +58,11 @@ static void derive_key(const uint8_t emsk[64], uint8_t key[32])
  * domain has another key. (Use the keys of the visited domain, kv_visited_root_key and on, for peers that know no others.) */
 static void derive_domain_keys(const uint8_t emsk[64])
 {
-    static const char *const domains[] = { "2.example", ".example" };
+    static const char domains[2][10] = { "2.example", ".example" };
+    static const size_t lengths[2] = { 9, 8 };
     for (size_t i = 0; i < 2; i++) {
         uint8_t root[KV_DOMAIN_KEY_LEN], reauth[KV_DOMAIN_KEY_LEN];
-        kv_outcome r = kv_domain_root_key(emsk, 64, (const uint8_t *)domains[i], strlen(domains[i]), root, sizeof root);
+        kv_outcome r = kv_domain_root_key(emsk, 64, (const uint8_t *)domains[i], lengths[i], root, sizeof root);
         expect_accepted("kv_domain_root_key", r.refusal);
         print_bytes(domains[i], root, sizeof root);
         r = kv_domain_reauth_key(root, sizeof root, reauth, sizeof reauth);
