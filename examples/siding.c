@@ -1,8 +1,9 @@
 /* What a yard controller does, call by call. It makes an EMSK from a SIM, derives a siding's key, the keys of two domains and
  * the keys of a handheld that moves to another access node, agrees with a handheld on a key derivation function, reads the
  * attribute area that carried the offers, and sends the siding's key to a neighbour as a RADIUS Key attribute, which the
- * neighbour opens: first alone, then in a packet that is signed and checked. It keeps the names of the keys of a visited
- * domain in slots until their EMSK expires. Each step prints its result; examples/siding.expected has what must be printed. */
+ * neighbour opens: first alone, then in a packet that is signed and checked. It packs the keys of a box that moves in one
+ * bundle, and keeps the names of the keys of a visited domain in slots until their EMSK expires. Each step prints its result;
+ * examples/siding.expected has what must be printed. */
 #include "ketvaulo.h"
 #include "ketvaulo_text.h"
 
@@ -207,6 +208,36 @@ static void deliver_key(const uint8_t key[32])
     printf("another lifetime on the way: the attribute %u, the packet %u\n", (unsigned)got.refusal, (unsigned)r.refusal);
 }
 
+/* When a box moves, the Key attributes of its keys travel in one file, a bundle. No Key ID may stand twice in it. */
+static void move_box(const uint8_t key[32])
+{
+    static const uint8_t kek[KV_KEK_LEN] = { 0, 1, 2, 3, 4, 5, 6, 7, 8, 9, 10, 11, 12, 13, 14, 15 };
+    static const uint8_t kek_id[] = "yard kek 0000001";
+    static const uint8_t key_ids[2][KV_ID_LEN + 1] = { "siding gate/0012", "siding ramp/0007" };
+    enum { ONE = 32 + KV_KEY_ATTRIBUTE_MORE, CONTENTS = 2 + 2 * 20 };
+    uint8_t attributes[2 * ONE], file[CONTENTS + 2 * ONE], back[2 * ONE];
+    for (size_t i = 0; i < 2; i++) {
+        kv_outcome w = kv_write_key_attribute(26, 7, kek_id, KV_ID_LEN, key_ids[i], KV_ID_LEN, 3600, kek, sizeof kek, key, 32,
+                                              attributes + i * ONE, ONE);
+        expect_accepted("kv_write_key_attribute", w.refusal);
+    }
+    kv_outcome r = kv_write_bundle(attributes, sizeof attributes, file, sizeof file);
+    expect_accepted("kv_write_bundle", r.refusal);
+    printf("bundle of %u bytes\n", (unsigned)r.value);
+    print_bytes("contents", file, CONTENTS);
+
+    r = kv_read_bundle(file, sizeof file, back, sizeof back);
+    expect_accepted("kv_read_bundle", r.refusal);
+    unsigned differ = 0;
+    for (size_t i = 0; i < sizeof back; i++)
+        differ += back[i] != attributes[i];
+    printf("read back: %u bytes, %u differ\n", (unsigned)r.value, differ);
+
+    memcpy(attributes + ONE + 24, key_ids[0], KV_ID_LEN);
+    r = kv_write_bundle(attributes, sizeof attributes, file, sizeof file);
+    printf("a Key ID that stands twice: refused %u\n", (unsigned)r.refusal);
+}
+
 /* Keeps the name of a key in a slot, below the slot of the key that it was derived from. Returns its slot. */
 static uint64_t keep_key(kv_slots *slots, const char *key, const char *label, size_t label_len, uint64_t parent)
 {
@@ -254,6 +285,7 @@ int main(void)
     read_area();
     send_key(key);
     deliver_key(key);
+    move_box(key);
     keep_keys();
     return 0;
 }
