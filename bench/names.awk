@@ -5,6 +5,7 @@ function thousands(n,    s, t) {
 }
 function job_is(name, call_name, kind_name, title) {
     job[++jobs] = name; job_call[jobs] = call_name; job_kind[jobs] = kind_name; job_title[jobs] = title
+    call_of[name] = call_name
 }
 function call_is(name, title) { call[++calls] = name; call_title[calls] = title }
 function kind_is(name, title) { kind[++kinds] = name; kind_title[kinds] = title }

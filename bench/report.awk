@@ -36,8 +36,8 @@ function ratio(what, row,    i, c, best, who, v) {
 $1 == "column" { column[++columns] = $2; class[$2] = $3; sub(/^column [^ ]+ [^ ]+ [^ ]+ /, ""); heading[column[columns]] = $0 }
 $1 == "instructions" { value["instructions", $2, $3] = $4 }
 $1 == "memory" {
-    split($3, a, "-")
-    if ($4 + $5 > deep[$2, a[1]]) { deep[$2, a[1]] = $4 + $5; value["memory", $2, a[1]] = $4; extra["memory", $2, a[1]] = $5 }
+    c = call_of[$3]
+    if ($4 + $5 > deep[$2, c]) { deep[$2, c] = $4 + $5; value["memory", $2, c] = $4; extra["memory", $2, c] = $5 }
 }
 $1 == "size" { value["size", $2, $3] = $4; if ($5) zeroed[$2, $3] = $5 }
 $1 == "archive" { archive = $2 }

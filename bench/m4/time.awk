@@ -8,6 +8,9 @@ END {
     handover = 3 * cost["usage-64"] + cost["write-192"] + cost["read-192"]
     row("a handover", handover)
     row("80 handovers, in a minute", 80 * handover)
+    keys = cost["r0-key"] + cost["r1-key"]
+    row("a handover between access nodes: R0-Key and R1-Key", keys)
+    row("80 of these, in a minute", 80 * keys)
     printf "\n80 handovers in a minute take %.1f to %.1f %% of the core.\n", 80 * handover / 120e6 / 60 * 100, \
         80 * handover * 1.5 / 120e6 / 60 * 100
 }
