@@ -447,3 +447,66 @@ kv_outcome kv_read_bundle(const uint8_t *file, size_t file_len, uint8_t *out, si
     memcpy(out, file + contents, file_len - contents);
     return wrote(file_len - contents);
 }
+
+/* ---- slots */
+static int is_live(const kv_slots *slots, uint64_t number) { return number < KV_SLOTS && (slots->taken >> number & 1) != 0; }
+
+kv_slots_outcome kv_put_slot(kv_slots slots, kv_name name, uint64_t parent)
+{
+    kv_slots_outcome r = {.slots = slots};
+    unsigned at = 0;
+    if (parent != KV_NO_PARENT) {
+        uint64_t above = parent;
+        if (!is_live(&slots, above)) {
+            r.refusal = KV_PARENT_NOT_LIVE;
+            return r;
+        }
+        for (int steps = 0; slots.parents[above] != 255; steps++) {
+            above = slots.parents[above];
+            if (steps == 2 || !is_live(&slots, above)) {
+                r.refusal = KV_TOO_DEEP;
+                return r;
+            }
+        }
+    }
+    while (at < KV_SLOTS && slots.taken >> at & 1)
+        at++;
+    if (at == KV_SLOTS) {
+        r.refusal = KV_SLOTS_FULL;
+        return r;
+    }
+    r.slots.taken |= (uint64_t)1 << at;
+    r.slots.names[at] = name;
+    r.slots.parents[at] = (uint8_t)(parent == KV_NO_PARENT ? 255 : parent);
+    r.value = at;
+    return r;
+}
+
+kv_slots_outcome kv_drop_slot(kv_slots slots, uint64_t number)
+{
+    kv_slots_outcome r = {.slots = slots};
+    if (!is_live(&slots, number)) {
+        r.refusal = KV_NO_SUCH_SLOT;
+        return r;
+    }
+    for (unsigned i = 0; i < KV_SLOTS; i++) {
+        uint64_t above = i;
+        if (!(slots.taken >> i & 1))
+            continue;
+        for (int steps = 0; steps < 3 && above != number && is_live(&slots, slots.parents[above]); steps++)
+            above = slots.parents[above];
+        if (above == number) {
+            r.slots.taken &= ~((uint64_t)1 << i);
+            r.value++;
+        }
+    }
+    return r;
+}
+
+uint32_t kv_live_slots(kv_slots slots)
+{
+    uint32_t live = 0;
+    for (unsigned i = 0; i < KV_SLOTS; i++)
+        live += slots.taken >> i & 1;
+    return live;
+}

@@ -62,8 +62,8 @@ check_answers() {
 
 on() { # JOBS JOB-OR-KIND: whether a column that is measured on JOBS is measured on this one
     case $1:$2 in
-    all:* | area:area* | area:bundle* | attribute:write* | attribute:read* | attribute:attribute | attribute:all) true ;;
-    -area:area* | -area:bundle* | area:* | attribute:*) false ;;
+    all:* | area:area* | area:bundle* | area:slot* | attribute:write* | attribute:read* | attribute:attribute | attribute:all) true ;;
+    -area:area* | -area:bundle* | -area:slot* | area:* | attribute:*) false ;;
     -area:*) true ;;
     esac
 }
@@ -74,7 +74,7 @@ size=size
 sizes() {
     local column=$1 jobs=$2 prefix=$3 kind calls
     shift 3
-    for kind in hash usage handover attribute area bundle all; do
+    for kind in hash usage handover attribute area bundle slots all; do
         on "$jobs" $kind || continue
         case $kind in
         hash) calls=sha256 ;;
@@ -83,7 +83,8 @@ sizes() {
         attribute) calls='write_key_attribute read_key_attribute' ;;
         area) calls=read_area ;;
         bundle) calls='write_bundle read_bundle' ;;
-        all) calls='sha256 usage_key r0_key r1_key write_key_attribute read_key_attribute read_area write_bundle read_bundle' ;;
+        slots) calls='put_slot drop_slot live_slots' ;;
+        all) calls='sha256 usage_key r0_key r1_key write_key_attribute read_key_attribute read_area write_bundle read_bundle put_slot drop_slot live_slots' ;;
         esac
         # shellcheck disable=SC2046,SC2086 # words
         $gcc -static -nostdlib -Wl,--gc-sections,--unresolved-symbols=ignore-all "-Wl,-e,$prefix${calls##* }" \

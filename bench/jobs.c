@@ -82,6 +82,12 @@ static void area_17(void) { found = kv_read_area(area, sizeof area, own_name, NA
 static void bundle_write_64(void) { outcome = kv_write_bundle(attributes, sizeof attributes, out, sizeof out); }
 static void bundle_read_64(void) { outcome = kv_read_bundle(bundle, sizeof bundle, out, sizeof out); }
 
+/* All 64 slots are taken: slot 0 is a root, seven stand below it, and eight below each of these and of slot 0. A put goes into the last. */
+static kv_slots full_slots, free_slots;
+static kv_slots_outcome changed;
+static void slot_put(void) { changed = kv_put_slot(free_slots, (kv_name){{1, 2, 3, 4, 5, 6, 7, 8}}, 8); }
+static void slot_drop(void) { changed = kv_drop_slot(full_slots, 0); }
+
 const struct job jobs[JOBS] = {
     {"none", none},
     {"sha256-64", sha256_64},
@@ -105,6 +111,8 @@ const struct job jobs[JOBS] = {
     {"area-17", area_17},
     {"bundle-write-64", bundle_write_64},
     {"bundle-read-64", bundle_read_64},
+    {"slot-put", slot_put},
+    {"slot-drop", slot_drop},
 };
 
 void prepare_jobs(void)
@@ -131,6 +139,14 @@ void prepare_jobs(void)
         attributes[252 * i + 39] = (uint8_t)i;
     }
     outcome = kv_write_bundle(attributes, sizeof attributes, bundle, sizeof bundle);
+    full_slots.taken = ~(uint64_t)0;
+    for (int i = 0; i < KV_SLOTS; i++) {
+        fill(full_slots.names[i].bytes, sizeof full_slots.names[i].bytes, (uint8_t)i);
+        full_slots.parents[i] = (uint8_t)(i < 8 ? 0 : i / 8);
+    }
+    full_slots.parents[0] = 255;
+    free_slots = full_slots;
+    free_slots.taken >>= 1;
 }
 
 static void show_bytes(const uint8_t *at, size_t n, void (*put)(const char *))
@@ -163,10 +179,12 @@ void show_job(const struct job *job, void (*put)(const char *))
     memset(&outcome, 0, sizeof outcome);
     memset(&attribute, 0, sizeof attribute);
     memset(&found, 0, sizeof found);
+    memset(&changed, 0, sizeof changed);
     job->call();
     const uint64_t numbers[] = {outcome.refusal, outcome.value,   attribute.refusal, attribute.app_id, attribute.lifetime,
                                 attribute.key_len, attribute.type, found.refusal,    found.offers,     found.at,
-                                found.name_at,   found.name_len,  found.same_name};
+                                found.name_at,   found.name_len,  found.same_name,   changed.refusal,  changed.value,
+                                changed.slots.taken};
     put(job->name);
     for (size_t i = 0; i < sizeof numbers / sizeof *numbers; i++)
         show_number(numbers[i], put);
