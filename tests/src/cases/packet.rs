@@ -113,7 +113,7 @@ fn faults<C: OnPacket>() -> Vec<Fault<C>> {
 
 /// Those of a packet that is to be checked: the writer's, and a MAC that differs in one bit of its first byte, or of its last.
 fn check_faults() -> Vec<Fault<Received>> {
-    let mut faults = faults();
+    let mut faults = faults::<Received>();
     faults.push((38, |call| call.0.bytes[20 + MAC_AT] ^= 1));
     faults.push((38, |call| call.0.bytes[20 + MAC_AT + MAC - 1] ^= 0x80));
     faults
