@@ -10,9 +10,8 @@ use lib.ListN.{length, take, drop}
 use Rattle.refusal.specs.Checks.{Reason, Check, pass, refuse, bare, unless, _andThen_}
 use Rattle.slices.specs.Same.{sameList}
 use Rattle.slices.proofs.Truth.{and-right}
-use Rattle.refusal.proofs.Passing.{first-refuses}
+use Rattle.refusal.proofs.Passing.{first-refuses, second-decides}
 use Rattle.key_frame.specs.KeyFrame.{frameCheck}
-use Rattle.bundle_rules.proofs.Laws.{passed-then}
 use Rattle.slices.specs.Numbers.{be16At}
 use Rattle.bundle_rules.specs.Bundle.{keyIdIn, Line, lineAt, linesFrom, follow, lastEnd, bodyOf, bodiesCheck}
 use Rattle.bundle_rules.proofs.Reading.{end-le}
@@ -57,7 +56,7 @@ module _ (f : List ℕ) (i n offset size : ℕ) {whole : Check} (h : i < n) (o :
   bodies-stop e = first-refuses _ _ e ∙ sym one-more
 
   pub bodies-on : bodyCheck (take 16 (drop (2 + 20 * i) f)) (take size (drop offset f)) ≡ pass → whole ≡ bodiesCheck f (linesFrom f (i + 1) (n - (i + 1)))
-  bodies-on e = one-more ∙ passed-then _ _ e
+  bodies-on e = one-more ∙ sym (second-decides _ _ e)
 
 pub bodies-done : (f : List ℕ) (i n : ℕ) {whole : Check} → n ≤ i → whole ≡ bodiesCheck f (linesFrom f i (n - i)) → pass ≡ whole
 unfolding bodiesCheck

@@ -7,9 +7,9 @@ use mathlib.Core.List.{List}
 use borrow.Author.Tests.{le-leb, lt-leb, eq-eqb, ne-eqb}
 use lib.Dec.{leb}
 use lib.ListN.{length}
+use Rattle.refusal.proofs.Passing.{within-holds}
 use Rattle.refusal.specs.Checks.{Check, refuse, bare, unless, _andThen_, within}
 use Rattle.bundle_rules.specs.Bundle.{contentsEnd, idRepeats, linesFrom, countIn, follow, lastEnd, idsOf, bodiesCheck, contentsCheck, bundleCheck}
-use Rattle.bundle_rules.proofs.Laws.{within-holds}
 
 pub bundle-short : (f : List ℕ) → length f < 2 → refuse (bare 39) ≡ bundleCheck f
 unfolding bundleCheck contentsCheck unless _andThen_

@@ -6,10 +6,10 @@ use mathlib.Core.Bool.{true, false, and-false}
 use mathlib.Core.List.{List, map}
 use borrow.Author.Tests.{lt-leb}
 use lib.ListN.{length}
+use Rattle.refusal.proofs.Passing.{within-holds}
 use Rattle.refusal.specs.Checks.{Reason, Check, pass, refuse, bare, unless, _andThen_, within}
 use Rattle.refusal.specs.Answers.{wrote, refused, answerTo}
 use Rattle.bundle_rules.specs.Bundle.{keyIdIn, idRepeats, packed, framesCheck, packedCheck}
-use Rattle.bundle_rules.proofs.Laws.{within-holds}
 
 -- what tests come to, as an answer with a count
 pub told : {c : Check} {m n : ℕ} → pass ≡ c → n ≡ m → wrote n ≡ answerTo c m

@@ -11,12 +11,11 @@ use lib.ListN.{length, take, drop, getD, length-drop, length-take, take-append-d
 use lib.Seq.{drop-drop, getD-drop, getD-take, length-take-le, take-append-le, drop-append-le}
 use Rattle.refusal.specs.Checks.{Reason, Check, pass, refuse, _andThen_}
 use Rattle.slices.specs.Same.{sameList}
-use Rattle.refusal.proofs.Passing.{first-refuses}
+use Rattle.refusal.proofs.Passing.{first-refuses, second-decides}
 use Rattle.slices.proofs.Truth.{and-right}
 use Rattle.slices.proofs.Lists.{rest-drop}
 use Rattle.key_frame.specs.KeyFrame.{fieldsIn, frameCheck}
 use Rattle.bundle_rules.specs.Bundle.{keyIdIn, idStands, idRepeats, leads, bodyLength, packed, framesCheck}
-use Rattle.bundle_rules.proofs.Laws.{passed-then}
 use Rattle.bundle_rules.proofs.Packing.{Sized, sized, first-frame, later-frames, body-some, packed-next, packed-none}
 
 -- ---- the first body's length
@@ -88,7 +87,7 @@ frames-stop bytes at n s e inv = rw (s .next) (first-refuses _ _ (rw (part-of at
 pub frames-on : (bytes : List ℕ) (at n : ℕ) {whole : Check} → Step bytes at n → frameCheck (take (at + n - at) (drop at bytes)) ≡ pass
     → whole ≡ framesCheck (packed (drop at bytes)) → whole ≡ framesCheck (packed (drop (at + n) bytes))
 unfolding framesCheck
-frames-on bytes at n s e inv = inv ∙ rw (s .next) (passed-then _ _ (rw (part-of at n bytes) at e))
+frames-on bytes at n s e inv = inv ∙ rw (s .next) (sym (second-decides _ _ (rw (part-of at n bytes) at e)))
 
 pub frames-end : (bytes : List ℕ) (at : ℕ) {whole : Check} → length bytes ≤ at → whole ≡ framesCheck (packed (drop at bytes)) → pass ≡ whole
 unfolding framesCheck

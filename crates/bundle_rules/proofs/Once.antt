@@ -7,11 +7,11 @@ use mathlib.Core.List.{List, [], _∷_}
 use native.Mathlib.Nat.{add-zero, zero-add}
 use native.Mathlib.Omega.{arith}
 use lib.ListN.{length, getD, length-map}
+use Rattle.slices.proofs.Truth.{or-left, or-right, or-true}
 use Rattle.slices.specs.Same.{sameList}
 use Rattle.slices.proofs.Same.{equal-same}
 use Rattle.bundle_rules.specs.Bundle.{idStands, idRepeats, Line, lineAt, linesFrom, countIn, linesIn, idsOf}
 use Rattle.bundle_rules.specs.Statements.{NoneTwice, Longest}
-use Rattle.bundle_rules.proofs.Laws.{or-left, or-right, or-true}
 use Rattle.bundle_rules.proofs.Reading.{contents, Whole, Laid, next, laid, laid-length}
 use Rattle.bundle_rules.proofs.FileBack.{length-lines}
 
@@ -20,7 +20,7 @@ stands-at : (ids : List (List ℕ)) (j : ℕ) → j < length ids → idStands (g
 unfolding idStands
 stands-at [] j h = absurd (omega arith)
 stands-at (x ∷ ids) zero h = rw (equal-same x)
-stands-at (x ∷ ids) (suc j) h = rw (stands-at ids j (omega arith)) (or-true (sameList x (getD ids j [])))
+stands-at (x ∷ ids) (suc j) h = or-true (sameList x (getD ids j [])) _ (stands-at ids j (omega arith))
 
 pub once-apart : (ids : List (List ℕ)) (i j : ℕ) → idRepeats ids ≡ false → i < j → j < length ids → getD ids i [] ≡ getD ids j [] → ⊥
 unfolding idRepeats

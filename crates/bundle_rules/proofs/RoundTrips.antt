@@ -11,11 +11,10 @@ use lib.Seq.{take-at}
 use Rattle.slices.specs.Bytes.{Bytes}
 use Rattle.refusal.specs.Checks.{pass, bare, within}
 use Rattle.refusal.specs.Answers.{wrote}
-use Rattle.refusal.proofs.Passing.{within-low, within-high, before-passed, last-passed, test-passed, test-holds, both-pass}
+use Rattle.refusal.proofs.Passing.{within-low, within-high, before-passed, last-passed, test-passed, test-holds, both-pass, within-holds}
 use Rattle.refusal.proofs.Answering.{told-count}
 use Rattle.bundle_rules.specs.Bundle.{contentsEnd, keyIdIn, idRepeats, fileOf, packed, framesCheck, fileLength, packedCheck, writeCheck, writeAnswer, writeBuffer, countIn, bodiesOf, packedIn, bundleCheck, readCheck, readAnswer, readBuffer}
 use Rattle.bundle_rules.specs.Statements.{WrittenReads, ReadWrites, OneFile}
-use Rattle.bundle_rules.proofs.Laws.{within-holds}
 use Rattle.bundle_rules.proofs.Packing.{packed-back, concat-packed}
 use Rattle.bundle_rules.proofs.Reading.{contents, laid, laid-concat, laid-frames, laid-ids}
 use Rattle.bundle_rules.proofs.FileBack.{length-bodies, file-back}

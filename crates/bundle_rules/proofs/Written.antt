@@ -10,13 +10,12 @@ use lib.Dec.{leb}
 use lib.ListN.{length, take, drop, length-append, length-drop}
 use lib.Seq.{length-take-le, take-at, drop-at, drop-drop}
 use Rattle.refusal.specs.Checks.{pass, bare, unless, _andThen_, within}
-use Rattle.refusal.proofs.Passing.{test-holds, both-pass}
+use Rattle.refusal.proofs.Passing.{test-holds, both-pass, within-holds}
 use Rattle.slices.proofs.Same.{equal-same}
 use Rattle.slices.specs.Numbers.{be16, be16At}
 use Rattle.key_frame.specs.KeyFrame.{fieldsIn}
 use Rattle.bundle_rules.specs.Bundle.{contentsEnd, keyIdIn, concat, idRepeats, lineOf, linesOf, fileOf, framesCheck, Line, lineAt, linesFrom, countIn, linesIn, follow, lastEnd, bodyOf, idsOf, packedIn, bodiesCheck, contentsCheck, bundleCheck}
 use Rattle.bundle_rules.proofs.Bytes.{two-back, number-drop}
-use Rattle.bundle_rules.proofs.Laws.{within-holds}
 use Rattle.bundle_rules.proofs.Packing.{Sized, sized, first-frame, later-frames}
 
 -- ---- lengths

@@ -8,10 +8,9 @@ use borrow.Author.Tests.{le-leb, lt-leb}
 use lib.ListN.{length, take, drop}
 use Rattle.refusal.specs.Checks.{Reason, pass, refuse, bare, unless, _andThen_}
 use Rattle.refusal.specs.Answers.{wrote, refused}
-use Rattle.refusal.proofs.Passing.{within-high, before-passed, last-passed, test-passed, first-refuses}
+use Rattle.refusal.proofs.Passing.{within-high, before-passed, last-passed, test-passed, first-refuses, second-decides}
 use Rattle.slices.specs.Numbers.{be16}
 use Rattle.bundle_rules.specs.Bundle.{contentsEnd, linesOf, fileOf, packed, framesCheck, packedCheck, writeCheck, writeAnswer, writeBuffer}
-use Rattle.bundle_rules.proofs.Laws.{passed-then}
 use Rattle.bundle_rules.proofs.Packing.{concat-packed}
 use Rattle.bundle_rules.proofs.Written.{concat-size}
 use Rattle.bundle_writer.proofs.Parts.{written-file}
@@ -43,11 +42,11 @@ write-early a room e = first-refuses _ _ e
 module _ (a : List ℕ) (n room : ℕ) (c : packedCheck a ≡ pass) (q : n ≡ length (packed a)) where
   pub write-room : room < contentsEnd n + length a → refuse (bare 6) ≡ writeCheck a room
   unfolding writeCheck unless
-  write-room h = sym (passed-then _ _ c ∙ rw (← q, lt-leb (contentsEnd n + length a) room h))
+  write-room h = sym (sym (second-decides _ _ c) ∙ rw (← q, lt-leb (contentsEnd n + length a) room h))
 
   write-passes : contentsEnd n + length a ≤ room → pass ≡ writeCheck a room
   unfolding writeCheck unless
-  write-passes h = sym (passed-then _ _ c ∙ rw (← q, le-leb (contentsEnd n + length a) room h))
+  write-passes h = sym (sym (second-decides _ _ c) ∙ rw (← q, le-leb (contentsEnd n + length a) room h))
 
 -- ---- the answer
 

@@ -6,11 +6,11 @@ use mathlib.Core.Path.{_≡_}
 use mathlib.Core.List.{List, [], _∷_}
 use lib.ListN.{length, getD}
 use Rattle.slices.specs.Ascii.{ascii}
-use Rattle.refusal.specs.Checks.{bare, pass, _andThen_}
+use Rattle.refusal.specs.Checks.{bare, pass, _andThen_, check20}
 use Rattle.refusal.specs.Answers.{Answer, wrote}
 use Rattle.requests.specs.Requests.{forUsage, textOf, inputOf}
 use Rattle.offer_rules.specs.Answers.{FirstAnswer, carryOn, ask, firstRound, serverAnswer, serverBuffer, RenewedAnswer, renewedAnswer}
-use Rattle.key_frame.specs.KeyFrame.{check20, check22}
+use Rattle.key_frame.specs.KeyFrame.{check22}
 use Rattle.key_frame.specs.declared.KeyFields.{KeyFields}
 use Rattle.key_writer.specs.KeyWriter.{check21, writeAnswer, writeBuffer}
 

@@ -4,11 +4,11 @@ use Prim.Native.Nat.{ℕ}
 use mathlib.Core.Path.{_≡_, refl, sym, _∙_}
 use mathlib.Core.Bool.{Bool, true, false, cond, _||_}
 use mathlib.Core.List.{List, [], _∷_, map, List·Memᴰ, List·Memᴰ·head, List·Memᴰ·tail}
+use Rattle.slices.proofs.Truth.{or-left, or-right, or-true}
 use Rattle.refusal.specs.Checks.{pass}
 use Rattle.slices.specs.Same.{sameList}
 use Rattle.slices.proofs.Same.{same-equal, equal-same}
 use Rattle.bundle_rules.specs.Bundle.{keyIdIn, idStands, idRepeats, bodiesOf, bundleCheck}
-use Rattle.bundle_rules.proofs.Laws.{or-left, or-right, or-true}
 use Rattle.bundle_rules.proofs.Reading.{contents, laid, laid-ids}
 use Rattle.compare_rules.specs.Compare.{Found, missing, found, lookup}
 
@@ -29,7 +29,7 @@ found-stands id (b ∷ bodies) = go (sameList (keyIdIn b) id) (found-stands id b
 stands-in : {b : List ℕ} {bodies : List (List ℕ)} → List·Memᴰ b bodies → idStands (keyIdIn b) (map keyIdIn bodies) ≡ true
 unfolding idStands
 stands-in {b} (List·Memᴰ·head e) = rw (← e, equal-same (keyIdIn b))
-stands-in {b} (List·Memᴰ·tail {x = x} m) = rw (stands-in m) (or-true (sameList (keyIdIn x) (keyIdIn b)))
+stands-in {b} (List·Memᴰ·tail {x = x} m) = or-true (sameList (keyIdIn x) (keyIdIn b)) _ (stands-in m)
 
 -- and for the Key ID of one of its attributes it is that attribute
 pub found-own : {b : List ℕ} {bodies : List (List ℕ)} → idRepeats (map keyIdIn bodies) ≡ false → List·Memᴰ b bodies → lookup (keyIdIn b) bodies ≡ found b

@@ -5,10 +5,10 @@ use mathlib.Core.Path.{_≡_, refl}
 use mathlib.Core.Bool.{Bool, true, false, cond, _||_}
 use mathlib.Core.List.{List, [], _∷_, _++_}
 use native.Mathlib.Omega.{arith}
+use Rattle.slices.proofs.Truth.{or-left, or-right}
 use Rattle.slices.specs.Same.{sameList}
 use Rattle.slices.proofs.Same.{same-equal}
 use Rattle.bundle_rules.specs.Bundle.{idStands, idRepeats}
-use Rattle.bundle_rules.proofs.Laws.{or-left, or-right}
 use Rattle.compare_rules.specs.Statements.{times, keep}
 
 pub times-append : (id : List ℕ) (s t : List (List ℕ)) → times id (s ++ t) ≡ times id s + times id t

@@ -8,13 +8,13 @@ use native.Mathlib.Omega.{arith}
 use borrow.Author.Tests.{eqb-true, eqb-false, le-leb, lt-leb, not-true}
 use lib.Dec.{leb, eqb}
 use lib.ListN.{length, getD}
-use Rattle.refusal.specs.Checks.{Check, pass, refuse, bare, unless, _andThen_, within}
+use Rattle.refusal.specs.Checks.{Check, pass, refuse, bare, unless, _andThen_, within, check20}
 use Rattle.refusal.proofs.Passing.{within-low, within-high, before-passed, last-passed, test-passed}
 use Rattle.slices.proofs.Truth.{and-left, and-right}
 use Rattle.slices.proofs.Same.{same-equal}
 use Rattle.keywrap.specs.Rfc3394.{initialValue}
 use Rattle.keywrap.specs.Calls.{wrappable}
-use Rattle.key_frame.specs.KeyFrame.{ivIn, check20, lengthHolds, check25, check26, check27, frameCheck}
+use Rattle.key_frame.specs.KeyFrame.{ivIn, lengthHolds, check25, check26, check27, frameCheck}
 
 -- a length that a key to wrap may have
 pub record KeyLength (n : ℕ) : Type 0 where

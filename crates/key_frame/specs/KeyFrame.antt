@@ -2,11 +2,11 @@
 -- Byte 0 type, 1 length, 2 reserved 0, 3 Enc Type 0, 4 App ID (4), 8 KEK ID (16), 24 Key ID (16), 40 Lifetime (4), 44 IV (8), 52 the wrapped key.
 -- Assumes nothing.
 use Prim.Native.Nat.{ℕ, _-_}
-use mathlib.Core.Bool.{Bool, not, _&&_}
+use mathlib.Core.Bool.{Bool, _&&_}
 use mathlib.Core.List.{List, [], _∷_, _++_}
 use lib.Dec.{leb, eqb}
 use lib.ListN.{length, take, drop, getD, replicate}
-use Rattle.refusal.specs.Checks.{Check, bare, unless, _andThen_}
+use Rattle.refusal.specs.Checks.{Check, bare, unless, _andThen_, check20}
 use Rattle.slices.specs.Numbers.{be32, be32At}
 use Rattle.slices.specs.Same.{sameList}
 use Rattle.keywrap.specs.Rfc3394.{initialValue}
@@ -44,10 +44,6 @@ wrappedIn a = drop 52 a
 
 abbrev pub keyLengthIn : List ℕ → ℕ
 keyLengthIn a = length a - 60
-
--- 20: attribute type 0
-abbrev pub check20 : ℕ → Check
-check20 t = unless (not (eqb t 0)) (bare 20)
 
 -- 22: KEK not 16 bytes
 abbrev pub check22 : List ℕ → Check

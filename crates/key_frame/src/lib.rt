@@ -3,9 +3,9 @@
 ghost use mathlib.Core.Path.{_≡_};
 ghost use Prim.Native.Nat.{_≤_};
 ghost use lib.ListN.{length, getD};
-ghost use Rattle.refusal.specs.Checks.{_andThen_};
+ghost use Rattle.refusal.specs.Checks.{_andThen_, check20};
 ghost use Rattle.refusal.specs.Answers.{checkedAs};
-ghost use Rattle.key_frame.specs.KeyFrame.{check20, lengthHolds, check25, check26, check27, frameCheck, sixteenOf};
+ghost use Rattle.key_frame.specs.KeyFrame.{lengthHolds, check25, check26, check27, frameCheck, sixteenOf};
 use keywrap::is_wrappable;
 use refusal::Checked;
 use refusal::Refusal;

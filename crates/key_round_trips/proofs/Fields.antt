@@ -10,14 +10,14 @@ use borrow.Author.Tests.{eq-eqb}
 use lib.Dec.{eqb}
 use lib.ListN.{length, take, drop, getD, length-append, take-append-drop}
 use lib.Seq.{take-at, drop-at, drop-drop}
-use Rattle.refusal.specs.Checks.{pass, bare}
+use Rattle.refusal.specs.Checks.{pass, bare, check20}
 use Rattle.refusal.proofs.Passing.{before-passed, last-passed, test-holds, both-pass}
 use Rattle.slices.specs.Numbers.{be32, be32At}
 use Rattle.slices.proofs.Same.{equal-same}
 use Rattle.keywrap.specs.Rfc3394.{initialValue}
 use Rattle.slices.specs.Bytes.{Bytes}
 use Rattle.keywrap.specs.Calls.{wrappable}
-use Rattle.key_frame.specs.KeyFrame.{header, fieldsIn, ivIn, wrappedIn, check20, frameCheck}
+use Rattle.key_frame.specs.KeyFrame.{header, fieldsIn, ivIn, wrappedIn, frameCheck}
 use Rattle.key_frame.specs.declared.KeyFields.{KeyFields}
 use Rattle.key_frame.proofs.Frames.{length-of, framed}
 use Rattle.slices.proofs.Numbers.{four-back, number-drop, four-first, four-at}

@@ -5,10 +5,10 @@ use mathlib.Core.Path.{_≡_, refl}
 use mathlib.Core.List.{List}
 use borrow.Author.Tests.{le-leb}
 use lib.ListN.{length, getD}
-use Rattle.refusal.specs.Checks.{bare, pass, unless, _andThen_, within}
+use Rattle.refusal.specs.Checks.{bare, pass, unless, _andThen_, within, check20}
 use Rattle.refusal.specs.Answers.{wrote, refused}
 use Rattle.keywrap.specs.Calls.{wrappable}
-use Rattle.key_frame.specs.KeyFrame.{header, check20, check22}
+use Rattle.key_frame.specs.KeyFrame.{header, check22}
 use Rattle.key_frame.specs.declared.KeyFields.{KeyFields}
 use Rattle.key_writer.specs.KeyWriter.{check21, attribute, writeCheck, writeAnswer, writeBuffer}
 

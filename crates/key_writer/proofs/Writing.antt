@@ -12,14 +12,14 @@ use borrow.Rule.Slice.PartMut.{putMid}
 use lib.Dec.{leb, eqb}
 use lib.ListN.{length, take, drop, length-append, length-drop, take-append-drop}
 use lib.Seq.{drop-at, drop-drop, length-take-le}
-use Rattle.refusal.specs.Checks.{Reason, Check, pass, refuse, _andThen_}
+use Rattle.refusal.specs.Checks.{Reason, Check, pass, refuse, _andThen_, check20}
 use Rattle.refusal.specs.Answers.{Answer, wrote, answerTo, bufferAfter}
 use Rattle.refusal.proofs.Passing.{before-passed, last-passed, test-passed, first-refuses}
 use Rattle.slices.proofs.Truth.{and-left, and-right, same-truth}
 use Rattle.slices.proofs.Lists.{rest-drop}
 use Rattle.keywrap.specs.Rfc3394.{wrapped}
 use Rattle.keywrap.specs.Calls.{wrapCheck}
-use Rattle.key_frame.specs.KeyFrame.{fieldsOf, header, check20, check22, sixteenOf}
+use Rattle.key_frame.specs.KeyFrame.{fieldsOf, header, check22, sixteenOf}
 use Rattle.key_frame.specs.declared.KeyFields.{KeyFields}
 use Rattle.key_frame.proofs.Frames.{KeyLength, key-length}
 use Rattle.key_frame.proofs.ByValue.{sixteen-whole}

@@ -5,11 +5,11 @@ use mathlib.Core.Bool.{_&&_}
 use mathlib.Core.List.{List, _++_}
 use lib.Dec.{eqb}
 use lib.ListN.{length}
-use Rattle.refusal.specs.Checks.{Check, bare, unless, _andThen_, check6}
+use Rattle.refusal.specs.Checks.{Check, bare, unless, _andThen_, check6, check20}
 use Rattle.refusal.specs.Answers.{Answer, answerTo, bufferAfter}
 use Rattle.keywrap.specs.Rfc3394.{wrapped}
 use Rattle.keywrap.specs.Calls.{check23}
-use Rattle.key_frame.specs.KeyFrame.{header, check20, check22}
+use Rattle.key_frame.specs.KeyFrame.{header, check22}
 use Rattle.key_frame.specs.declared.KeyFields.{KeyFields}
 
 -- the attribute's length is 60 plus the key's

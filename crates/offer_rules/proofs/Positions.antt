@@ -2,12 +2,13 @@
 -- Assumes nothing.
 use Prim.Native.Nat.{ℕ, zero, suc, _≤_, _<_}
 use mathlib.Core.Path.{_≡_, refl}
-use mathlib.Core.Bool.{Bool, true, false, cond, _||_}
+use mathlib.Core.Bool.{Bool, true, false, cond}
 use mathlib.Core.List.{List, [], _∷_}
 use native.Mathlib.Omega.{arith}
 use borrow.Author.Tests.{eqb-true, eq-eqb}
 use lib.Dec.{eqb}
 use lib.ListN.{length, getD}
+use Rattle.slices.proofs.Truth.{or-true}
 use Rattle.offer_rules.specs.Rfc5448.{stands, firstSupported, isFirst}
 
 pub first-here : (offers supported : List ℕ) → firstSupported offers supported < length offers → stands (getD offers (firstSupported offers supported) 0) supported ≡ true
@@ -42,10 +43,6 @@ none-before (x ∷ offers) supported j h = go (stands x supported) refl (none-be
     go true e ih j k = let none : ⊥ = omega arith in elim none [ ]
     go false e ih zero k = e
     go false e ih (suc j) k = ih j (omega arith)
-
-pub or-true : (a b : Bool) → b ≡ true → (a || b) ≡ true
-or-true true b e = refl
-or-true false b e = e
 
 -- a value that passes a test which the first of the list does not pass is not that first
 pub not-first : (p : ℕ → Bool) (value : ℕ) (list : List ℕ) → p value ≡ true → p (getD list 0 0) ≡ false → isFirst value list ≡ false

@@ -8,11 +8,12 @@ use borrow.Author.Tests.{not-true}
 use lib.Dec.{eqb}
 use Rattle.refusal.specs.Checks.{pass, _andThen_}
 use Rattle.refusal.proofs.Passing.{before-passed, last-passed, test-passed, test-holds, both-pass}
+use Rattle.slices.proofs.Truth.{or-left, or-true}
 use Rattle.offer_rules.specs.Rfc5448.{stands, repeats, firstSupported, isFirst, check13, check14, chooseCheck}
 use Rattle.offer_rules.specs.Answers.{firstRound}
 use Rattle.offer_rules.specs.Negotiation.{negotiated}
 use Rattle.offer_rules.specs.Statements.{FirstIsFirst, SupportedAsSet, ReplyAfterFirst, UnalteredAccepted}
-use Rattle.offer_rules.proofs.Positions.{first-here, first-within, none-before, or-true, not-first}
+use Rattle.offer_rules.proofs.Positions.{first-here, first-within, none-before, not-first}
 use Rattle.offer_rules.proofs.OffersKept.{agreed-in-room}
 
 pub first-is-first : FirstIsFirst
@@ -27,10 +28,6 @@ pub supported-as-set : SupportedAsSet
 unfolding firstRound chooseCheck
 supported-as-set offers supported₁ supported₂ same = rw (same-position offers supported₁ supported₂ same)
 
-or-none : (a b : Bool) → (a || b) ≡ false → a ≡ false
-or-none true b e = e
-or-none false b e = refl
-
 or-other : (a b : Bool) → a ≡ false → (a || b) ≡ true → b ≡ true
 or-other true b e h = cc
 or-other false b e h = h
@@ -44,7 +41,7 @@ reply-after-first first others reply once = (forth, back)
 
     back : stands reply others ≡ true → (check13 (first ∷ others) reply andThen check14 (first ∷ others) reply) ≡ pass
     back h =
-        let other = not-first (λ v. stands v others) reply (first ∷ others) h (or-none _ _ once) in
+        let other = not-first (λ v. stands v others) reply (first ∷ others) h (or-left _ _ once) in
         both-pass _ _ (test-holds _ _ (rw other)) (test-holds _ _ (or-true (eqb first reply) _ h))
 
 pub unaltered-accepted : UnalteredAccepted

@@ -6,13 +6,13 @@ use mathlib.Core.Bool.{_&&_}
 use mathlib.Core.List.{List}
 use lib.Dec.{eqb}
 use lib.ListN.{length, drop}
-use Rattle.refusal.specs.Checks.{Check, pass, bare, unless, _andThen_, check1}
+use Rattle.refusal.specs.Checks.{Check, pass, bare, unless, _andThen_, check1, check20}
 use Rattle.refusal.specs.Answers.{checkedAs}
 use Rattle.refusal.specs.declared.Refusal.{Refusal}
 use Rattle.refusal.specs.declared.Checked.{Checked}
 use Rattle.refusal.specs.declared.Checked.the-variants.{Passed, Failed}
 use Rattle.refusal.proofs.Passing.{then-assoc}
-use Rattle.packet_rules.specs.Packet.{check20, check35, check36, check37, isMac, oneMac, macAt}
+use Rattle.packet_rules.specs.Packet.{check35, check36, check37, isMac, oneMac, macAt}
 use Rattle.packet_rules.specs.Mac.{packetCheck}
 use Rattle.packet.specs.Steps.{foundIn, placeAs, placeTo}
 use Rattle.packet.specs.declared.Found.{Found}

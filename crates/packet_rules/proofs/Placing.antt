@@ -11,10 +11,10 @@ use borrow.Author.Tests.{eqb-true}
 use lib.Dec.{eqb}
 use lib.ListN.{length, getD, drop, length-drop}
 use lib.Seq.{getD-drop}
-use Rattle.refusal.specs.Checks.{pass, bare, unless, _andThen_, within, check1}
+use Rattle.refusal.specs.Checks.{pass, bare, unless, _andThen_, within, check1, check20}
 use Rattle.refusal.proofs.Passing.{last-passed, test-passed}
 use Rattle.slices.proofs.Truth.{and-left, and-right}
-use Rattle.packet_rules.specs.Packet.{check20, Met, lengthHolds, attributes, allWhole, placesIn, places, macAt, isMac, oneMac}
+use Rattle.packet_rules.specs.Packet.{Met, lengthHolds, attributes, allWhole, placesIn, places, macAt, isMac, oneMac}
 use Rattle.packet_rules.specs.Mac.{packetCheck}
 use Rattle.packet_rules.specs.Statements.{AgreeOutside}
 use Rattle.packet_rules.proofs.Walking.{same-walk, Stands, stands}

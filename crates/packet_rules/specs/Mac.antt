@@ -4,10 +4,10 @@
 use Prim.Native.Nat.{ℕ, _+_}
 use mathlib.Core.List.{List, _++_}
 use lib.ListN.{take, drop, replicate}
-use Rattle.refusal.specs.Checks.{Check, pass, refuse, bare, unless, _andThen_, check1}
-use Rattle.refusal.specs.Answers.{Answer, answerTo}
+use Rattle.refusal.specs.Checks.{Check, bare, unless, _andThen_, check1, check20}
+use Rattle.refusal.specs.Answers.{Answer, answerTo, afterCheck}
 use Rattle.slices.specs.Same.{sameList}
-use Rattle.packet_rules.specs.Packet.{check20, check35, check36, check37, macAt}
+use Rattle.packet_rules.specs.Packet.{check35, check36, check37, macAt}
 
 -- the packet with other bytes in place of the 32 of the MAC in the attribute at an offset
 unfoldable pub withMac : ℕ → List ℕ → List ℕ → List ℕ
@@ -29,11 +29,6 @@ packetCheck key type p = check1 key andThen check20 type andThen check35 p andTh
 unfoldable pub signAnswer : List ℕ → ℕ → List ℕ → Answer
 signAnswer key type p = answerTo (packetCheck key type p) 32
 
--- the packet after the tests: where they pass the one signed, else as it was
-abbrev pub afterSign : Check → List ℕ → List ℕ → List ℕ
-afterSign pass signed p = signed
-afterSign (refuse x) signed p = p
-
 module _ (hmacSha256 : List ℕ → List ℕ → List ℕ) where
   unfoldable pub macOf : List ℕ → ℕ → List ℕ → List ℕ
   macOf key type p = hmacSha256 key (macInput type p)
@@ -47,4 +42,4 @@ module _ (hmacSha256 : List ℕ → List ℕ → List ℕ) where
   checkCheck key type p = packetCheck key type p andThen check38 key type p
 
   unfoldable pub signBuffer : List ℕ → ℕ → List ℕ → List ℕ
-  signBuffer key type p = afterSign (packetCheck key type p) (withMac (macAt type p) (macOf key type p) p) p
+  signBuffer key type p = afterCheck (packetCheck key type p) (withMac (macAt type p) (macOf key type p) p) p

@@ -4,16 +4,12 @@
 -- The attribute: 0 type, 1 length 52, 2 reserved 0, 3 MAC Type 2, 4 MAC Key ID (16), 20 MAC (32).
 -- Assumes nothing.
 use Prim.Native.Nat.{ℕ, zero, suc, _+_, _-_, _*_}
-use mathlib.Core.Bool.{Bool, true, false, cond, not, _&&_}
+use mathlib.Core.Bool.{Bool, true, false, cond, _&&_}
 use mathlib.Core.List.{List, [], _∷_}
 use lib.Dec.{leb, eqb}
 use lib.ListN.{length, drop, getD}
 use Rattle.slices.specs.Numbers.{be16At}
 use Rattle.refusal.specs.Checks.{Check, bare, unless, within}
-
--- 20: attribute type 0
-abbrev pub check20 : ℕ → Check
-check20 t = unless (not (eqb t 0)) (bare 20)
 
 -- the length that the header gives
 abbrev pub headerLength : List ℕ → ℕ

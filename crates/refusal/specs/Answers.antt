@@ -146,3 +146,8 @@ answerTo (refuse x) n = refused x
 abbrev pub bufferAfter : Check → ℕ → List ℕ → List ℕ → List ℕ
 bufferAfter pass n values buffer = values ++ drop n buffer
 bufferAfter (refuse x) n values buffer = buffer
+
+-- what stands after a call whose tests come to this: a refusal changes nothing
+abbrev pub afterCheck : {T : Type 0} → Check → T → T → T
+afterCheck pass next now = next
+afterCheck (refuse x) next now = now

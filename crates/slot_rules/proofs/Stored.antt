@@ -11,7 +11,7 @@ use lib.Count.{ones, trailingZeros}
 use lib.Dec.{ltb, eqb}
 use lib.ListN.{length, set}
 use Rattle.refusal.specs.Checks.{Reason, Check, pass, refuse, bare, unless, _andThen_}
-use Rattle.refusal.specs.Answers.{Answer, wrote, refused, answerTo}
+use Rattle.refusal.specs.Answers.{Answer, wrote, refused, answerTo, afterCheck}
 use Rattle.refusal.proofs.Passing.{before-passed, last-passed, test-passed, test-holds}
 use Rattle.slot_rules.specs.declared.Name.{Name}
 use Rattle.slot_rules.specs.declared.Slots.{Slots}
@@ -19,7 +19,7 @@ use Rattle.slot_rules.specs.declared.Parent.{Parent}
 use Rattle.slot_rules.specs.declared.Parent.the-variants.{Root, Below}
 use Rattle.slot_rules.specs.Table.{hasDigit, holding, slotsFrom, lowestFree, liveCount, isLive, freed, countGone, wordGone}
 use Rattle.slot_rules.specs.Parents.{Key, goesWith, parentLive, rootNear}
-use Rattle.slot_rules.specs.Calls.{afterCheck, check46, check47, check48, check49, putCheck, putAnswer, putTable, dropAnswer, dropTable}
+use Rattle.slot_rules.specs.Calls.{check46, check47, check48, check49, putCheck, putAnswer, putTable, dropAnswer, dropTable}
 use Rattle.slot_rules.specs.Stored.{tableOf, parentOf, byteOf, keysOf, taking, freeing, putStored, goneIn, dropStored}
 use Rattle.slot_rules.specs.Internal.{stepFrom, stepIn, reachesBy, rootWithinTwoBy}
 use Rattle.slot_rules.proofs.Digits.{put-law, freed-law, count-law, word-same}

@@ -4,17 +4,12 @@ use Prim.Native.Nat.{ℕ}
 use mathlib.Core.List.{List}
 use lib.Dec.{ltb}
 use lib.ListN.{length, set}
-use Rattle.refusal.specs.Checks.{Check, pass, refuse, bare, unless, _andThen_}
-use Rattle.refusal.specs.Answers.{Answer, answerTo}
+use Rattle.refusal.specs.Checks.{Check, bare, unless, _andThen_}
+use Rattle.refusal.specs.Answers.{Answer, answerTo, afterCheck}
 use Rattle.slot_rules.specs.declared.Name.{Name}
 use Rattle.slot_rules.specs.declared.Parent.{Parent}
 use Rattle.slot_rules.specs.Table.{Slot, free, holding, lowestFree, isLive, freed, countGone}
 use Rattle.slot_rules.specs.Parents.{Key, goesWith, parentLive, rootNear}
-
--- what stands after a call whose tests come to this: a refusal changes nothing
-abbrev pub afterCheck : {T : Type 0} → Check → T → T → T
-afterCheck pass next now = next
-afterCheck (refuse x) next now = now
 
 module _ {X : Type 0} where
   -- 46: all slots are taken

@@ -6,13 +6,14 @@ use mathlib.Core.List.{List, [], _∷_}
 use lib.Bits.{bitAnd, bitOr}
 use lib.Dec.{eqb}
 use lib.ListN.{set}
+use Rattle.refusal.specs.Answers.{afterCheck}
 use Rattle.slot_rules.specs.declared.Name.{Name}
 use Rattle.slot_rules.specs.declared.Slots.{Slots}
 use Rattle.slot_rules.specs.declared.Parent.{Parent}
 use Rattle.slot_rules.specs.declared.Parent.the-variants.{Root, Below}
 use Rattle.slot_rules.specs.Table.{Slot, slotsFrom, lowestFree, wordGone}
 use Rattle.slot_rules.specs.Parents.{Key, goesWith}
-use Rattle.slot_rules.specs.Calls.{check47, putCheck, afterCheck}
+use Rattle.slot_rules.specs.Calls.{check47, putCheck}
 
 -- a byte as a parent, 255 for none, and a parent as a byte
 abbrev pub parentOf : ℕ → Parent

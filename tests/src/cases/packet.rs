@@ -4,7 +4,7 @@ use super::{root_key, ROOT_KEY_LENGTHS};
 use crate::call::{Call, Expected, Group, Ordered};
 use crate::ffi::{self, Outcome};
 use crate::guard::Lender;
-use crate::model::packet::{Packet, ATTRIBUTE};
+use crate::model::packet::{Packet, ATTRIBUTE, MAC, MAC_AT};
 use crate::model::Order;
 use crate::pairs::{every_pair, mixed, Apart, Fault};
 use crate::rng::Rng;
@@ -34,6 +34,29 @@ impl Call for Packet {
 impl Ordered for Packet {
     fn order(&self) -> Order {
         self.tests()
+    }
+}
+
+impl Ordered for Received {
+    fn order(&self) -> Order {
+        self.0.tests_and_mac()
+    }
+}
+
+/// A call on a packet, signed or checked: the faults are those of the packet.
+trait OnPacket {
+    fn packet(&mut self) -> &mut Packet;
+}
+
+impl OnPacket for Packet {
+    fn packet(&mut self) -> &mut Packet {
+        self
+    }
+}
+
+impl OnPacket for Received {
+    fn packet(&mut self) -> &mut Packet {
+        &mut self.0
     }
 }
 
@@ -71,26 +94,36 @@ fn with_length(packet: &mut Packet) {
 }
 
 /// A fault of 36, or 37, keeps the header right, so that it does not make 35 hold.
-const FAULTS: &[Fault<Packet>] = &[
-    (1, |call| call.key.truncate(63)),
-    (1, |call| call.key.resize(129, 7)),
-    (20, |call| {
-        call.kind = 0;
-        call.bytes[20] = 0;
-    }),
-    (35, |call| call.bytes[3] ^= 1),
-    (35, |call| call.bytes[2] ^= 0x80),
-    (36, |call| {
-        call.bytes.push(1);
-        call.bytes[3] = call.bytes[3].wrapping_add(1);
-    }),
-    (36, |call| {
-        call.bytes.extend([1, 1]);
-        call.bytes[3] = call.bytes[3].wrapping_add(2);
-    }),
-    (37, |call| call.bytes[23] = 1),
-    (37, |call| call.bytes[22] = 1),
-];
+fn faults<C: OnPacket>() -> Vec<Fault<C>> {
+    vec![
+        (1, |call| call.packet().key.truncate(63)),
+        (1, |call| call.packet().key.resize(129, 7)),
+        (20, |call| {
+            call.packet().kind = 0;
+            call.packet().bytes[20] = 0;
+        }),
+        (35, |call| call.packet().bytes[3] ^= 1),
+        (35, |call| call.packet().bytes[2] ^= 0x80),
+        (36, |call| longer(call.packet(), &[1])),
+        (36, |call| longer(call.packet(), &[1, 1])),
+        (37, |call| call.packet().bytes[23] = 1),
+        (37, |call| call.packet().bytes[22] = 1),
+    ]
+}
+
+/// Those of a packet that is to be checked: the writer's, and a MAC that differs in one bit of its first byte, or of its last.
+fn check_faults() -> Vec<Fault<Received>> {
+    let mut faults = faults::<Received>();
+    faults.push((38, |call| call.0.bytes[20 + MAC_AT] ^= 1));
+    faults.push((38, |call| call.0.bytes[20 + MAC_AT + MAC - 1] ^= 0x80));
+    faults
+}
+
+/// Adds bytes to the end, and their number to the header's length.
+fn longer(packet: &mut Packet, more: &[u8]) {
+    packet.bytes.extend_from_slice(more);
+    packet.bytes[3] = packet.bytes[3].wrapping_add(more.len() as u8);
+}
 
 /// A packet whose first attribute is the MAC's, short enough that its header's high byte is 0.
 fn plain(rng: &mut Rng) -> Packet {
@@ -132,7 +165,7 @@ fn others(rng: &mut Rng, kind: u8, bytes: &mut Vec<u8>, end: usize) {
 }
 
 pub fn sign(group: &mut Group) {
-    every_pair(group, &plain(&mut Rng::named("pairs")), FAULTS, &[]);
+    every_pair(group, &plain(&mut Rng::named("pairs")), &faults(), &[]);
     lengths(group);
     every_byte(group);
     for _ in 0..1500 {
@@ -141,7 +174,7 @@ pub fn sign(group: &mut Group) {
         let again = Packet { bytes: signed.into(), ..packet.clone() };
         group.compare(&again);
         group.compare(&Received(again.clone()));
-        mixed(group, &packet, FAULTS);
+        mixed(group, &packet, &faults());
     }
 }
 
@@ -198,15 +231,12 @@ fn every_byte(group: &mut Group) {
 }
 
 pub fn check(group: &mut Group) {
+    let packet = plain(&mut Rng::named("pairs"));
+    let signed = Packet { bytes: packet.signed().expect("accepted").into(), ..packet };
+    every_pair(group, &Received(signed), &check_faults(), APART);
     for len in (0..=140).chain(ROOT_KEY_LENGTHS) {
         let mut packet = plain(&mut group.rng);
         packet.key = vec![0x5a; len].into();
-        group.compare(&Received(packet));
-    }
-    for fault in FAULTS {
-        let mut packet = plain(&mut group.rng);
-        packet.bytes = packet.signed().expect("accepted").into();
-        fault.1(&mut packet);
         group.compare(&Received(packet));
     }
     // every bit of a signed packet, and of its key
@@ -233,6 +263,7 @@ pub fn check(group: &mut Group) {
         let at = group.rng.below(spoilt.bytes.len());
         spoilt.bytes[at] ^= 1 + group.rng.below(255) as u8;
         group.compare(&Received(spoilt));
+        mixed(group, &Received(signed.clone()), &check_faults());
         group.compare(&Received(Packet { kind: signed.kind ^ 1, ..signed }));
     }
 }

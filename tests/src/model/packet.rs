@@ -60,6 +60,13 @@ impl Packet {
         ]
     }
 
+    /// The writer's order, then 38, which counts only where the others pass.
+    pub fn tests_and_mac(&self) -> Order {
+        let mut order = self.tests();
+        order.push((38, self.checked() == Err(38)));
+        order
+    }
+
     /// The packet signed: the MAC is over the packet with its own 32 bytes as zeros.
     pub fn signed(&self) -> Result<Vec<u8>, Refusal> {
         accepted_by(&self.tests())?;

@@ -2,8 +2,7 @@
 -- Assumes nothing.
 use Rattle.bundle_rules.proofs.Packing.{sized}
 use Rattle.bundle_rules.specs.Bundle.{keyIdIn}
-use Rattle.bundle_rules.proofs.Laws.{passed-then}
-use Rattle.refusal.proofs.Passing.{first-refuses}
+use Rattle.refusal.proofs.Passing.{first-refuses, second-decides}
 use Rattle.key_frame.specs.KeyFrame.{fieldsIn, frameCheck}
 use Rattle.refusal.specs.Answers.{checkedAs}
 use Rattle.refusal.specs.Checks.{bare, pass, unless}
@@ -47,7 +46,7 @@ returns c = first-refuses _ _ (sym (c .before .before .before .check-frame .ensu
 
 returns-2 : tie.Need-returns-2
 unfolding keyIdIn fieldsIn
-returns-2 c = c .unless .ensures ∙ ap (λ (b : Bool). unless b (bare 50)) (c .before .same-id .ensures) ∙ sym (passed-then _ _ (passes (c .before .before .before)))
+returns-2 c = c .unless .ensures ∙ ap (λ (b : Bool). unless b (bare 50)) (c .before .same-id .ensures) ∙ second-decides _ _ (passes (c .before .before .before))
 
 pub check-body-spec : {M : Type 1} → statement M
 check-body-spec =

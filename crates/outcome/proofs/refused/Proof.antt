@@ -11,7 +11,7 @@ place-requires : tie.Need-place-requires
 place-requires c κs = search needs
 
 returns : tie.Need-returns
-returns c = simp (c .before .number .ensures, c .place .ensures)
+returns c = λ i. record { refusal = c .before .number .ensures i; value = c .place .ensures i }
 
 pub refused-spec : {M : Type 1} → statement M
 refused-spec = tie.close (tie.spec number-requires place-requires returns)

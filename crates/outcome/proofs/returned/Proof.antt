@@ -1,5 +1,6 @@
 -- `outcome::returned` meets its contract.
 -- Assumes nothing.
+use mathlib.Core.Path.{_∙_}
 use borrow.Author.Needs.{needs}
 use Rattle.outcome.proofs.returned.Statement.{statement}
 use Rattle.outcome.proofs.returned.Tie as tie
@@ -14,10 +15,10 @@ refused-requires : tie.Need-refused-requires
 refused-requires c κs = search needs
 
 returns : tie.Need-returns
-returns c = simp (c .before .answer .given .1)
+returns c = rw (c .before .answer .given .1)
 
 returns-2 : tie.Need-returns-2
-returns-2 c = simp (c .before .before .answer2 .given .1, c .refused .ensures)
+returns-2 c = c .refused .ensures ∙ rw (c .before .before .answer2 .given .1)
 
 pub returned-spec : {M : Type 1} → statement M
 returned-spec =
