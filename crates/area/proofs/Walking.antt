@@ -4,13 +4,14 @@ use Prim.Native.Nat.{ℕ}
 use mathlib.Core.Path.{_≡_, refl, ap, _∙_}
 use mathlib.Core.List.{List, [], _∷_}
 use lib.ListN.{take, drop}
-use Rattle.area_format.specs.Area.{standing, attributesFrom, attributes, readOn, ended}
+use Rattle.area_format.specs.Area.{standing, attributesFrom, attributes, faultAt, refusal, readOn, ended}
 use Rattle.area_format.specs.declared.Attribute.{Attribute}
+use Rattle.area_format.specs.declared.Fault.the-variants.{AttributeBounds}
 use Rattle.area_format.specs.declared.Name.{Name}
 use Rattle.area_format.specs.declared.Name.the-variants.{Missing}
 use Rattle.area_reader.specs.Steps.{stepAt}
-use Rattle.area_reader.specs.declared.Step.the-variants.{End, Met}
-use Rattle.area_reader.proofs.Onward.{next, at-end}
+use Rattle.area_reader.specs.declared.Step.the-variants.{End, Past, Met}
+use Rattle.area_reader.proofs.Onward.{next, at-end, at-past}
 
 -- the area read up to an offset: reading it is reading on from there
 abbrev pub ReadTo : List ℕ → (at count : ℕ) → Name → List ℕ → Type 0
@@ -26,6 +27,12 @@ pub ends : (area : List ℕ) (at count : ℕ) (name : Name) (kept : List ℕ) �
     → readOn [] Missing (attributes area) ≡ ended (take count kept) name
 unfolding readOn
 ends area at count name kept r e = r ∙ rw (at-end area at e)
+
+-- an attribute that is not within the area is refused
+pub goes-past : (area : List ℕ) (at count : ℕ) (name : Name) (kept : List ℕ) → ReadTo area at count name kept → stepAt area at ≡ Past
+    → readOn [] Missing (attributes area) ≡ refusal (faultAt at AttributeBounds)
+unfolding readOn
+goes-past area at count name kept r e = r ∙ rw (at-past area at e)
 
 -- past one attribute more
 pub goes-on : (area : List ℕ) (at count : ℕ) (name : Name) (kept : List ℕ) (a : Attribute) (n : ℕ) → ReadTo area at count name kept → stepAt area at ≡ Met a n

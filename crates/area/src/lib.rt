@@ -98,6 +98,10 @@ fn walk(area: &[u8], kept: &mut [u16]) -> Walked
     loop {
         match read_at(area, at) {
             Step::End => return ended(count, name, at),
+            Step::Past => {
+                let why = Fault::AttributeBounds;
+                return Walked::Stopped { why, at };
+            }
             Step::Met(met, next) => match met {
                 Attribute::Faulty(why) => return Walked::Stopped { why, at },
                 Attribute::Other => {

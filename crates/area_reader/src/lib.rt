@@ -2,13 +2,11 @@
 // next attribute begins.
 ghost use mathlib.Core.Path.{_≡_};
 ghost use Prim.Native.Nat.{_+_, _-_, _^_, _≤_, _<_};
-ghost use mathlib.Core.Bool.{false};
 ghost use lib.ListN.{length, take, drop};
 ghost use lib.Dec.{leb};
 ghost use Rattle.area_format.specs.Area.{wordsOf, numberIn, inBytes, inBounds, kdfInput};
 ghost use Rattle.area_format.specs.Area;
-ghost use Rattle.area_reader.specs.Steps.{metAt, stepAt};
-ghost use Rattle.area_reader.specs.Internal.{isOffer, notWithin};
+ghost use Rattle.area_reader.specs.Steps.{within, metAt, stepAt};
 use area_format::Attribute;
 use area_format::Bytes;
 use area_format::Fault;
@@ -21,9 +19,10 @@ struct Reader<'a> {
     at: usize,
 }
 
-// What stands at a reader's place: the area's end, or an attribute and the offset after it.
+// What stands at a reader's place: the area's end, an attribute that goes past it, or an attribute and the offset after it.
 pub enum Step {
     End,
+    Past,
     Met(Attribute, usize),
 }
 
@@ -60,14 +59,6 @@ fn in_bounds(bytes: &[u8]) -> bool
     let words = length_in(bytes);
     let size = in_bytes(words);
     (1 <= words.0) & (size.0 <= bytes.len())
-}
-
-// Whether the attribute at the start of `bytes` is an AT_KDF of one word. Type and length are compared as one number.
-fn is_offer(bytes: &[u8]) -> bool
-    requires { ⌜ 4 ≤ length (now bytes) ⌝ }
-    ensures { λ r. ⌜ r ≡ isOffer (now (bytes .entry)) ⌝ }
-{
-    from_be16(bytes[0], bytes[1]) == 0x1801
 }
 
 // Whether the bytes from an offset to another are all zero. They are few: 32 bits count them in a register of any core.
@@ -111,44 +102,63 @@ fn kdf_input(bytes: &[u8]) -> Attribute
     }
 }
 
-// The attribute at the start of `bytes`, where it is not an AT_KDF of one word.
-fn attribute_at(bytes: &[u8]) -> Attribute
+// What stands at an offset of the area where `bytes` are those from there to its end and have this attribute at their start.
+fn past(bytes: &[u8], at: usize, met: Attribute) -> Step
     requires { ⌜ 4 ≤ length (now bytes) ⌝ }
-    requires { ⌜ isOffer (now bytes) ≡ false ⌝ }
-    requires { ⌜ inBytes (wordsOf (now bytes)) .0 ≤ length (now bytes) ⌝ }
-    ensures { λ r. ⌜ r ≡ Area.attribute (now (bytes .entry)) ⌝ }
+    requires { ⌜ at + length (now bytes) < 2 ^ 64 ⌝ }
+    ensures { λ r. ⌜ r ≡ within at (now (bytes .entry)) met ⌝ }
 {
-    match bytes[0] {
-        24 => Attribute::Faulty(Fault::KdfLength),
-        23 => kdf_input(bytes),
-        _ => Attribute::Other,
+    let words = length_in(bytes);
+    if words.0 == 0 {
+        return Step::Past;
+    }
+    let size = in_bytes(words).0;
+    if bytes.len() < size {
+        return Step::Past;
+    }
+    let next = at + size;
+    Step::Met(met, next)
+}
+
+// The same of an AT_KDF. One of one word takes the four bytes that are there.
+fn kdf(bytes: &[u8], at: usize) -> Step
+    requires { ⌜ 4 ≤ length (now bytes) ⌝ }
+    requires { ⌜ at + length (now bytes) < 2 ^ 64 ⌝ }
+    ensures { λ r. ⌜ r ≡ within at (now (bytes .entry)) (Area.kdf (now (bytes .entry))) ⌝ }
+{
+    let words = length_in(bytes);
+    if words.0 == 1 {
+        let next = at + in_bytes(words).0;
+        Step::Met(Attribute::Offer(number_in(bytes)), next)
+    } else {
+        past(bytes, at, Attribute::Faulty(Fault::KdfLength))
     }
 }
 
-// An attribute that is not within the area. Nothing follows it before the area's end.
-fn not_within(end: usize) -> Step
-    ensures { λ r. ⌜ r ≡ notWithin end ⌝ }
+// The same of an AT_KDF_INPUT.
+fn named(bytes: &[u8], at: usize) -> Step
+    requires { ⌜ 4 ≤ length (now bytes) ⌝ }
+    requires { ⌜ at + length (now bytes) < 2 ^ 64 ⌝ }
+    ensures { λ r. ⌜ r ≡ within at (now (bytes .entry)) (kdfInput (now (bytes .entry))) ⌝ }
 {
-    Step::Met(Attribute::Faulty(Fault::AttributeBounds), end)
+    if in_bounds(bytes) {
+        let next = at + in_bytes(length_in(bytes)).0;
+        Step::Met(kdf_input(bytes), next)
+    } else {
+        Step::Past
+    }
 }
 
-// What stands at an offset of the area where `bytes` are those from there to its end. An area is mostly offers: with four bytes there, an AT_KDF of
-// one word is within it.
+// What stands at an offset of the area where `bytes` are those from there to its end, by the type.
 fn met(bytes: &[u8], at: usize) -> Step
     requires { ⌜ 4 ≤ length (now bytes) ⌝ }
     requires { ⌜ at + length (now bytes) < 2 ^ 64 ⌝ }
     ensures { λ r. ⌜ r ≡ metAt at (now (bytes .entry)) ⌝ }
 {
-    if is_offer(bytes) {
-        let next = at + in_bytes(Words(1)).0;
-        return Step::Met(Attribute::Offer(number_in(bytes)), next);
-    }
-    if in_bounds(bytes) {
-        let next = at + in_bytes(length_in(bytes)).0;
-        Step::Met(attribute_at(bytes), next)
-    } else {
-        let end = at + bytes.len();
-        not_within(end)
+    match bytes[0] {
+        24 => kdf(bytes, at),
+        23 => named(bytes, at),
+        _ => past(bytes, at, Attribute::Other),
     }
 }
 
@@ -170,7 +180,7 @@ fn step_at(area: &[u8], at: usize) -> Step
         return met(&area[at..], at);
     }
     if at < area.len() {
-        not_within(area.len())
+        Step::Past
     } else {
         Step::End
     }

@@ -8,11 +8,12 @@ use mathlib.Core.List.{[], _∷_}
 use native.Mathlib.Omega.{arith}
 use denote.Ref.{now}
 use lib.ListN.{length, take, drop, set, length-set}
-use Rattle.area_format.specs.Area.{standing, readOn, attributes, attributesFrom}
+use Rattle.refusal.specs.Checks.{located}
+use Rattle.area_format.specs.Area.{standing, refusal, readOn, attributes, attributesFrom}
 use Rattle.area_format.specs.declared.Name.the-variants.{Missing}
 use Rattle.area_reader.proofs.Onward.{Met-next, next}
 use Rattle.area.proofs.Keeping.{offer-kept, offer-refused}
-use Rattle.area.proofs.Walking.{ReadTo, starts, ends, goes-on}
+use Rattle.area.proofs.Walking.{ReadTo, starts, ends, goes-past, goes-on}
 use Rattle.area.proofs.walk.Statement.{statement}
 use Rattle.area.proofs.walk.Tie as tie
 
@@ -60,25 +61,25 @@ enum-known-met c = search needs
 enum-known-met-2 : tie.Need-enum-known-met-2 Inv-loop μ-loop
 enum-known-met-2 c = search needs
 
-returns-2 : tie.Need-returns-2 Inv-loop μ-loop
+returns-3 : tie.Need-returns-3 Inv-loop μ-loop
 unfolding readOn
-returns-2 c = (omega arith, sym (rw (c .before .met2 .given .1) at (on (c .before .before .before .before))))
+returns-3 c = (omega arith, sym (rw (c .before .met2 .given .1) at (on (c .before .before .before .before))))
 
-enum-told-2 : tie.Need-enum-told-2 Inv-loop μ-loop
-enum-told-2 c = search needs
+enum-told-3 : tie.Need-enum-told-3 Inv-loop μ-loop
+enum-told-3 c = search needs
 
 loop-less : tie.Need-loop-less Inv-loop μ-loop
 loop-less c = let k = c .before .before .before in omega (arith, met k .ahead, met k .within)
 
 loop-again : tie.Need-loop-again Inv-loop μ-loop
 unfolding readOn
-loop-again c = let k = c .before .before .before in (met k .within, k .before .before .before .loop .inv .1, k .before .before .before .loop .inv .2, rw (c .enum-told2 .given .1) at (on k))
+loop-again c = let k = c .before .before .before in (met k .within, k .before .before .before .loop .inv .1, k .before .before .before .loop .inv .2, rw (c .enum-told3 .given .1) at (on k))
 
 enum-known-met-3 : tie.Need-enum-known-met-3 Inv-loop μ-loop
 enum-known-met-3 c = search needs
 
-returns-3 : tie.Need-returns-3 Inv-loop μ-loop
-returns-3 c =
+returns-4 : tie.Need-returns-4 Inv-loop μ-loop
+returns-4 c =
     let k = c .before .before .before .before .before in
     let l = k .before .before .before .loop in
     (omega arith, sym (rw (c .before .before .met3 .given .1) at (on k) ∙ offer-refused (l .count) (l .at) _ (l .kept) (l .name) _ (omega arith) (c .if1 .taken)))
@@ -111,8 +112,8 @@ loop-again-2 c =
 enum-known-met-4 : tie.Need-enum-known-met-4 Inv-loop μ-loop
 enum-known-met-4 c = search needs
 
-enum-told-3 : tie.Need-enum-told-3 Inv-loop μ-loop
-enum-told-3 c = search needs
+enum-told-4 : tie.Need-enum-told-4 Inv-loop μ-loop
+enum-told-4 c = search needs
 
 add-start : tie.Need-add-start Inv-loop μ-loop
 add-start c = omega arith
@@ -125,26 +126,41 @@ unfolding readOn
 loop-again-3 c =
     let k = c .before .before .before .before .before .before in
     let l = k .before .before .before .loop in
-    (met k .within, l .inv .1, l .inv .2, rw (c .before .before .before .met4 .given .1, c .enum-told3 .given .1) at (on k))
+    (met k .within, l .inv .1, l .inv .2, rw (c .before .before .before .met4 .given .1, c .enum-told4 .given .1) at (on k))
 
-enum-told-4 : tie.Need-enum-told-4 Inv-loop μ-loop
-enum-told-4 c = search needs
+enum-told-5 : tie.Need-enum-told-5 Inv-loop μ-loop
+enum-told-5 c = search needs
 
-returns-4 : tie.Need-returns-4 Inv-loop μ-loop
+returns-5 : tie.Need-returns-5 Inv-loop μ-loop
 unfolding readOn
-returns-4 c = (omega arith, sym (rw (c .before .before .before .met4 .given .1, c .enum-told4 .given .1) at (on (c .before .before .before .before .before .before))))
+returns-5 c = (omega arith, sym (rw (c .before .before .before .met4 .given .1, c .enum-told5 .given .1) at (on (c .before .before .before .before .before .before))))
 
 same-length : tie.Need-same-length Inv-loop μ-loop
 same-length c = c .before .before .before .before .loop .inv .2
 
-same-length-2 : tie.Need-same-length-2 Inv-loop μ-loop
-same-length-2 c = c .before .before .before .before .before .before .before .loop .inv .2
-
 same-length-3 : tie.Need-same-length-3 Inv-loop μ-loop
-same-length-3 c = c .before .before .before .before .before .before .before .before .loop .inv .2
+same-length-3 c = c .before .before .before .before .before .before .before .loop .inv .2
 
 same-length-4 : tie.Need-same-length-4 Inv-loop μ-loop
-same-length-4 c = c .before .before .before .before .before .before .before .before .before .loop .inv .2
+same-length-4 c = c .before .before .before .before .before .before .before .before .loop .inv .2
+
+same-length-5 : tie.Need-same-length-5 Inv-loop μ-loop
+same-length-5 c = c .before .before .before .before .before .before .before .before .before .loop .inv .2
+
+enum-told-2 : tie.Need-enum-told-2 Inv-loop μ-loop
+enum-told-2 c = search needs
+
+same-length-2 : tie.Need-same-length-2 Inv-loop μ-loop
+same-length-2 c = c .before .before .before .loop .inv .2
+
+returns-2 : tie.Need-returns-2 Inv-loop μ-loop
+returns-2 c =
+    let l = c .before .before .before .loop in
+    let a = c .before .before .before .before .before .before .args in
+    let s = c .before .before .read-at in
+    let at-16 : readOn [] Missing (attributes (now (a .area))) ≡ refusal (located 16 (l .at)) =
+    goes-past (now (a .area)) (l .at) (l .count) (l .name) (l .kept) (l .inv .3) (sym (s .ensures) ∙ c .enum-told2 .given .1) in
+    (omega arith, sym at-16)
 
 pub walk-spec : {M : Type 1} → statement M
 walk-spec =
@@ -158,16 +174,19 @@ walk-spec =
     ended-requires
     same-length
     returns
-    enum-known-met
-    enum-known-met-2
+    enum-told-2
     same-length-2
     returns-2
-    enum-told-2
+    enum-known-met
+    enum-known-met-2
+    same-length-3
+    returns-3
+    enum-told-3
     loop-less
     loop-again
     enum-known-met-3
-    same-length-3
-    returns-3
+    same-length-4
+    returns-4
     cast-kept
     mul-kept
     slice-write-kept
@@ -175,10 +194,10 @@ walk-spec =
     loop-less-2
     loop-again-2
     enum-known-met-4
-    enum-told-3
+    enum-told-4
     add-start
     loop-less-3
     loop-again-3
-    enum-told-4
-    same-length-4
-    returns-4)
+    enum-told-5
+    same-length-5
+    returns-5)

@@ -44,14 +44,8 @@ returns c =
     let a = k .before .before .before .args in
     c .met .ensures ∙ ap (metAt (a .at)) (rest-drop (a .at) (now (a .area))) ∙ step-met (now (a .area)) (a .at) (omega (arith, four k))
 
-not-within-requires : tie.Need-not-within-requires
-not-within-requires c κs = search needs
-
 returns-2 : tie.Need-returns-2
-returns-2 c =
-    let k = c .before .before in
-    let a = k .before .before .before .args in
-    c .not-within .ensures ∙ step-past (now (a .area)) (a .at) (c .before .if2 .taken) (fewer k)
+returns-2 c = let a = c .before .before .before .before .args in step-past (now (a .area)) (a .at) (c .if2 .taken) (fewer (c .before))
 
 returns-3 : tie.Need-returns-3
 returns-3 c = step-end _ _ (c .if2 .left)
@@ -66,6 +60,5 @@ step-at-spec =
     part-met-end
     met-requires
     returns
-    not-within-requires
     returns-2
     returns-3)
