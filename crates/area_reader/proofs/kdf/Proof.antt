@@ -5,7 +5,9 @@ use native.Mathlib.Omega.{arith}
 use denote.Ref.{now}
 use Rattle.area_format.specs.Area.{wordsOf, inBytes}
 use Rattle.area_format.specs.Area as Area
+use Rattle.area_format.specs.declared.Attribute.the-variants.{Faulty}
 use Rattle.area_format.specs.declared.Bytes.{Bytes}
+use Rattle.area_format.specs.declared.Fault.the-variants.{KdfLength}
 use Rattle.area_format.specs.declared.Words.{Words}
 use Rattle.area_reader.specs.Steps.{within}
 use Rattle.area_reader.proofs.Attributes.{kdf-read, kdf-refused}
@@ -51,7 +53,8 @@ returns-2 : tie.Need-returns-2
 returns-2 c =
     let k = c .before .before .before in
     let a = k .before .before .args in
-    c .past .ensures ∙ ap (within (a .at) (now (a .bytes))) (kdf-refused (now (a .bytes)) (λ e. c .before .if1 .left (words k ∙ e)))
+    let stepped : c .past .result ≡ within (a .at) (now (a .bytes)) (Faulty KdfLength) = c .past .ensures in
+    stepped ∙ ap (within (a .at) (now (a .bytes))) (kdf-refused (now (a .bytes)) (λ e. c .before .if1 .left (words k ∙ e)))
 
 pub kdf-spec : {M : Type 1} → statement M
 kdf-spec =
