@@ -3,9 +3,10 @@
 ghost use mathlib.Core.Path.{_≡_};
 ghost use Prim.Native.Nat.{_+_, _-_, _^_, _≤_, _<_};
 ghost use lib.ListN.{length, take, drop};
+ghost use lib.Dec.{leb};
 ghost use Rattle.area_format.specs.Area.{wordsOf, numberIn, inBytes, inBounds, kdfInput};
 ghost use Rattle.area_format.specs.Area;
-ghost use Rattle.area_reader.specs.Steps.{metAt, stepAt};
+ghost use Rattle.area_reader.specs.Steps.{within, metAt, stepAt};
 use area_format::Attribute;
 use area_format::Bytes;
 use area_format::Fault;
@@ -18,9 +19,10 @@ struct Reader<'a> {
     at: usize,
 }
 
-// What stands at a reader's place: the area's end, or an attribute and the offset after it.
+// What stands at a reader's place: the area's end, an attribute that goes past it, or an attribute and the offset after it.
 pub enum Step {
     End,
+    Past,
     Met(Attribute, usize),
 }
 
@@ -49,29 +51,14 @@ fn number_in(bytes: &[u8]) -> u16
     from_be16(bytes[2], bytes[3])
 }
 
-// Whether the attribute at the start of `bytes` ends within them. One of any length takes four bytes.
+// Whether the attribute at the start of `bytes` ends within them.
 fn in_bounds(bytes: &[u8]) -> bool
+    requires { ⌜ 4 ≤ length (now bytes) ⌝ }
     ensures { λ r. ⌜ r ≡ inBounds (now (bytes .entry)) ⌝ }
 {
-    if bytes.len() < 4 {
-        return false;
-    }
     let words = length_in(bytes);
     let size = in_bytes(words);
     (1 <= words.0) & (size.0 <= bytes.len())
-}
-
-// An AT_KDF: its value.
-fn kdf(bytes: &[u8]) -> Attribute
-    requires { ⌜ 4 ≤ length (now bytes) ⌝ }
-    ensures { λ r. ⌜ r ≡ Area.kdf (now (bytes .entry)) ⌝ }
-{
-    let words = length_in(bytes);
-    if words.0 == 1 {
-        Attribute::Offer(number_in(bytes))
-    } else {
-        Attribute::Faulty(Fault::KdfLength)
-    }
 }
 
 // Whether the bytes from an offset to another are all zero. They are few: 32 bits count them in a register of any core.
@@ -115,41 +102,88 @@ fn kdf_input(bytes: &[u8]) -> Attribute
     }
 }
 
-// The attribute at the start of `bytes`.
-fn attribute_at(bytes: &[u8]) -> Attribute
+// What stands at an offset of the area where `bytes` are those from there to its end and have this attribute at their start.
+fn past(bytes: &[u8], at: usize, met: Attribute) -> Step
     requires { ⌜ 4 ≤ length (now bytes) ⌝ }
-    requires { ⌜ inBytes (wordsOf (now bytes)) .0 ≤ length (now bytes) ⌝ }
-    ensures { λ r. ⌜ r ≡ Area.attribute (now (bytes .entry)) ⌝ }
+    requires { ⌜ at + length (now bytes) < 2 ^ 64 ⌝ }
+    ensures { λ r. ⌜ r ≡ within at (now (bytes .entry)) met ⌝ }
 {
-    match bytes[0] {
-        24 => kdf(bytes),
-        23 => kdf_input(bytes),
-        _ => Attribute::Other,
+    let words = length_in(bytes);
+    if words.0 == 0 {
+        return Step::Past;
+    }
+    let size = in_bytes(words).0;
+    if bytes.len() < size {
+        return Step::Past;
+    }
+    let next = at + size;
+    Step::Met(met, next)
+}
+
+// The same of an AT_KDF. One of one word takes the four bytes that are there.
+fn kdf(bytes: &[u8], at: usize) -> Step
+    requires { ⌜ 4 ≤ length (now bytes) ⌝ }
+    requires { ⌜ at + length (now bytes) < 2 ^ 64 ⌝ }
+    ensures { λ r. ⌜ r ≡ within at (now (bytes .entry)) (Area.kdf (now (bytes .entry))) ⌝ }
+{
+    let words = length_in(bytes);
+    if words.0 == 1 {
+        let next = at + in_bytes(words).0;
+        Step::Met(Attribute::Offer(number_in(bytes)), next)
+    } else {
+        past(bytes, at, Attribute::Faulty(Fault::KdfLength))
     }
 }
 
-// What stands at an offset of the area where `bytes` are those from there to its end. Nothing follows an attribute that is not within the area.
-fn met(bytes: &[u8], at: usize) -> Step
+// The same of an AT_KDF_INPUT.
+fn named(bytes: &[u8], at: usize) -> Step
+    requires { ⌜ 4 ≤ length (now bytes) ⌝ }
     requires { ⌜ at + length (now bytes) < 2 ^ 64 ⌝ }
-    ensures { λ r. ⌜ r ≡ metAt at (now (bytes .entry)) ⌝ }
+    ensures { λ r. ⌜ r ≡ within at (now (bytes .entry)) (kdfInput (now (bytes .entry))) ⌝ }
 {
     if in_bounds(bytes) {
         let next = at + in_bytes(length_in(bytes)).0;
-        Step::Met(attribute_at(bytes), next)
+        Step::Met(kdf_input(bytes), next)
     } else {
-        let end = at + bytes.len();
-        Step::Met(Attribute::Faulty(Fault::AttributeBounds), end)
+        Step::Past
     }
+}
+
+// What stands at an offset of the area where `bytes` are those from there to its end, by the type.
+fn met(bytes: &[u8], at: usize) -> Step
+    requires { ⌜ 4 ≤ length (now bytes) ⌝ }
+    requires { ⌜ at + length (now bytes) < 2 ^ 64 ⌝ }
+    ensures { λ r. ⌜ r ≡ metAt at (now (bytes .entry)) ⌝ }
+{
+    match bytes[0] {
+        24 => kdf(bytes, at),
+        23 => named(bytes, at),
+        _ => past(bytes, at, Attribute::Other),
+    }
+}
+
+// Whether four bytes of the area are left at an offset, which is what any attribute takes.
+fn four_left(area: &[u8], at: usize) -> bool
+    ensures { λ r. ⌜ r ≡ leb (at + 4) (length (now (area .entry))) ⌝ }
+{
+    if area.len() < 4 {
+        return false;
+    }
+    at <= area.len() - 4
 }
 
 // What stands at an offset of the area.
 fn step_at(area: &[u8], at: usize) -> Step
     ensures { λ r. ⌜ r ≡ stepAt (now (area .entry)) at ⌝ }
 {
-    if area.len() <= at {
-        return Step::End;
+    if four_left(area, at) {
+        return met(&area[at..], at);
     }
-    met(&area[at..], at)
+    if at < area.len() {
+        Step::Past
+    } else {
+        Step::End
+    }
 }
 
 impl<'a> Reader<'a> {
