@@ -20,7 +20,7 @@
 /* At least the stack that any call of the library takes on any core; tests/stack.sh holds it against the measured figures. A
  * project may define it as less, by the figures of its own core and calls in docs/CONTROLLER.md. */
 #ifndef KV_STACK_BYTES
-#define KV_STACK_BYTES 2560
+#define KV_STACK_BYTES 1536
 #endif
 
 /* Zeroes the stack that a call may have used. To be called right after it, by the function that made it, on the same stack:

@@ -50,9 +50,16 @@ tests-again ck ik name sqnXorAk identity room e p =
     both-pass _ (expandCheck 208 room) p fits ∙ sym p ∙ e
 
 -- the buffer after an expansion whose text is given in four parts, the last two of them empty
-pub material-buffer : (ck ik name sqnXorAk identity buffer : List ℕ) {c d : Check} {key after : List ℕ} → c ≡ d → key ≡ expansionKey ck ik name sqnXorAk
+pub text-joined : (key identity buffer : List ℕ) (c : Check) {after : List ℕ}
     → after ≡ bufferAfter c 208 (prfPlus hmacSha256 key (ascii "EAP-AKA'" ++ (identity ++ ([] ++ []))) 208) buffer
+    → after ≡ bufferAfter c 208 (prfPlus hmacSha256 key (expansionText identity) 208) buffer
+unfolding expansionText
+text-joined key identity buffer c h = h ∙ λ i. bufferAfter c 208 (prfPlus hmacSha256 key (ascii "EAP-AKA'" ++ append-nil identity i) 208) buffer
+
+-- and after the expansion by its key
+pub material-buffer : (ck ik name sqnXorAk identity buffer : List ℕ) {c d : Check} {key after : List ℕ} → c ≡ d → key ≡ expansionKey ck ik name sqnXorAk
+    → after ≡ bufferAfter c 208 (prfPlus hmacSha256 key (expansionText identity) 208) buffer
     → after ≡ bufferAfter d 208 (keyMaterial ck ik name sqnXorAk identity) buffer
-unfolding keyMaterial expansionText
+unfolding keyMaterial
 material-buffer ck ik name sqnXorAk identity buffer {c} e ek h =
-    buffer-by 208 (keyMaterial ck ik name sqnXorAk identity) buffer e (h ∙ λ i. bufferAfter c 208 (prfPlus hmacSha256 (ek i) (ascii "EAP-AKA'" ++ append-nil identity i) 208) buffer)
+    buffer-by 208 (keyMaterial ck ik name sqnXorAk identity) buffer e (h ∙ λ i. bufferAfter c 208 (prfPlus hmacSha256 (ek i) (expansionText identity) 208) buffer)

@@ -4,8 +4,11 @@
 ghost use mathlib.Core.Path.{_≡_};
 ghost use mathlib.Core.List.{_++_};
 ghost use lib.ListN.{length, take, drop};
+ghost use Rattle.refusal.specs.Checks.{_andThen_};
 ghost use Rattle.refusal.specs.Answers.{checkedAs, answerOf, answerTo, bufferAfter};
-ghost use Rattle.aka_keys.specs.Rfc5448.{expansionKey, inputCheck, akaCheck, keyMaterial};
+ghost use Rattle.hmac.specs.Rfc2104.{hmacSha256};
+ghost use Rattle.prf_plus.specs.PrfPlus.{prfPlus, expandCheck};
+ghost use Rattle.aka_keys.specs.Rfc5448.{expansionKey, expansionText, inputCheck, akaCheck, keyMaterial};
 use refusal::Checked;
 use refusal::Refusal;
 use refusal::Written;
@@ -33,44 +36,54 @@ fn check_inputs(ck: &[u8], ik: &[u8], name: &[u8], sqn_xor_ak: &[u8], identity: 
     refusal::then_check(refusal::then_check(lengths, network), user)
 }
 
-// Two keys of 16 bytes, one after the other.
-fn joined(first: &[u8], second: &[u8]) -> [u8; 32]
+// Writes two keys of 16 bytes, one after the other.
+fn join(first: &[u8], second: &[u8], keys: &mut [u8])
     requires { ⌜ length (now first) ≡ 16 ⌝ }
     requires { ⌜ length (now second) ≡ 16 ⌝ }
-    ensures { λ r. ⌜ r ≡ now (first .entry) ++ now (second .entry) ⌝ }
-{
-    let mut r = [0u8; 32];
-    bytes::copy(first, &mut r);
-    bytes::copy(second, &mut r[16..]);
-    r
-}
-
-// The two halves of 32 bytes, the second first.
-fn swapped(keys: &[u8]) -> [u8; 32]
     requires { ⌜ length (now keys) ≡ 32 ⌝ }
-    ensures { λ r. ⌜ r ≡ drop 16 (now (keys .entry)) ++ take 16 (now (keys .entry)) ⌝ }
+    ensures { λ _. ⌜ now (keys .exit) ≡ now (first .entry) ++ now (second .entry) ⌝ }
 {
-    joined(&keys[16..32], &keys[0..16])
+    bytes::copy(first, keys);
+    bytes::copy(second, &mut keys[16..]);
 }
 
-// The key of the expansion: IK', then CK'.
-fn expansion_key(ck: &[u8], ik: &[u8], name: &[u8], sqn_xor_ak: &[u8]) -> [u8; 32]
+// Writes the two halves of 32 bytes, the second first.
+fn put_swapped(halves: &[u8], keys: &mut [u8])
+    requires { ⌜ length (now halves) ≡ 32 ⌝ }
+    requires { ⌜ length (now keys) ≡ 32 ⌝ }
+    ensures { λ _. ⌜ now (keys .exit) ≡ drop 16 (now (halves .entry)) ++ take 16 (now (halves .entry)) ⌝ }
+{
+    join(&halves[16..32], &halves[0..16], keys);
+}
+
+// Writes the key of the expansion: IK', then CK'. The same 32 bytes first hold CK, then IK, the key that these are derived under.
+fn put_expansion_key<'a>(ck: &[u8], ik: &[u8], name: &'a [u8], sqn_xor_ak: &'a [u8], key: &mut [u8])
     requires { ⌜ length (now ck) ≡ 16 ⌝ }
     requires { ⌜ length (now ik) ≡ 16 ⌝ }
-    ensures { λ r. ⌜ r ≡ expansionKey (now (ck .entry)) (now (ik .entry)) (now (name .entry)) (now («sqn_xor_ak» .entry)) ⌝ }
+    requires { ⌜ length (now key) ≡ 32 ⌝ }
+    ensures { λ _. ⌜ now (key .exit) ≡ expansionKey (now (ck .entry)) (now (ik .entry)) (now (name .entry)) (now («sqn_xor_ak» .entry)) ⌝ }
 {
-    let key = joined(ck, ik);
+    join(ck, ik, key);
     let length = slices::be16(name.len());
-    let keys = hmac::mac_of_parts(&key, &[FC], name, &length, sqn_xor_ak, &[0, 6]);
-    swapped(&keys)
+    let keys = hmac::mac_of_parts(key, &[FC], name, &length, sqn_xor_ak, &[0, 6]);
+    put_swapped(&keys, key);
+}
+
+// The expansion to the 208 bytes of the five keys, after the call's own tests. It is a function of its own, so that what it lends shares the
+// stack with what the key's derivation lent.
+fn expanded<'a>(check: Checked, key: &[u8], identity: &'a [u8], out: &mut [u8]) -> Written
+    ensures answer { λ r. ⌜ answerOf r ≡ answerTo (checkedAs check andThen expandCheck 208 (length (now (out .entry)))) 208 ⌝ }
+    ensures buffer { λ _. ⌜ now (out .exit) ≡ bufferAfter (checkedAs check andThen expandCheck 208 (length (now (out .entry)))) 208 (prfPlus hmacSha256 (now (key .entry)) (expansionText (now (identity .entry))) 208) (now (out .entry)) ⌝ }
+{
+    prf_plus::expand(check, key, b"EAP-AKA'", identity, b"", b"", MATERIAL, out)
 }
 
 // Writes the 208 bytes of the five keys at the start of out. Nothing is computed before all tests have passed.
 pub fn aka_keys<'a>(
     ck: &[u8],
     ik: &[u8],
-    name: &[u8],
-    sqn_xor_ak: &[u8],
+    name: &'a [u8],
+    sqn_xor_ak: &'a [u8],
     identity: &'a [u8],
     out: &mut [u8],
 ) -> Written
@@ -82,8 +95,9 @@ pub fn aka_keys<'a>(
     match check {
         Checked::Failed(why) => Written::Refused(why),
         Checked::Passed => {
-            let key = expansion_key(ck, ik, name, sqn_xor_ak);
-            prf_plus::expand(check, &key, b"EAP-AKA'", identity, b"", b"", MATERIAL, out)
+            let mut key = [0u8; 32];
+            put_expansion_key(ck, ik, name, sqn_xor_ak, &mut key);
+            expanded(check, &key, identity, out)
         }
     }
 }

@@ -3,8 +3,6 @@
 // closes it.
 ghost use mathlib.Core.Path.{_≡_};
 ghost use mathlib.Core.List.{_++_};
-ghost use Prim.Native.Nat.{_-_, _≤_};
-ghost use lib.ListN.{length, replicate};
 ghost use Rattle.sha256_block.specs.Fips180.{sha256, compress, H0};
 ghost use Rattle.rfc2104.specs.Rfc2104 as Rfc2104;
 ghost use Rattle.rfc2104.specs.Rfc2104.{keyBlock, ipad, opad};
@@ -17,43 +15,22 @@ const IPAD: u8 = 0x36;
 
 const OPAD: u8 = 0x5c;
 
-// The bytes with zeros after them, to a block.
-fn filled(s: &[u8]) -> [u8; Sha256::BLOCK]
-    requires { ⌜ length (now s) ≤ 64 ⌝ }
-    ensures { λ r. ⌜ r ≡ now (s .entry) ++ replicate (64 - length (now (s .entry))) 0 ⌝ }
-{
-    let mut r = [0u8; Sha256::BLOCK];
-    bytes::copy(s, &mut r);
-    r
-}
-
-// The block with each byte masked.
-fn masked(block: [u8; Sha256::BLOCK], pad: u8) -> [u8; Sha256::BLOCK]
-    ensures { λ r. ⌜ r ≡ Rfc2104.masked block pad ⌝ }
-{
-    let mut r = block;
-    for j in 0..Sha256::BLOCK {
-        r[j] = block[j] ^ pad;
-    }
-    r
-}
-
 // A key as a block: one over a block is hashed first.
 fn key_block(key: &[u8]) -> [u8; Sha256::BLOCK]
     ensures { λ r. ⌜ r ≡ keyBlock sha256 (now (key .entry)) ⌝ }
 {
     if key.len() <= Sha256::BLOCK {
-        return filled(key);
+        return hmac_block::filled(key);
     }
     let short = sha256::digest(key);
-    filled(&short)
+    hmac_block::filled(&short)
 }
 
 // The hash value after the key's block masked by a pad.
 fn key_value(block: [u8; Sha256::BLOCK], pad: u8) -> [u32; 8]
     ensures { λ r. ⌜ r ≡ compress H0 (Rfc2104.masked block pad) ⌝ }
 {
-    sha256_value::of_block(masked(block, pad))
+    sha256_value::of_block(hmac_block::masked(block, pad))
 }
 
 // The hash of a message after a block of which only the hash value is given.
@@ -67,7 +44,7 @@ fn hash_after(value: [u32; 8], message: &[u8]) -> [u8; Sha256::DIGEST]
 fn outer_hash(value: [u32; 8], digest: [u8; Sha256::DIGEST]) -> [u8; Sha256::DIGEST]
     ensures { λ r. ⌜ r ≡ hashAfter value digest ⌝ }
 {
-    Sha256::after(value).absorb(&digest).finish()
+    sha256::digest_after(value, digest)
 }
 
 // A key as it is kept for many messages: the hash values that the inner and the outer hash start with.
@@ -108,24 +85,18 @@ pub fn mac(key: &[u8], message: &[u8]) -> [u8; Sha256::DIGEST]
 
 // The MAC of a message in five parts, which are not joined. A message of fewer has empty ones. This calls neither `Keyed::new` nor
 // `finish_with`, whose one caller is the expansion: so they lie in its frame and need none of their own.
-pub fn mac_of_parts(
+pub fn mac_of_parts<'a>(
     key: &[u8],
-    a: &[u8],
-    b: &[u8],
-    c: &[u8],
-    d: &[u8],
-    e: &[u8],
+    a: &'a [u8],
+    b: &'a [u8],
+    c: &'a [u8],
+    d: &'a [u8],
+    e: &'a [u8],
 ) -> [u8; Sha256::DIGEST]
     ensures { λ r. ⌜ r ≡ hmacSha256 (now (key .entry)) (now (a .entry) ++ (now (b .entry) ++ (now (c .entry) ++ (now (d .entry) ++ now (e .entry))))) ⌝ }
 {
     let block = key_block(key);
     let begun = Sha256::after(key_value(block, IPAD));
-    let digest = begun
-        .absorb(a)
-        .absorb(b)
-        .absorb(c)
-        .absorb(d)
-        .absorb(e)
-        .finish();
+    let digest = begun.finish_with_five(a, b, c, d, e);
     outer_hash(key_value(block, OPAD), digest)
 }

@@ -130,8 +130,8 @@ pub extern "C" fn kv_domain_reauth_key(dsrk: &[u8], out: &mut [u8]) -> Outcome
 pub extern "C" fn kv_aka_keys<'a>(
     ck: &[u8],
     ik: &[u8],
-    name: &[u8],
-    sqn_xor_ak: &[u8],
+    name: &'a [u8],
+    sqn_xor_ak: &'a [u8],
     identity: &'a [u8],
     out: &mut [u8],
 ) -> Outcome

@@ -74,8 +74,8 @@ pub fn domain_reauth_key(dsrk: &[u8], out: &mut [u8]) -> Outcome
 pub fn aka_keys<'a>(
     ck: &[u8],
     ik: &[u8],
-    name: &[u8],
-    sqn_xor_ak: &[u8],
+    name: &'a [u8],
+    sqn_xor_ak: &'a [u8],
     identity: &'a [u8],
     out: &mut [u8],
 ) -> Outcome

@@ -1,2 +1,3 @@
 pub mod Stream
 mod Parts
+mod Outer

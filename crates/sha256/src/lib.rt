@@ -22,6 +22,15 @@ pub struct Sha256 {
     count: u64,
 }
 
+// Brings the hash value to the one after the whole blocks of s. The compiler lays the two places where it is used one after the other
+// over the same stack.
+fn compress_into(h: &mut [u32; 8], s: &[u8])
+    ensures { λ _. ⌜ now (h .exit) ≡ Fips180.blocks (length (now (s .entry)) / 64) (now (h .entry)) (now (s .entry)) ⌝ }
+{
+    let next = compress_blocks(*h, s);
+    *h = next;
+}
+
 // Writes `part` into `bytes` from index `at` on.
 fn put(bytes: &mut [u8], at: usize, part: &[u8])
     requires { ⌜ at + length (now part) ≤ length (now bytes) ⌝ }
@@ -57,36 +66,38 @@ fn put_length(block: &mut [u8; 64], count: u64)
     block[63] = (bits % 256) as u8;
 }
 
-// The last hash value, from a last block that lacks only the length.
-fn compress_last(h: [u32; 8], block: &mut [u8; 64], count: u64) -> [u32; 8]
+// Brings the hash value to the last one, from a last block that lacks only the length.
+fn compress_last(h: &mut [u32; 8], block: &mut [u8; 64], count: u64)
     requires { ⌜ length (now block) ≡ 64 ⌝ }
-    ensures { λ r. ⌜ r ≡ Fips180.compress h (take 56 (now (block .entry)) ++ be64 (8 * count % 2 ^ 64)) ⌝ }
+    ensures { λ _. ⌜ now (h .exit) ≡ Fips180.compress (now (h .entry)) (take 56 (now (block .entry)) ++ be64 (8 * count % 2 ^ 64)) ⌝ }
 {
     put_length(block, count);
-    compress_blocks(h, block)
+    compress_into(h, block);
 }
 
-// The last hash value of a message of `count` bytes: one block more, or two where the length finds no room after the bit 1.
-fn last_value(h: [u32; 8], block: &mut [u8; 64], count: u64) -> [u32; 8]
+// Brings the hash value to the last one of a message of `count` bytes: one block more, or two where the length finds no room after the bit 1.
+fn close(h: &mut [u32; 8], block: &mut [u8; 64], count: u64)
     requires { ⌜ length (now block) ≡ 64 ⌝ }
-    ensures { λ r. ⌜ r ≡ closing h (take (count % 64) (now (block .entry))) count ⌝ }
+    ensures { λ _. ⌜ now (h .exit) ≡ closing (now (h .entry)) (take (count % 64) (now (block .entry))) count ⌝ }
 {
     let at = (count % 64) as usize;
     mark(block, at);
     if at < 56 {
-        return compress_last(h, block, count);
+        compress_last(h, block, count);
+        return;
     }
-    let g = compress_blocks(h, block);
+    compress_into(h, block);
     *block = [0; 64];
-    compress_last(g, block, count)
+    compress_last(h, block, count);
 }
 
 // The digest of that message.
-fn last_digest(h: [u32; 8], block: &mut [u8; 64], count: u64) -> [u8; 32]
+fn last_digest(h: &mut [u32; 8], block: &mut [u8; 64], count: u64) -> [u8; 32]
     requires { ⌜ length (now block) ≡ 64 ⌝ }
-    ensures { λ r. ⌜ r ≡ Fips180.digest (closing h (take (count % 64) (now (block .entry))) count) ⌝ }
+    ensures { λ r. ⌜ r ≡ Fips180.digest (closing (now (h .entry)) (take (count % 64) (now (block .entry))) count) ⌝ }
 {
-    to_bytes(last_value(h, block, count))
+    close(h, block, count);
+    to_bytes(*h)
 }
 
 // Begins a block with the bytes of s that come after its whole blocks.
@@ -105,8 +116,8 @@ fn absorb_blocks(h: &mut [u32; 8], block: &mut [u8; 64], s: &[u8])
     ensures { λ _. ⌜ now (h .exit) ≡ Fips180.blocks (length (now (s .entry)) / 64) (Fips180.compress (now (h .entry)) (now (block .entry))) (now (s .entry)) ⌝ }
     ensures { λ _. ⌜ now (block .exit) ≡ begunBlock (now (s .entry)) ⌝ }
 {
-    let g = compress_blocks(*h, block);
-    *h = compress_blocks(g, s);
+    compress_into(h, block);
+    compress_into(h, s);
     begin(block, s);
 }
 
@@ -192,10 +203,10 @@ impl Sha256 {
     pub fn finish(self) -> [u8; 32]
         ensures { λ r. ⌜ r ≡ finished (progress self) ⌝ }
     {
-        let h = self.h;
+        let mut h = self.h;
         let mut block = self.block;
         let count = self.count;
-        last_digest(h, &mut block, count)
+        last_digest(&mut h, &mut block, count)
     }
 
     // The digest of all that was absorbed and of six parts after it. They are absorbed in one loop, so that the compiler lays out the code
@@ -219,23 +230,62 @@ impl Sha256 {
             let next = absorb_into(&mut h, &mut block, count, s);
             count = next;
         }
-        last_digest(h, &mut block, count)
+        last_digest(&mut h, &mut block, count)
     }
+
+    // The same with five parts. `finish_with` has one caller, the expansion, and so is laid out in its frame: HMAC of parts has this one. A loop
+    // of six turns, the last one for no bytes, is not unrolled by the compiler; one of five is.
+    pub fn finish_with_five<'a>(
+        self,
+        a: &'a [u8],
+        b: &'a [u8],
+        c: &'a [u8],
+        d: &'a [u8],
+        e: &'a [u8],
+    ) -> [u8; 32]
+        ensures { λ r. ⌜ r ≡ finished (absorbed (progress self) (now (a .entry) ++ (now (b .entry) ++ (now (c .entry) ++ (now (d .entry) ++ now (e .entry)))))) ⌝ }
+    {
+        let mut h = self.h;
+        let mut block = self.block;
+        let mut count = self.count;
+        for j in 0..6 {
+            let s = part(j, a, b, c, d, e, b"");
+            let next = absorb_into(&mut h, &mut block, count, s);
+            count = next;
+        }
+        last_digest(&mut h, &mut block, count)
+    }
+}
+
+// The digest of a block, of which only the hash value is given, and of a digest after it: HMAC's outer hash. The second block is the last one.
+pub fn digest_after(value: [u32; 8], digest: [u8; 32]) -> [u8; 32]
+    ensures { λ r. ⌜ r ≡ finished (absorbed (startedAfter value) digest) ⌝ }
+{
+    let mut block: [u8; 64] = [0; 64];
+    bytes::copy(&digest, &mut block);
+    block[32] = 0x80;
+    put_length(&mut block, 96);
+    to_bytes(compress_blocks(value, &block))
 }
 
 // The hash of two parts, one after the other.
 pub fn digest_of_two(first: &[u8], second: &[u8]) -> [u8; 32]
     ensures { λ r. ⌜ r ≡ Fips180.sha256 (now (first .entry) ++ now (second .entry)) ⌝ }
 {
-    Sha256::new().absorb(first).absorb(second).finish()
+    let mut h = H0;
+    let mut block: [u8; 64] = [0; 64];
+    let n = absorb_into(&mut h, &mut block, 0, first);
+    let count = absorb_into(&mut h, &mut block, n, second);
+    last_digest(&mut h, &mut block, count)
 }
 
 // The hash of a message.
 pub fn digest(message: &[u8]) -> [u8; 32]
     ensures { λ r. ⌜ r ≡ Fips180.sha256 (now (message .entry)) ⌝ }
 {
-    let h = of_blocks(message);
+    let whole = of_blocks(message);
+    let mut h = whole;
     let mut block: [u8; 64] = [0; 64];
     begin(&mut block, message);
-    last_digest(h, &mut block, message.len() as u64)
+    last_digest(&mut h, &mut block, message.len() as u64)
 }

@@ -1,11 +1,11 @@
 -- `aka_keys::aka_keys` meets its contract: by what all its tests came to, and on acceptance by the expansion.
 -- Assumes nothing.
-use mathlib.Core.Path.{_≡_, sym, ap, _∙_}
+use mathlib.Core.Path.{_≡_, refl, _∙_}
 use denote.Ref.{now}
 use lib.ListN.{length}
 use Rattle.refusal.specs.Answers.{checkedAs}
 use Rattle.refusal.proofs.Answering.{passed, refused-so, answer-by}
-use Rattle.aka_keys.specs.Rfc5448.{akaCheck, keyMaterial}
+use Rattle.aka_keys.specs.Rfc5448.{akaCheck}
 use Rattle.aka_keys.proofs.Deriving.{all-checks, key-lengths, tests-again, material-buffer}
 use borrow.Author.Needs.{needs}
 use Rattle.aka_keys.proofs.aka_keys.Statement.{statement}
@@ -32,24 +32,19 @@ enum-known-check c = search needs
 enum-told : tie.Need-enum-told
 enum-told c = search needs
 
-expansion-key-requires : tie.Need-expansion-key-requires
-expansion-key-requires c κs =
-    key-lengths _ _ _ _ _ _ (passed (all-tests (c .before .before)) (c .enum-told .given .1))
+slice-aggregate-put-expansion-key : tie.Need-slice-aggregate-put-expansion-key
+slice-aggregate-put-expansion-key c = search needs
 
-slice-aggregate-expand : tie.Need-slice-aggregate-expand
-slice-aggregate-expand c = search needs
+put-expansion-key-requires : tie.Need-put-expansion-key-requires
+put-expansion-key-requires c κs =
+    let k = key-lengths _ _ _ _ _ _ (passed (all-tests (c .before .before .before)) (c .before .enum-told .given .1)) in
+    (k .0, (k .1, refl))
 
-slice-aggregate-expand-2 : tie.Need-slice-aggregate-expand-2
-slice-aggregate-expand-2 c = search needs
+slice-aggregate-expanded : tie.Need-slice-aggregate-expanded
+slice-aggregate-expanded c = search needs
 
-slice-aggregate-expand-3 : tie.Need-slice-aggregate-expand-3
-slice-aggregate-expand-3 c = search needs
-
-slice-aggregate-expand-4 : tie.Need-slice-aggregate-expand-4
-slice-aggregate-expand-4 c = search needs
-
-expand-requires : tie.Need-expand-requires
-expand-requires c κs = search needs
+expanded-requires : tie.Need-expanded-requires
+expanded-requires c κs = search needs
 
 returns : tie.Need-returns
 returns c = refused-so _ _ _ (all-tests (c .before .before .before)) (c .before .check .given .1)
@@ -60,13 +55,13 @@ same-length c = search needs
 returns-2 : tie.Need-returns-2
 returns-2 c =
     let e = c .before .before in
-    let key = e .before .before .before .before .before .before in
-    let told = key .before in
+    let key = c .before .before .before .before .before .before in
+    let told = c .before .before .before .before .before .before .before .before in
     let t = told .before .before in
     let a = t .before .before .before .before .before .before .before .before .before .args in
     let all = all-tests t in
     let tests = tests-again (now (a .ck)) (now (a .ik)) (now (a .name)) (now (a .sqn-xor-ak)) (now (a .identity)) (length (now (a .out))) all (all ∙ passed all (told .enum-told .given .1)) in
-    (answer-by 208 tests (e .expand .ensures .0), material-buffer (now (a .ck)) (now (a .ik)) (now (a .name)) (now (a .sqn-xor-ak)) (now (a .identity)) (now (a .out)) tests (key .expansion-key .ensures) (e .expand .ensures .1))
+    (answer-by 208 tests (e .expanded .ensures .0), material-buffer (now (a .ck)) (now (a .ik)) (now (a .name)) (now (a .sqn-xor-ak)) (now (a .identity)) (now (a .out)) tests (key .put-expansion-key .ensures) (e .expanded .ensures .1))
 
 pub aka-keys-spec : {M : Type 1} → statement M
 aka-keys-spec =
@@ -77,12 +72,10 @@ aka-keys-spec =
     then-check-requires
     enum-known-check
     enum-told
-    expansion-key-requires
-    slice-aggregate-expand
-    slice-aggregate-expand-2
-    slice-aggregate-expand-3
-    slice-aggregate-expand-4
-    expand-requires
+    slice-aggregate-put-expansion-key
+    put-expansion-key-requires
+    slice-aggregate-expanded
+    expanded-requires
     returns
     same-length
     returns-2)

@@ -3,6 +3,8 @@
 use denote.Ref.{now}
 use Rattle.sha256_block.specs.Fips180.{sha256}
 use Rattle.rfc2104.proofs.Blocks.{key-short, key-long}
+use Rattle.hmac_block.proofs.Filling.{filled-short}
+use Rattle.hmac.proofs.Laws.{digest-short}
 use borrow.Author.Needs.{needs}
 use Rattle.hmac.proofs.key_block.Statement.{statement}
 use Rattle.hmac.proofs.key_block.Tie as tie
@@ -11,7 +13,10 @@ filled-requires : tie.Need-filled-requires
 filled-requires c κs = search needs
 
 returns : tie.Need-returns
-returns c = key-short sha256 (now (c .before .before .before .args .key)) (c .before .if1 .taken) (c .filled .ensures)
+returns c =
+    let key = now (c .before .before .before .args .key) in
+    let short = c .before .if1 .taken in
+    key-short sha256 key short (filled-short key short (c .filled .ensures))
 
 digest-requires : tie.Need-digest-requires
 digest-requires c κs = search needs
@@ -24,7 +29,9 @@ filled-requires-2 c κs = search needs
 
 returns-2 : tie.Need-returns-2
 returns-2 c =
-    key-long sha256 (now (c .before .before .before .before .before .args .key)) (c .before .before .before .if1 .left) (c .before .before .digest .ensures) (c .filled2 .ensures)
+    let d = c .before .before in
+    let key = now (d .before .before .before .args .key) in
+    key-long sha256 key (d .before .if1 .left) (d .digest .ensures) (filled-short (d .digest .result) (digest-short key (d .digest .ensures)) (c .filled2 .ensures))
 
 pub key-block-spec : {M : Type 1} → statement M
 key-block-spec =

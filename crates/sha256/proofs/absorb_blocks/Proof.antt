@@ -11,23 +11,23 @@ use borrow.Author.Needs.{needs}
 use Rattle.sha256.proofs.absorb_blocks.Statement.{statement}
 use Rattle.sha256.proofs.absorb_blocks.Tie as tie
 
-compress-blocks-requires : tie.Need-compress-blocks-requires
-compress-blocks-requires c κs = search needs
+compress-into-requires : tie.Need-compress-into-requires
+compress-into-requires c κs = search needs
 
-compress-blocks-requires-2 : tie.Need-compress-blocks-requires-2
-compress-blocks-requires-2 c κs = search needs
+compress-into-requires-2 : tie.Need-compress-into-requires-2
+compress-into-requires-2 c κs = search needs
 
 begin-requires : tie.Need-begin-requires
 begin-requires c κs = search needs
 
 returns : tie.Need-returns
 returns c =
-    let start = c .before .before .before .before .before .before .before .before in
+    let start = c .before .before .before .before .before .before .before .before .before in
     let a = start .args in
     let s = now (a .s) in
-    let g = c .before .before .before .compress-blocks .ensures ∙ one-block compress (now (a .h)) (now (a .block)) (start .pre) in
-    (c .before .before .compress-blocks2 .ensures ∙ ap (λ (g : List ℕ). blocks (length s / 64) g s) g, c .begin .ensures)
+    let g = c .before .before .before .before .compress-into .ensures ∙ one-block compress (now (a .h)) (now (a .block)) (start .pre) in
+    (c .before .before .compress-into2 .ensures ∙ ap (λ (g : List ℕ). blocks (length s / 64) g s) g, c .begin .ensures)
 
 pub absorb-blocks-spec : {M : Type 1} → statement M
 absorb-blocks-spec =
-    tie.close (tie.spec compress-blocks-requires compress-blocks-requires-2 begin-requires returns)
+    tie.close (tie.spec compress-into-requires compress-into-requires-2 begin-requires returns)

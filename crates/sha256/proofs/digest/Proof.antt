@@ -18,14 +18,14 @@ begin-requires : tie.Need-begin-requires
 begin-requires c κs = search needs
 
 last-digest-requires : tie.Need-last-digest-requires
-last-digest-requires c κs = ap length (c .before .begin .ensures) ∙ begun-length (now (c .before .before .before .before .before .args .message))
+last-digest-requires c κs = ap length (c .before .before .begin .ensures) ∙ begun-length (now (c .before .before .before .before .before .before .args .message))
 
 returns : tie.Need-returns
 unfolding sha256
 returns c =
-    let m = now (c .before .before .before .before .before .before .args .message) in
+    let m = now (c .before .before .before .before .before .before .before .args .message) in
     let f : length m < 2 ^ 64 = omega arith in
-    at-once compress m H0 digest f (c .before .before .begin .ensures) (c .before .before .before .before .of-blocks .ensures) (c .last-digest .ensures)
+    at-once compress m H0 digest f (c .before .before .before .begin .ensures) (c .before .before .before .before .before .of-blocks .ensures) (c .last-digest .ensures)
 
 pub digest-spec : {M : Type 1} → statement M
 digest-spec = tie.close (tie.spec of-blocks-requires begin-requires last-digest-requires returns)

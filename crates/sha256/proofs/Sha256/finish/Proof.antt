@@ -15,7 +15,7 @@ last-digest-requires c κs = search needs
 
 returns : tie.Need-returns
 returns c =
-    let s = c .before .before .before .before .args .self in
+    let s = c .before .before .before .before .before .args .self in
     let f : s .count < 2 ^ 64 = search needs in
     let l : length (s .block) ≡ 64 = search needs in
     c .last-digest .ensures ∙ sym (finished-closing compress digest (progress s) f l)

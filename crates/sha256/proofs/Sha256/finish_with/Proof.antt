@@ -54,12 +54,12 @@ loop-again c =
     )
 
 last-digest-requires : tie.Need-last-digest-requires Inv-loop μ-loop
-last-digest-requires c κs = c .before .before .loop .inv .1
+last-digest-requires c κs = c .before .before .before .loop .inv .1
 
 returns : tie.Need-returns Inv-loop μ-loop
 returns c =
-    let l = c .before .before .before .loop in
-    let a = c .before .before .before .before .before .before .before .before .before .before .before .before .args in
+    let l = c .before .before .before .before .loop in
+    let a = c .before .before .before .before .before .before .before .before .before .before .before .before .before .args in
     let s = a .self in
     let k : length (s .block) ≡ 64 = search needs in
     let e : l .j ≡ 6 = omega arith in

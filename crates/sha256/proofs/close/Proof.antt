@@ -1,4 +1,4 @@
--- `sha256::last_value` meets its contract: one block more, or two (proofs/Closing.antt of fips180).
+-- `sha256::close` meets its contract: one block more, or two (proofs/Closing.antt of fips180).
 -- Assumes nothing.
 use Prim.Native.Nat.{_≤_, _%_}
 use native.Mathlib.Omega.{arith}
@@ -8,47 +8,47 @@ use denote.Ref.{now}
 use Rattle.fips180.proofs.Closing.{mark-kept, close-one, close-two}
 use Rattle.sha256_block.specs.Fips180.{compress}
 use borrow.Author.Needs.{needs}
-use Rattle.sha256.proofs.last_value.Statement.{statement}
-use Rattle.sha256.proofs.last_value.Tie as tie
+use Rattle.sha256.proofs.close.Statement.{statement}
+use Rattle.sha256.proofs.close.Tie as tie
 
 mark-requires : tie.Need-mark-requires
 mark-requires c κs = search needs
 
 compress-last-requires : tie.Need-compress-last-requires
 compress-last-requires c κs =
-    let d = c .before .before in
+    let d = c .before .before .before in
     let a = d .before .before .args in
     mark-kept (now (a .block)) (a .count % 64) (omega arith) (d .before .before .pre) (d .mark .ensures)
 
 returns : tie.Need-returns
 returns c =
-    let d = c .before .before .before in
+    let d = c .before .before .before .before in
     let a = d .before .before .args in
     let l : length (now (a .block)) ≡ 64 = d .before .before .pre in
-    close-one compress (a .h) (now (a .block)) (a .count) l (d .mark .ensures) (c .before .before .if1 .taken) (c .compress-last .ensures)
+    close-one compress (now (a .h)) (now (a .block)) (a .count) l (d .mark .ensures) (c .before .before .before .if1 .taken) (c .compress-last .ensures)
 
-compress-blocks-requires : tie.Need-compress-blocks-requires
-compress-blocks-requires c κs = search needs
+compress-into-requires : tie.Need-compress-into-requires
+compress-into-requires c κs = search needs
 
 compress-last-requires-2 : tie.Need-compress-last-requires-2
 compress-last-requires-2 c κs = search needs
 
 returns-2 : tie.Need-returns-2
 returns-2 c =
-    let e = c .before .before .before in
-    let d = e .before .before .before .before in
+    let e = c .before .before .before .before in
+    let d = e .before .before .before .before .before in
     let a = d .before .before .args in
     let l : length (now (a .block)) ≡ 64 = d .before .before .pre in
     let m : 56 ≤ a .count % 64 = omega arith in
-    close-two compress (a .h) (now (a .block)) (a .count) l (d .mark .ensures) m (e .compress-blocks .ensures) (c .compress-last2 .ensures)
+    close-two compress (now (a .h)) (now (a .block)) (a .count) l (d .mark .ensures) m (e .compress-into .ensures) (c .compress-last2 .ensures)
 
-pub last-value-spec : {M : Type 1} → statement M
-last-value-spec =
+pub close-spec : {M : Type 1} → statement M
+close-spec =
     tie.close
     (tie.spec
     mark-requires
     compress-last-requires
     returns
-    compress-blocks-requires
+    compress-into-requires
     compress-last-requires-2
     returns-2)

@@ -1,0 +1,88 @@
+-- `sha256::Sha256::finish_with_five` meets its contract. The loop's invariant: the first j parts are absorbed; the sixth is empty.
+-- Assumes nothing.
+use mathlib.Core.Path.{_≡_, refl, ap, _∙_}
+use mathlib.Core.List.{List, [], _∷_, _++_, append-nil}
+use Prim.Native.Nat.{ℕ, _-_, _^_, _<_, _≤_}
+use native.Mathlib.Omega.{arith}
+use borrow.Author.Needs.{needs}
+use denote.Ref.{now}
+use lib.ListN.{length, take}
+use Rattle.fips180.proofs.Absorbing.{block-kept, closed-law, absorbedAll, next-part, all-six}
+use Rattle.sha256_block.specs.Fips180.{compress, digest}
+use Rattle.sha256.specs.Stream.{progress, absorbed, finished}
+use Rattle.sha256.specs.Internal.{parts}
+use Rattle.sha256.proofs.Sha256.finish_with_five.Statement.{statement}
+use Rattle.sha256.proofs.Sha256.finish_with_five.Tie as tie
+
+abbrev Inv-loop : tie.InvT-loop
+Inv-loop a b c d e h₀ block₀ count₀ j₀ t13 h block count j =
+    (j ≤ 6) × (length block ≡ 64) × (count < 2 ^ 64) × (parts h block count ≡ absorbedAll compress (parts h₀ block₀ count₀) (take j (a ∷ b ∷ c ∷ d ∷ e ∷ [] ∷ [])))
+
+abbrev μ-loop : tie.MeasureT-loop
+μ-loop a b c d e h₀ block₀ count₀ j₀ t13 h block count j = 6 - j
+
+loop-holds : tie.Need-loop-holds Inv-loop μ-loop
+unfolding absorbedAll
+loop-holds c =
+    let s = c .before .before .before .before .before .before .before .args .self in
+    let l : length (s .block) ≡ 64 = search needs in
+    let f : s .count < 2 ^ 64 = search needs in
+    (omega arith, l, f, refl)
+
+slice-aggregate-part : tie.Need-slice-aggregate-part Inv-loop μ-loop
+slice-aggregate-part c = search needs
+
+part-requires : tie.Need-part-requires Inv-loop μ-loop
+part-requires c κs = search needs
+
+absorb-into-requires : tie.Need-absorb-into-requires Inv-loop μ-loop
+absorb-into-requires c κs = c .before .before .before .before .before .loop .inv .1
+
+add-j : tie.Need-add-j Inv-loop μ-loop
+add-j c = search needs
+
+loop-less : tie.Need-loop-less Inv-loop μ-loop
+loop-less c = search needs
+
+loop-again : tie.Need-loop-again Inv-loop μ-loop
+loop-again c =
+    let p = c .before .before .before in
+    let l = p .before .before .before .loop in
+    let a = p .before .before .before .before .before .before .before .before .before .before .before .args in
+    let f : c .absorb-into .result < 2 ^ 64 = search needs in (
+      omega arith,
+      block-kept compress _ _ (l .inv .1) (c .absorb-into .ensures),
+      f,
+      next-part compress (progress (a .self)) (now (a .a) ∷ now (a .b) ∷ now (a .c) ∷ now (a .d) ∷ now (a .e) ∷ [] ∷ []) (l .j) [] (omega arith) (l .inv .3) (p .part .ensures) (c .absorb-into .ensures),
+    )
+
+last-digest-requires : tie.Need-last-digest-requires Inv-loop μ-loop
+last-digest-requires c κs = c .before .before .before .loop .inv .1
+
+returns : tie.Need-returns Inv-loop μ-loop
+returns c =
+    let l = c .before .before .before .before .loop in
+    let a = c .before .before .before .before .before .before .before .before .before .before .before .before .args in
+    let s = a .self in
+    let k : length (s .block) ≡ 64 = search needs in
+    let e : l .j ≡ 6 = omega arith in
+    let six : List (List ℕ) = now (a .a) ∷ now (a .b) ∷ now (a .c) ∷ now (a .d) ∷ now (a .e) ∷ [] ∷ [] in
+    let all = l .inv .3 ∙ ap (λ (k : ℕ). absorbedAll compress (progress s) (take k six)) e ∙ all-six compress (progress s) (now (a .a)) (now (a .b)) (now (a .c)) (now (a .d)) (now (a .e)) [] in
+    closed-law compress (progress s) _ k all digest (l .inv .2) (c .last-digest .ensures)
+    ∙ ap (λ (x : List ℕ). finished (absorbed (progress s) (now (a .a) ++ (now (a .b) ++ (now (a .c) ++ (now (a .d) ++ x)))))) (append-nil (now (a .e)))
+
+pub finish-with-five-spec : {M : Type 1} → statement M
+finish-with-five-spec =
+    tie.close
+    (tie.spec
+    Inv-loop
+    μ-loop
+    loop-holds
+    slice-aggregate-part
+    part-requires
+    absorb-into-requires
+    add-j
+    loop-less
+    loop-again
+    last-digest-requires
+    returns)
