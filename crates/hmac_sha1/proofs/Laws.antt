@@ -1,14 +1,16 @@
 -- HMAC-SHA-1 by the hash values after a key's two blocks is RFC 2104's (`KeptValuesGiveMac` of rfc2104), and a MAC has 20 bytes.
 -- Assumes nothing.
-use Prim.Native.Nat.{ℕ, _+_, _/_, _%_, _^_, _<_, _≤_}
+use Prim.Native.Nat.{ℕ, _+_, _-_, _/_, _%_, _^_, _<_, _≤_}
 use mathlib.Core.Path.{_≡_, refl, sym, ap, _∙_}
 use mathlib.Core.List.{List, _++_}
 use native.Mathlib.Omega.{arith}
 use lib.Dec.{lit<, lit≤}
-use lib.ListN.{length}
+use lib.ListN.{length, take, replicate}
 use Rattle.rfc2104.specs.Rfc2104.{masked, keyBlock, ipad, opad, hmac}
 use Rattle.rfc2104.specs.Keyed.{hashAfterBy, macByValuesBy}
 use Rattle.rfc2104.proofs.Laws as laws
+use Rattle.rfc2104.proofs.Blocks.{key-short}
+use Rattle.hmac_block.proofs.Filling.{filled-short}
 use Rattle.fips180.specs.Hash.{padding, hashBy}
 use Rattle.fips180.specs.Stream.{Progress, finishedBy}
 use Rattle.fips180.specs.Sha1.{sha1, compress, blocks, H0, digest}
@@ -21,6 +23,11 @@ use Rattle.hmac_sha1.specs.Keyed.{keyValue, hashAfter, macByValues}
 pub key-value : (key : List ℕ) (pad : ℕ) {block v : List ℕ} → block ≡ keyBlock sha1 key → v ≡ compress H0 (masked block pad) → v ≡ keyValue key pad
 unfolding sha1
 key-value = laws.key-value compress H0 digest
+
+-- the same of a key of at most a block, which is filled up with zeros
+pub key-value-short : (key : List ℕ) (pad : ℕ) {block v : List ℕ} → length key ≤ 64 → block ≡ take 64 key ++ replicate (64 - length key) 0 → v ≡ compress H0 (masked block pad)
+    → v ≡ keyValue key pad
+key-value-short key pad h eb ev = key-value key pad (key-short sha1 key h (filled-short key h eb)) ev
 
 digest-fits : (value : List ℕ) → length (digest value) ≤ 64
 unfolding digest
