@@ -9,9 +9,9 @@ enum { FEW = 1, MANY = 17 };
 static uint8_t message[64 * MANY];
 
 #if defined KETVAULO
-/* The library exports no SHA-1. This is its compression as it stands in the archive, where bench/sha1 makes its name global: the hash value after the
+/* The library exports no SHA-1. This is its compression as it stands in the archive, under a name that bench/sha1 gives it: the hash value after the
    whole blocks of a message, from h. */
-void compress_blocks(uint32_t *out, const uint32_t *h, const uint8_t *at, uint64_t len) __asm__("sha1_block::compress_blocks");
+void compress_blocks(uint32_t *out, const uint32_t *h, const uint8_t *at, uint64_t len);
 static uint32_t value[5];
 static void start(void) { memcpy(value, (const uint32_t[5]){0x67452301, 0xefcdab89, 0x98badcfe, 0x10325476, 0xc3d2e1f0}, 20); }
 static void blocks(uint64_t n)
