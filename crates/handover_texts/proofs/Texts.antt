@@ -59,11 +59,11 @@ unfolding r1Label padding
 r1-begun e = ap r1Marked e
 
 -- it has as many bytes as the code takes it to have
-pub r0-begun-size : {t : List ℕ} → t ≡ take 20 r0Head ++ drop 20 (replicate 64 0) → length (r0Marked t) ≡ 64
+r0-begun-size : {t : List ℕ} → t ≡ take 20 r0Head ++ drop 20 (replicate 64 0) → length (r0Marked t) ≡ 64
 unfolding r0Label padding
 r0-begun-size e = ap length (r0-begun e)
 
-pub r1-begun-size : {t : List ℕ} → t ≡ take 20 r1Head ++ drop 20 (replicate 128 0) → length (r1Marked t) ≡ 128
+r1-begun-size : {t : List ℕ} → t ≡ take 20 r1Head ++ drop 20 (replicate 128 0) → length (r1Marked t) ≡ 128
 unfolding r1Label padding
 r1-begun-size e = ap length (r1-begun e)
 
