@@ -4,6 +4,7 @@
 ghost use Prim.Native.Nat.{_≤_};
 use libc::STDOUT_FILENO;
 use refusal::Written;
+use sha1_block::compress_blocks;
 use sha256::Sha256;
 
 // Prints a name, the bytes in hexadecimal, and a line end.
@@ -88,6 +89,37 @@ fn hash_1(name: &[u8], message: &[u8]) {
     line(name, &d);
 }
 
+// Prints the words of a hash value, which one after another are the digest.
+fn words(name: &[u8], h: [u32; 5]) {
+    io::write_all(STDOUT_FILENO, name);
+    io::write_all(STDOUT_FILENO, b" ");
+    io::print_hex(STDOUT_FILENO, wide_word(h[0]), 8);
+    io::print_hex(STDOUT_FILENO, wide_word(h[1]), 8);
+    io::print_hex(STDOUT_FILENO, wide_word(h[2]), 8);
+    io::print_hex(STDOUT_FILENO, wide_word(h[3]), 8);
+    io::print_hex(STDOUT_FILENO, wide_word(h[4]), 8);
+    io::write_all(STDOUT_FILENO, b"\n");
+}
+
+fn wide_word(x: u32) -> u64 {
+    x as u64
+}
+
+// The SHA-1 digest of one million times 'a': 15,625 blocks, and a block with the padding, which counts 8,000,000 bits.
+fn million_1() {
+    let block = [97u8; 64];
+    let mut h = sha1::value_after(&block);
+    for _ in 0..15624usize {
+        let next = compress_blocks(h, &block);
+        h = next;
+    }
+    let mut padding = [0u8; 64];
+    padding[0] = 0x80;
+    padding[61] = 0x7a;
+    padding[62] = 0x12;
+    words(b"SHA-1 one million a", compress_blocks(h, &padding));
+}
+
 // NIST's examples for FIPS 180-4, SHA-1; and messages of zeros at the edges of the padding, which are not published.
 fn sha_1() {
     hash_1(b"SHA-1 abc", b"abc");
@@ -95,6 +127,7 @@ fn sha_1() {
         b"SHA-1 448 bits",
         b"abcdbcdecdefdefgefghfghighijhijkijkljklmklmnlmnomnopnopq",
     );
+    million_1();
     let zeros = [0u8; 120];
     hash_1(b"SHA-1 empty", b"");
     hash_1(b"SHA-1 55 zeros", &zeros[..55]);
