@@ -10,6 +10,7 @@ use lib.Bits.{bitAnd, bitOr}
 use lib.Count.{ones, trailingZeros}
 use lib.Dec.{ltb, eqb}
 use lib.ListN.{length, set}
+use lib.Seq.{set-out}
 use Rattle.refusal.specs.Checks.{Reason, Check, pass, refuse, bare, unless, _andThen_}
 use Rattle.refusal.specs.Answers.{Answer, wrote, refused, answerTo, afterCheck}
 use Rattle.refusal.proofs.Passing.{before-passed, last-passed, test-passed, test-holds}
@@ -165,6 +166,11 @@ module _ (s : Slots) (b : s .taken < 2 ^ 64) (l : length (s .names) ≡ 64) (m :
 
 -- ---- the other cases of the calls
 
+-- nothing is written at a place that is no slot's
+pub no-place : (s : Slots) (i w : ℕ) (x : Name) (q : ℕ) → length (s .names) ≤ i → length (s .parents) ≤ i
+    → _≡_ {A = Slots} (record { taken = w; names = set (s .names) i x; parents = set (s .parents) i q }) (record { taken = w; names = s .names; parents = s .parents })
+no-place s i w x q g h = λ j. record { taken = w; names = set-out (s .names) i x g j; parents = set-out (s .parents) i q h j }
+
 module _ (s : Slots) (p : Parent) where
   pub put-number : (i : ℕ) → i ≡ lowestFree (tableOf s) → putCheck (tableOf s) p ≡ pass → wrote i ≡ putAnswer (tableOf s) p
   unfolding putAnswer
@@ -174,13 +180,17 @@ module _ (s : Slots) (p : Parent) where
   unfolding putAnswer
   put-none y h = rw h
 
-  pub put-takes : (r : Slots) (i : ℕ) (x : Name) → i ≡ lowestFree (tableOf s) → putCheck (tableOf s) p ≡ pass → r ≡ taking s i x p → r ≡ putStored s x p
+  -- by what changes, whatever the name is
+  pub put-takes : (w i q : ℕ) → i ≡ lowestFree (tableOf s) → putCheck (tableOf s) p ≡ pass → w ≡ bitOr (s .taken) (2 ^ i) → q ≡ byteOf p → (x : Name)
+      → _≡_ {A = Slots} (record { taken = w; names = set (s .names) i x; parents = set (s .parents) i q }) (putStored s x p)
   unfolding putStored
-  put-takes r i x e h q = rw h (q ∙ ap (λ (n : ℕ). taking s n x p) e)
+  put-takes w i q e h t k x =
+      rw h ((λ j. record { taken = t j; names = set (s .names) i x; parents = set (s .parents) i (k j) }) ∙ ap (λ (n : ℕ). taking s n x p) e)
 
-  pub put-leaves : (y : Reason) (x : Name) → putCheck (tableOf s) p ≡ refuse y → s ≡ putStored s x p
+  pub put-leaves : (i q : ℕ) (y : Reason) → putCheck (tableOf s) p ≡ refuse y → length (s .names) ≤ i → length (s .parents) ≤ i → (x : Name)
+      → _≡_ {A = Slots} (record { taken = s .taken; names = set (s .names) i x; parents = set (s .parents) i q }) (putStored s x p)
   unfolding putStored
-  put-leaves y x h = rw h
+  put-leaves i q y h g m x = rw h (no-place s i (s .taken) x q g m)
 
 module _ (s : Slots) (n : ℕ) where
   pub drop-none : isLive (tableOf s) n ≡ false → refused (bare 47) ≡ dropAnswer (tableOf s) n
