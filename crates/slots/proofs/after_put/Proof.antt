@@ -29,7 +29,7 @@ returns-2 c =
     let wide : length (a .slots .parents) ≡ 64 = search needs in
     let past : length (a .slots .names) ≤ a .put .place = omega arith in
     let over : length (a .slots .parents) ≤ a .put .place = omega arith in
-    sym (no-place (a .slots) (a .put .place) (a .put .taken) (a .name) (a .put .parent) past over)
+    sym (no-place (a .slots) (a .put .taken) (a .put .place) (a .put .parent) past over (a .name))
 
 pub after-put-spec : {M : Type 1} → statement M
 after-put-spec =
