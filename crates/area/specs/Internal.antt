@@ -1,5 +1,5 @@
 -- What only the contracts of private functions need. Nothing here has to be believed.
--- What the functions of the walk answer, as a reading of the area (area_format/specs/Area.antt).
+-- What the walk answers, as a reading of the area (area_format/specs/Area.antt).
 -- Assumes nothing.
 use Prim.Native.Nat.{ℕ}
 use mathlib.Core.List.{List}
@@ -7,20 +7,9 @@ use lib.ListN.{take}
 use mathlib.Core.Bool.{Bool, true}
 use Rattle.area_format.specs.declared.Way.{Way}
 use Rattle.area_format.specs.declared.Way.the-variants.{Strict, Lenient}
-use Rattle.area_format.specs.Area.{Standing, faultAt, Reading, whole, refusal, readOn}
-use Rattle.area.specs.declared.Added.{Added}
-use Rattle.area.specs.declared.Added.the-variants as Added
+use Rattle.area_format.specs.Area.{faultAt, Reading, whole, refusal}
 use Rattle.area.specs.declared.Walked.{Walked}
 use Rattle.area.specs.declared.Walked.the-variants.{Whole, Stopped}
-
--- reading on after the attribute at an offset was taken in, the offers being kept at the start of a buffer
-abbrev pub addedOn : ℕ → Added → List ℕ → List Standing → Reading
-addedOn at (Added.Kept seen) kept later = readOn (take (seen .count) kept) (seen .name) later
-addedOn at (Added.Stopped x) kept later = refusal (faultAt at x)
-
-abbrev pub addedCount : Added → ℕ
-addedCount (Added.Kept seen) = seen .count
-addedCount (Added.Stopped x) = 0
 
 -- what a walk came to, its offers being kept at the start of a buffer
 abbrev pub walkedAs : Walked → List ℕ → Reading

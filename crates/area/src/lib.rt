@@ -1,16 +1,16 @@
 // Reads the attribute area that carries the offers (document 01, "Attribute area"; RFC 5448 sections 3.1 and 3.2). The walk goes
 // through the attributes once and keeps the offers aside, so that only an area that is read whole alters the buffer lent for them.
 ghost use mathlib.Core.Path.{_≡_};
-ghost use mathlib.Core.List.{List, [], _∷_};
-ghost use Prim.Native.Nat.{ℕ, _+_, _^_, _≤_, _<_};
+ghost use mathlib.Core.List.{List, []};
+ghost use Prim.Native.Nat.{ℕ, _+_, _≤_};
 ghost use lib.ListN.{length, take, drop};
 ghost use Rattle.refusal.specs.Answers.{reasonOf};
-ghost use Rattle.area_format.specs.Area.{Standing, standing, faultAt, readOn, attributes, areaAnswer, areaBuffer};
+ghost use Rattle.area_format.specs.Area.{faultAt, readOn, attributes, areaAnswer, areaBuffer};
 ghost use Rattle.area_format.specs.Area;
 ghost use Rattle.area_format.specs.declared.Name.the-variants.{Missing};
 ghost use Rattle.area_format.specs.Names.{sameFields};
 ghost use Rattle.area.specs.Area.{areaAnswerOf};
-ghost use Rattle.area.specs.Internal.{addedCount, addedOn, walkedCount, walkedAs, allowed};
+ghost use Rattle.area.specs.Internal.{walkedCount, walkedAs, allowed};
 use area_format::Attribute;
 use area_format::Bytes;
 use area_format::Fault;
@@ -21,18 +21,6 @@ use area_reader::read_at;
 use network_name::same_fields;
 use refusal::Refusal;
 use slices::copy_values;
-
-// What the walk has met so far: the count of the offers, which it keeps in a buffer beside this, and the name.
-struct Seen {
-    count: u32,
-    name: Name,
-}
-
-// What the walk has met with one attribute more, or why it stops.
-enum Added {
-    Kept(Seen),
-    Stopped(Fault),
-}
 
 // What the walk came to: the area was read whole, or it is refused for a fault at an offset.
 enum Walked {
@@ -69,46 +57,11 @@ fn refusal_at(at: usize, why: Fault) -> Refusal
     }
 }
 
-// Takes the attribute at an offset in: an offer is kept, unless it is the eighteenth, and a name, unless it is the second.
-fn add(seen: Seen, at: usize, met: Attribute, kept: &mut [u16]) -> Added
-    requires { ⌜ seen .count ≤ 17 ⌝ }
-    requires { ⌜ 17 ≤ length (now kept) ⌝ }
-    requires { ⌜ at + 4 < 2 ^ 64 ⌝ }
-    ensures count { λ r. ⌜ addedCount r ≤ 17 ⌝ }
-    ensures on { λ r. ⌜ ((later : List Standing) → readOn (take (seen .count) (now (kept .entry))) (seen .name) (standing at met ∷ later) ≡ addedOn at r (now (kept .exit)) later) ⌝ }
-{
-    let count = seen.count;
-    let name = seen.name;
-    match met {
-        Attribute::Faulty(why) => Added::Stopped(why),
-        Attribute::Other => Added::Kept(seen),
-        Attribute::Offer(value) => {
-            if count == 17 {
-                return Added::Stopped(Fault::OfferCount);
-            }
-            kept[count as usize] = value;
-            Added::Kept(Seen {
-                count: count + 1,
-                name,
-            })
-        }
-        Attribute::Named(len) => match name {
-            Name::Missing => Added::Kept(Seen {
-                count,
-                name: Name::Found { at: at + 4, len },
-            }),
-            Name::Found { at: _, len: _ } => Added::Stopped(Fault::NetworkName),
-        },
-    }
-}
-
 // At the area's end, which is an offset too: no name is refused, and then no offer.
-fn ended(seen: Seen, at: usize) -> Walked
-    ensures count { λ r. ⌜ walkedCount r ≤ seen .count ⌝ }
-    ensures end { λ r. ⌜ ((kept : List ℕ) → seen .count ≤ length kept → walkedAs r kept ≡ Area.ended (take (seen .count) kept) (seen .name)) ⌝ }
+fn ended(count: u32, name: Name, at: usize) -> Walked
+    ensures count { λ r. ⌜ walkedCount r ≤ count ⌝ }
+    ensures end { λ r. ⌜ ((kept : List ℕ) → count ≤ length kept → walkedAs r kept ≡ Area.ended (take count kept) name) ⌝ }
 {
-    let count = seen.count;
-    let name = seen.name;
     match name {
         Name::Missing => Walked::Stopped {
             why: Fault::NetworkName,
@@ -132,26 +85,48 @@ fn ended(seen: Seen, at: usize) -> Walked
     }
 }
 
-// The walk through the attributes of the area, left to right. The offers are kept in `kept`.
+// The walk through the attributes of the area, left to right. The offers are kept in `kept`: their count and the name are what was met so far. An
+// offer is kept, unless it is the eighteenth, and a name, unless it is the second.
 fn walk(area: &[u8], kept: &mut [u16]) -> Walked
     requires { ⌜ 17 ≤ length (now kept) ⌝ }
     ensures count { λ r. ⌜ walkedCount r ≤ 17 ⌝ }
     ensures walked { λ r. ⌜ walkedAs r (now (kept .exit)) ≡ readOn [] Missing (attributes (now (area .entry))) ⌝ }
 {
     let mut at = 0;
-    let mut seen = Seen {
-        count: 0,
-        name: Name::Missing,
-    };
+    let mut count: u32 = 0;
+    let mut name = Name::Missing;
     loop {
         match read_at(area, at) {
-            Step::End => return ended(seen, at),
-            Step::Met(met, next) => match add(seen, at, met, kept) {
-                Added::Stopped(why) => return Walked::Stopped { why, at },
-                Added::Kept(more) => {
-                    seen = more;
+            Step::End => return ended(count, name, at),
+            Step::Met(met, next) => match met {
+                Attribute::Faulty(why) => return Walked::Stopped { why, at },
+                Attribute::Other => {
                     at = next;
                 }
+                Attribute::Offer(value) => {
+                    if count == 17 {
+                        return Walked::Stopped {
+                            why: Fault::OfferCount,
+                            at,
+                        };
+                    }
+                    kept[count as usize] = value;
+                    count += 1;
+                    at = next;
+                }
+                Attribute::Named(len) => match name {
+                    Name::Missing => {
+                        let start = at + 4;
+                        name = Name::Found { at: start, len };
+                        at = next;
+                    }
+                    Name::Found { at: _, len: _ } => {
+                        return Walked::Stopped {
+                            why: Fault::NetworkName,
+                            at,
+                        };
+                    }
+                },
             },
         }
     }

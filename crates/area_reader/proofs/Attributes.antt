@@ -5,12 +5,15 @@ use mathlib.Core.Path.{_≡_, refl, sym}
 use mathlib.Core.Bool.{Bool, true, false, _&&_}
 use mathlib.Core.List.{List}
 use native.Mathlib.Omega.{arith}
-use borrow.Author.Tests.{le-leb, lt-leb, leb-true, eq-eqb, ne-eqb}
-use lib.ListN.{length}
+use borrow.Author.Tests.{le-leb, lt-leb, leb-true, eqb-true, eqb-false, eq-eqb, ne-eqb}
+use lib.ListN.{length, getD}
 use lib.Dec.{leb, eqb}
+use Rattle.slices.specs.Numbers.{fromBe16}
+use Rattle.slices.proofs.Truth.{and-left, and-right}
 use Rattle.area_format.specs.Area.{typeOf, wordsOf, numberIn, inBytes, inBounds, kdf, zeros, wordsFor, padding, kdfInput, attribute}
 use Rattle.area_format.specs.declared.Attribute.the-variants.{Offer, Named, Other, Faulty}
 use Rattle.area_format.specs.declared.Fault.the-variants.{KdfLength, KdfInput, KdfInputPadding}
+use Rattle.area_reader.specs.Internal.{isOffer}
 
 -- fewer than four bytes hold no attribute
 pub too-short : (bytes : List ℕ) → length bytes < 4 → false ≡ inBounds bytes
@@ -31,14 +34,34 @@ long-enough bytes h =
     let l : leb 2 (length bytes) ≡ true = le-leb 2 (length bytes) (omega arith) in
     rw l
 
--- AT_KDF
-pub kdf-read : (bytes : List ℕ) → wordsOf bytes .0 ≡ 1 → Offer (numberIn bytes) ≡ kdf bytes
-unfolding kdf
-kdf-read bytes h = rw (eq-eqb (wordsOf bytes .0) 1 h)
+-- type and length as one number
+pub one-number : (bytes : List ℕ) → getD bytes 1 0 < 256 → eqb (fromBe16 (getD bytes 0 0) (getD bytes 1 0)) 0x1801 ≡ isOffer bytes
+unfolding isOffer
+one-number bytes h = go (eqb (typeOf bytes) 24) (eqb (wordsOf bytes .0) 1) refl refl
+  where
+    go : (t₁ t₂ : Bool) → eqb (typeOf bytes) 24 ≡ t₁ → eqb (wordsOf bytes .0) 1 ≡ t₂ → eqb (fromBe16 (getD bytes 0 0) (getD bytes 1 0)) 0x1801 ≡ (t₁ && t₂)
+    go true true e₁ e₂ =
+        let x : getD bytes 0 0 ≡ 24 = eqb-true _ _ e₁ in
+        let y : getD bytes 1 0 ≡ 1 = eqb-true _ _ e₂ in
+        eq-eqb (fromBe16 (getD bytes 0 0) (getD bytes 1 0)) 0x1801 (omega arith)
+    go true false e₁ e₂ = ne-eqb (fromBe16 (getD bytes 0 0) (getD bytes 1 0)) 0x1801 (λ e. eqb-false (getD bytes 1 0) 1 e₂ (omega (arith, e)))
+    go false t₂ e₁ e₂ = ne-eqb (fromBe16 (getD bytes 0 0) (getD bytes 1 0)) 0x1801 (λ e. eqb-false (getD bytes 0 0) 24 e₁ (omega (arith, e)))
 
-pub kdf-refused : (bytes : List ℕ) → (wordsOf bytes .0 ≡ 1 → ⊥) → Faulty KdfLength ≡ kdf bytes
-unfolding kdf
-kdf-refused bytes h = rw (ne-eqb (wordsOf bytes .0) 1 h)
+-- an AT_KDF of one word, and an AT_KDF of another length
+pub one-word : (bytes : List ℕ) → isOffer bytes ≡ true → wordsOf bytes .0 ≡ 1
+unfolding isOffer
+one-word bytes h = eqb-true _ _ (and-right (eqb (typeOf bytes) 24) _ h)
+
+pub offer-read : (bytes : List ℕ) → isOffer bytes ≡ true → Offer (numberIn bytes) ≡ attribute bytes
+unfolding isOffer attribute kdf
+offer-read bytes h = rw (and-left (eqb (typeOf bytes) 24) _ h, and-right (eqb (typeOf bytes) 24) _ h)
+
+pub kdf-refused : (bytes : List ℕ) → isOffer bytes ≡ false → typeOf bytes ≡ 24 → Faulty KdfLength ≡ attribute bytes
+unfolding isOffer attribute kdf
+kdf-refused bytes h e =
+    let t : eqb (typeOf bytes) 24 ≡ true = eq-eqb (typeOf bytes) 24 e in
+    let w : eqb (wordsOf bytes .0) 1 ≡ false = rw t at h in
+    rw (t, w)
 
 -- AT_KDF_INPUT
 pub length-disagrees : (bytes : List ℕ) → (wordsOf bytes .0 ≡ wordsFor (numberIn bytes) → ⊥) → Faulty KdfInput ≡ kdfInput bytes
@@ -55,11 +78,7 @@ pub padding-refused : (bytes : List ℕ) → wordsOf bytes .0 ≡ wordsFor (numb
 unfolding kdfInput
 padding-refused bytes h z = rw (eq-eqb (wordsOf bytes .0) (wordsFor (numberIn bytes)) h, z)
 
--- the type
-pub type-24 : (bytes : List ℕ) → typeOf bytes ≡ 24 → kdf bytes ≡ attribute bytes
-unfolding attribute
-type-24 bytes h = rw (eq-eqb (typeOf bytes) 24 h)
-
+-- the other types
 pub type-23 : (bytes : List ℕ) → typeOf bytes ≡ 23 → kdfInput bytes ≡ attribute bytes
 unfolding attribute
 type-23 bytes h =

@@ -1,7 +1,7 @@
 -- Laws of a step: what it leaves to be read, and which case of it holds.
 -- Assumes nothing.
 use Prim.Native.Nat.{ℕ, suc, _+_, _-_, _*_, _≤_, _<_}
-use mathlib.Core.Path.{_≡_, refl, ap, _∙_}
+use mathlib.Core.Path.{_≡_, refl, sym, ap, _∙_}
 use mathlib.Core.Bool.{Bool, true, false, cond}
 use mathlib.Core.List.{List, [], _∷_}
 use native.Mathlib.Omega.{arith}
@@ -9,11 +9,13 @@ use borrow.Author.Tests.{le-leb, lt-leb, leb-true, leb-false}
 use lib.ListN.{length, getD, drop, length-drop, drop-of-length-le}
 use lib.Seq.{drop-drop, drop-length}
 use lib.Dec.{leb}
-use Rattle.area_format.specs.Area.{wordsOf, inBytes, inBounds, attribute, Standing, standing, attributesFrom}
+use Rattle.area_format.specs.Area.{wordsOf, numberIn, inBytes, inBounds, attribute, Standing, standing, attributesFrom}
 use Rattle.area_format.specs.declared.Attribute.{Attribute}
-use Rattle.area_format.specs.declared.Attribute.the-variants.{Faulty}
+use Rattle.area_format.specs.declared.Attribute.the-variants.{Offer, Faulty}
 use Rattle.area_format.specs.declared.Fault.the-variants.{AttributeBounds}
+use Rattle.area_reader.proofs.Attributes.{too-short, long-enough, one-word, offer-read}
 use Rattle.area_reader.proofs.Bounds.{passed, not-empty, not-past}
+use Rattle.area_reader.specs.Internal.{isOffer, notWithin}
 use Rattle.area_reader.specs.Steps.{metAt, stepAt}
 use Rattle.area_reader.specs.declared.Step.the-variants.{End, Met}
 
@@ -102,11 +104,19 @@ at-end area at e = go (leb (length area) at) refl (inBounds (drop at area)) e
     go false h false e = cc
 
 -- the cases
+pub met-offer : (at : ℕ) (bytes : List ℕ) → 4 ≤ length bytes → isOffer bytes ≡ true → Met (Offer (numberIn bytes)) (at + 4) ≡ metAt at bytes
+unfolding metAt
+met-offer at bytes l h =
+    let w : wordsOf bytes .0 ≡ 1 = one-word bytes h in
+    let s : inBytes (wordsOf bytes) .0 ≡ 4 = omega arith in
+    let b : inBounds bytes ≡ true = long-enough bytes l ∙ rw (le-leb 1 (wordsOf bytes .0) (omega arith)) (le-leb (inBytes (wordsOf bytes) .0) (length bytes) (omega arith)) in
+    rw (b, offer-read bytes h, s)
+
 pub met-within : (at : ℕ) (bytes : List ℕ) → inBounds bytes ≡ true → Met (attribute bytes) (at + inBytes (wordsOf bytes) .0) ≡ metAt at bytes
 unfolding metAt
 met-within at bytes h = rw h
 
-pub met-past : (at : ℕ) (bytes : List ℕ) → inBounds bytes ≡ false → Met (Faulty AttributeBounds) (at + length bytes) ≡ metAt at bytes
+pub met-past : (at : ℕ) (bytes : List ℕ) → inBounds bytes ≡ false → notWithin (at + length bytes) ≡ metAt at bytes
 unfolding metAt
 met-past at bytes h = rw h
 
@@ -117,3 +127,10 @@ step-end area at h = rw (le-leb _ _ h)
 pub step-met : (area : List ℕ) (at : ℕ) → at < length area → metAt at (drop at area) ≡ stepAt area at
 unfolding stepAt
 step-met area at h = rw (lt-leb _ _ h)
+
+-- where fewer than four bytes are left, but some
+pub step-past : (area : List ℕ) (at : ℕ) → at < length area → length area < at + 4 → notWithin (length area) ≡ stepAt area at
+step-past area at h k =
+    let l : length (drop at area) ≡ length area - at = length-drop at area in
+    let e : at + length (drop at area) ≡ length area = omega arith in
+    rw e at (met-past at (drop at area) (sym (too-short (drop at area) (omega arith)))) ∙ step-met area at h

@@ -2,10 +2,13 @@
 // next attribute begins.
 ghost use mathlib.Core.Path.{_≡_};
 ghost use Prim.Native.Nat.{_+_, _-_, _^_, _≤_, _<_};
+ghost use mathlib.Core.Bool.{false};
 ghost use lib.ListN.{length, take, drop};
+ghost use lib.Dec.{leb};
 ghost use Rattle.area_format.specs.Area.{wordsOf, numberIn, inBytes, inBounds, kdfInput};
 ghost use Rattle.area_format.specs.Area;
 ghost use Rattle.area_reader.specs.Steps.{metAt, stepAt};
+ghost use Rattle.area_reader.specs.Internal.{isOffer, notWithin};
 use area_format::Attribute;
 use area_format::Bytes;
 use area_format::Fault;
@@ -49,29 +52,22 @@ fn number_in(bytes: &[u8]) -> u16
     from_be16(bytes[2], bytes[3])
 }
 
-// Whether the attribute at the start of `bytes` ends within them. One of any length takes four bytes.
+// Whether the attribute at the start of `bytes` ends within them.
 fn in_bounds(bytes: &[u8]) -> bool
+    requires { ⌜ 4 ≤ length (now bytes) ⌝ }
     ensures { λ r. ⌜ r ≡ inBounds (now (bytes .entry)) ⌝ }
 {
-    if bytes.len() < 4 {
-        return false;
-    }
     let words = length_in(bytes);
     let size = in_bytes(words);
     (1 <= words.0) & (size.0 <= bytes.len())
 }
 
-// An AT_KDF: its value.
-fn kdf(bytes: &[u8]) -> Attribute
+// Whether the attribute at the start of `bytes` is an AT_KDF of one word. Type and length are compared as one number.
+fn is_offer(bytes: &[u8]) -> bool
     requires { ⌜ 4 ≤ length (now bytes) ⌝ }
-    ensures { λ r. ⌜ r ≡ Area.kdf (now (bytes .entry)) ⌝ }
+    ensures { λ r. ⌜ r ≡ isOffer (now (bytes .entry)) ⌝ }
 {
-    let words = length_in(bytes);
-    if words.0 == 1 {
-        Attribute::Offer(number_in(bytes))
-    } else {
-        Attribute::Faulty(Fault::KdfLength)
-    }
+    from_be16(bytes[0], bytes[1]) == 0x1801
 }
 
 // Whether the bytes from an offset to another are all zero. They are few: 32 bits count them in a register of any core.
@@ -115,41 +111,69 @@ fn kdf_input(bytes: &[u8]) -> Attribute
     }
 }
 
-// The attribute at the start of `bytes`.
+// The attribute at the start of `bytes`, where it is not an AT_KDF of one word.
 fn attribute_at(bytes: &[u8]) -> Attribute
     requires { ⌜ 4 ≤ length (now bytes) ⌝ }
+    requires { ⌜ isOffer (now bytes) ≡ false ⌝ }
     requires { ⌜ inBytes (wordsOf (now bytes)) .0 ≤ length (now bytes) ⌝ }
     ensures { λ r. ⌜ r ≡ Area.attribute (now (bytes .entry)) ⌝ }
 {
     match bytes[0] {
-        24 => kdf(bytes),
+        24 => Attribute::Faulty(Fault::KdfLength),
         23 => kdf_input(bytes),
         _ => Attribute::Other,
     }
 }
 
-// What stands at an offset of the area where `bytes` are those from there to its end. Nothing follows an attribute that is not within the area.
+// An attribute that is not within the area. Nothing follows it before the area's end.
+fn not_within(end: usize) -> Step
+    ensures { λ r. ⌜ r ≡ notWithin end ⌝ }
+{
+    Step::Met(Attribute::Faulty(Fault::AttributeBounds), end)
+}
+
+// What stands at an offset of the area where `bytes` are those from there to its end. An area is mostly offers: with four bytes there, an AT_KDF of
+// one word is within it.
 fn met(bytes: &[u8], at: usize) -> Step
+    requires { ⌜ 4 ≤ length (now bytes) ⌝ }
     requires { ⌜ at + length (now bytes) < 2 ^ 64 ⌝ }
     ensures { λ r. ⌜ r ≡ metAt at (now (bytes .entry)) ⌝ }
 {
+    if is_offer(bytes) {
+        let next = at + in_bytes(Words(1)).0;
+        return Step::Met(Attribute::Offer(number_in(bytes)), next);
+    }
     if in_bounds(bytes) {
         let next = at + in_bytes(length_in(bytes)).0;
         Step::Met(attribute_at(bytes), next)
     } else {
         let end = at + bytes.len();
-        Step::Met(Attribute::Faulty(Fault::AttributeBounds), end)
+        not_within(end)
     }
+}
+
+// Whether four bytes of the area are left at an offset, which is what any attribute takes.
+fn four_left(area: &[u8], at: usize) -> bool
+    ensures { λ r. ⌜ r ≡ leb (at + 4) (length (now (area .entry))) ⌝ }
+{
+    if area.len() < 4 {
+        return false;
+    }
+    at <= area.len() - 4
 }
 
 // What stands at an offset of the area.
 fn step_at(area: &[u8], at: usize) -> Step
     ensures { λ r. ⌜ r ≡ stepAt (now (area .entry)) at ⌝ }
 {
-    if area.len() <= at {
-        return Step::End;
+    if four_left(area, at) {
+        return met(&area[at..], at);
     }
-    met(&area[at..], at)
+    if at < area.len() {
+        not_within(area.len())
+    } else {
+        Step::End
+    }
 }
 
 impl<'a> Reader<'a> {

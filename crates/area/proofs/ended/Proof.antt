@@ -12,9 +12,6 @@ enum-told c = search needs
 enum-known-name : tie.Need-enum-known-name
 enum-known-name c = search needs
 
-cast-all : tie.Need-cast-all
-cast-all c = search needs
-
 returns : tie.Need-returns
 returns c = (omega arith, λ kept h. rw (c .enum-told .given .1))
 
@@ -25,4 +22,4 @@ returns-3 : tie.Need-returns-3
 returns-3 c = (omega arith, λ kept h. rw (c .before .before .name .given .1) (some-offer _ _ _ kept h (c .if1 .left)))
 
 pub ended-spec : {M : Type 1} → statement M
-ended-spec = tie.close (tie.spec enum-told enum-known-name cast-all returns returns-2 returns-3)
+ended-spec = tie.close (tie.spec enum-told enum-known-name returns returns-2 returns-3)

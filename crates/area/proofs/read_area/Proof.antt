@@ -1,13 +1,13 @@
 -- `area::read_area` meets its contract: what the walk came to settles the answer and the buffer, and the name that it found lies within the area
 -- (`name-within`).
 -- Assumes nothing.
-use Prim.Native.Nat.{_≤_}
+use Prim.Native.Nat.{_≤_, _<_}
 use mathlib.Core.Path.{_≡_, sym, _∙_}
-use mathlib.Core.List.{[]}
+use mathlib.Core.List.{[], _++_}
 use native.Mathlib.Omega.{arith}
 use borrow.Author.Needs.{needs}
 use denote.Ref.{now}
-use lib.ListN.{length, take}
+use lib.ListN.{length, take, drop}
 use lib.Seq.{length-take-le, take-all}
 use Rattle.area_format.specs.Area.{attributes, readOn, whole}
 use Rattle.area_format.specs.declared.Name.the-variants.{Missing}
@@ -30,7 +30,10 @@ counted : (c : tie.After-count) → length (take (c .count .given .0 .0) (c .bef
 counted c = length-take-le _ _ (omega (arith, few c, c .before .before .before .walk .kept .1 .0))
 
 returns : tie.Need-returns
-returns c = let a = c .before .before .before .before .args in too-little (a .way) (now (a .area)) (now (a .own-name)) (now (a .out)) (c .if1 .taken)
+returns c =
+    let a = c .before .before .before .before .args in
+    let no-room : length (now (a .out)) < 17 = omega (arith, c .if1 .taken) in
+    too-little (a .way) (now (a .area)) (now (a .own-name)) (now (a .out)) no-room
 
 slice-aggregate-walk : tie.Need-slice-aggregate-walk
 slice-aggregate-walk c = search needs
@@ -74,7 +77,8 @@ returns-4 c =
     let offers = take (k .count .given .0 .0) (k .before .before .before .walk .last .1 .0) in
     let all : take (length (now (a .out))) offers ≡ offers = take-all (length (now (a .out))) offers (omega (arith, few k, counted k, room)) in
     let r = answered-so (a .way) (now (a .area)) (now (a .own-name)) (now (a .out)) room _ _ _ (read k) (rw (t .before .before .is-own-name .ensures) at (sym (t .before .allows .ensures) ∙ was-true _ (t .if2 .left))) in
-    (rw (t .before .before .is-own-name .ensures) (rw (counted k) at (r .0)), c .before .before .copy-values .ensures ∙ rw all (r .1))
+    let copied : c .before .before .copy-values .last .1 .0 ≡ take (length (now (a .out))) offers ++ drop (length offers) (now (a .out)) = c .before .before .copy-values .ensures in
+    (rw (t .before .before .is-own-name .ensures) (rw (counted k) at (r .0)), copied ∙ rw all (r .1))
 
 returns-2 : tie.Need-returns-2
 returns-2 c =

@@ -41,7 +41,8 @@ loop-less c = omega arith
 loop-again : tie.Need-loop-again Inv-loop μ-loop
 loop-again c =
     let l = c .before .before .before .loop in
-    (omega arith, l .inv .1, l .inv .2, goes-on _ _ _ (l .differ) (l .i) (omega arith) (l .inv .1) (l .inv .2) (l .inv .3))
+    let a = c .before .before .before .before .args in
+    (omega arith, l .inv .1, l .inv .2, goes-on (a .n) (now (a .a)) (now (a .b)) (l .differ) (l .i) (omega arith) (l .inv .1) (l .inv .2) (l .inv .3))
 
 returns : tie.Need-returns Inv-loop μ-loop
 returns c = let l = c .before .loop in stops _ _ _ (l .differ) (l .i) (omega arith) (l .inv .3)
