@@ -10,6 +10,7 @@ use lib.Bits.{bitAnd, bitOr}
 use lib.Count.{ones, trailingZeros}
 use lib.Dec.{ltb, eqb}
 use lib.ListN.{length, set}
+use lib.Seq.{set-out}
 use Rattle.refusal.specs.Checks.{Reason, Check, pass, refuse, bare, unless, _andThen_}
 use Rattle.refusal.specs.Answers.{Answer, wrote, refused, answerTo, afterCheck}
 use Rattle.refusal.proofs.Passing.{before-passed, last-passed, test-passed, test-holds}
@@ -165,6 +166,15 @@ module _ (s : Slots) (b : s .taken < 2 ^ 64) (l : length (s .names) ≡ 64) (m :
 
 -- ---- the other cases of the calls
 
+-- slots with this word of taken ones, and with this name and this byte at a place
+abbrev written : Slots → ℕ → ℕ → ℕ → Name → Slots
+written s w i q x = record { taken = w; names = set (s .names) i x; parents = set (s .parents) i q }
+
+-- at a place that is no slot's nothing is written
+pub no-place : (s : Slots) (w i q : ℕ) → length (s .names) ≤ i → length (s .parents) ≤ i → (x : Name)
+    → written s w i q x ≡ record { taken = w; names = s .names; parents = s .parents }
+no-place s w i q g h x = λ j. record { taken = w; names = set-out (s .names) i x g j; parents = set-out (s .parents) i q h j }
+
 module _ (s : Slots) (p : Parent) where
   pub put-number : (i : ℕ) → i ≡ lowestFree (tableOf s) → putCheck (tableOf s) p ≡ pass → wrote i ≡ putAnswer (tableOf s) p
   unfolding putAnswer
@@ -174,13 +184,16 @@ module _ (s : Slots) (p : Parent) where
   unfolding putAnswer
   put-none y h = rw h
 
-  pub put-takes : (r : Slots) (i : ℕ) (x : Name) → i ≡ lowestFree (tableOf s) → putCheck (tableOf s) p ≡ pass → r ≡ taking s i x p → r ≡ putStored s x p
+  -- by what changes, whatever the name is
+  pub put-takes : (w i q : ℕ) → i ≡ lowestFree (tableOf s) → putCheck (tableOf s) p ≡ pass → w ≡ bitOr (s .taken) (2 ^ i) → q ≡ byteOf p
+      → (x : Name) → written s w i q x ≡ putStored s x p
   unfolding putStored
-  put-takes r i x e h q = rw h (q ∙ ap (λ (n : ℕ). taking s n x p) e)
+  put-takes w i q e h t k x = rw h ((λ j. written s (t j) i (k j) x) ∙ ap (λ (n : ℕ). taking s n x p) e)
 
-  pub put-leaves : (y : Reason) (x : Name) → putCheck (tableOf s) p ≡ refuse y → s ≡ putStored s x p
+  pub put-leaves : (i q : ℕ) (y : Reason) → putCheck (tableOf s) p ≡ refuse y → length (s .names) ≤ i → length (s .parents) ≤ i
+      → (x : Name) → written s (s .taken) i q x ≡ putStored s x p
   unfolding putStored
-  put-leaves y x h = rw h
+  put-leaves i q y h g m x = rw h (no-place s (s .taken) i q g m x)
 
 module _ (s : Slots) (n : ℕ) where
   pub drop-none : isLive (tableOf s) n ≡ false → refused (bare 47) ≡ dropAnswer (tableOf s) n

@@ -1,6 +1,5 @@
 // Sixty-four slots for live keys, each free or holding the name of a key and its parent (document 02, requests 12 and 13). The slots are passed by
-// value: a put takes them, and returns its answer by one function and the slots after it by another, so that no caller copies them to have both; a
-// drop returns its answer with the only word that it changes.
+// value. A put and a drop return their answer with what changes, and not the slots after it, so that a caller who is to return both copies them once.
 ghost use mathlib.Core.Path.{_≡_};
 ghost use Prim.Native.Nat.{_<_};
 ghost use lib.Count.{ones};
@@ -8,7 +7,8 @@ ghost use Rattle.refusal.specs.Answers.{checkedAs};
 ghost use Rattle.slot_rules.specs.Table.{lowestFree, liveCount, isLive};
 ghost use Rattle.slot_rules.specs.Calls.{putCheck, putAnswer, putTable, dropAnswer, dropTable};
 ghost use Rattle.slot_rules.specs.Stored.{tableOf, byteOf, putStored, dropStored};
-ghost use Rattle.slots.specs.Answers.{answerOf, withTaken};
+ghost use Rattle.slot_rules.specs.declared.Name.{Name};
+ghost use Rattle.slots.specs.Answers.{answerOf, withTaken, withPut};
 use refusal::Checked;
 use refusal::Refusal;
 use refusal::then_check;
@@ -69,36 +69,52 @@ fn check_put(slots: Slots, parent: Parent) -> Checked
     )
 }
 
-// What a put of a name below a parent answers.
-pub fn put_answer(slots: Slots, parent: Parent) -> SlotAnswer
-    ensures { λ r. ⌜ answerOf r ≡ putAnswer (tableOf slots) parent ⌝ }
+// What a put answers, and what changes in the slots but for the name: the word of taken slots, and the byte of the parent at its place. From 64 on
+// a place is no slot's.
+pub struct Put {
+    pub answer: SlotAnswer,
+    pub taken: u64,
+    pub place: u64,
+    pub parent: u8,
+}
+
+// A key is put below a parent, whatever its name is: a refusal changes nothing.
+pub fn put_key(slots: Slots, parent: Parent) -> Put
+    ensures answer { λ r. ⌜ answerOf (r .answer) ≡ putAnswer (tableOf slots) parent ⌝ }
+    ensures stored { λ r. ⌜ ((x : Name) → withPut slots r x ≡ putStored slots x parent) ⌝ }
+    ensures table { λ r. ⌜ ((x : Name) → tableOf (withPut slots r x) ≡ putTable (tableOf slots) x parent) ⌝ }
 {
     let check = check_put(slots, parent);
     match check {
-        Checked::Failed(why) => SlotAnswer::Refused(why),
+        Checked::Failed(why) => Put {
+            answer: SlotAnswer::Refused(why),
+            taken: slots.taken,
+            place: 64,
+            parent: 0,
+        },
         Checked::Passed => {
             let i = lowest_free(slots);
-            SlotAnswer::Number(i as u64)
+            let place = i as u64;
+            Put {
+                answer: SlotAnswer::Number(place),
+                taken: slots.taken | power(place),
+                place: place,
+                parent: parent_byte(parent),
+            }
         }
     }
 }
 
-// The slots after a put of a name below a parent.
-pub fn put_slots(slots: Slots, name: Name, parent: Parent) -> Slots
-    ensures stored { λ r. ⌜ r ≡ putStored slots name parent ⌝ }
-    ensures table { λ r. ⌜ tableOf r ≡ putTable (tableOf slots) name parent ⌝ }
+// The slots after a put of this name.
+pub fn after_put(slots: Slots, put: Put, name: Name) -> Slots
+    ensures { λ r. ⌜ r ≡ withPut slots put name ⌝ }
 {
-    let check = check_put(slots, parent);
     let mut next = slots;
-    match check {
-        Checked::Failed(_) => {}
-        Checked::Passed => {
-            let at = lowest_free(slots);
-            let place = at as usize;
-            next.taken = slots.taken | power(at as u64);
-            next.names[place] = name;
-            next.parents[place] = parent_byte(parent);
-        }
+    next.taken = put.taken;
+    if put.place < 64 {
+        let place = put.place as usize;
+        next.names[place] = name;
+        next.parents[place] = put.parent;
     }
     next
 }

@@ -50,12 +50,13 @@ pub fn put_slot(slots: Slots, name: Name, parent: u64) -> SlotsOutcome
     ensures stored { λ r. ⌜ r ≡ slotsOutcome (outcomeOf (putAnswer (tableOf slots) (parentFor parent))) (putStored slots name (parentFor parent)) ⌝ }
     ensures table { λ r. ⌜ tableOf (r .slots) ≡ putTable (tableOf slots) name (parentFor parent) ⌝ }
 {
-    let place = parent_for(parent);
-    let answer = returned(slots::put_answer(slots, place));
+    let put = slots::put_key(slots, parent_for(parent));
+    let said = put.answer;
+    let answer = returned(said);
     SlotsOutcome {
         refusal: answer.refusal,
         value: answer.value,
-        slots: slots::put_slots(slots, name, place),
+        slots: slots::after_put(slots, put, name),
     }
 }
 
