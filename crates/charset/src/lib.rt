@@ -1,8 +1,10 @@
-// Which bytes a label, a server ID and a domain may hold, and the position of the first byte that a text may not hold (document 01,
-// "Refusal numbers", 3, 7 and 8).
+// Which bytes a label, a server ID and a domain may hold, the position of the first byte that a text may not hold, and a text's form: its
+// length and its bytes together (document 01, "Refusal numbers", 2, 3, 7 and 8).
 ghost use mathlib.Core.Path.{_≡_};
 ghost use Rattle.charset.specs.Bytes.{byteIn, domainByte, firstBad};
+ghost use Rattle.charset.specs.Forms.{formOf};
 ghost use Rattle.refusal.specs.Checks.{within};
+use refusal::in_range;
 
 // The bytes that a label, a server ID and a domain may hold.
 pub enum ByteSet {
@@ -15,6 +17,13 @@ pub enum ByteSet {
 pub enum Scan {
     Clean,
     BadAt(usize),
+}
+
+// The form of a text: well formed, or what is wrong with it first. The position of a bad byte counts from 0.
+pub enum Form {
+    WellFormed,
+    WrongLength,
+    BadByte(usize),
 }
 
 // Whether a byte is from lo to hi, both counted.
@@ -55,4 +64,17 @@ pub fn first_bad(s: &[u8], set: ByteSet) -> Scan
         i += 1;
     }
     Scan::Clean
+}
+
+// The form of a text that should have 1 to `longest` bytes of the set. A text of another length is not scanned.
+pub fn form_of(s: &[u8], set: ByteSet, longest: usize) -> Form
+    ensures { λ r. ⌜ r ≡ formOf (byteIn set) longest (now (s .entry)) ⌝ }
+{
+    if !in_range(1, longest, s.len()) {
+        return Form::WrongLength;
+    }
+    match first_bad(s, set) {
+        Scan::Clean => Form::WellFormed,
+        Scan::BadAt(i) => Form::BadByte(i),
+    }
 }

@@ -5,7 +5,7 @@ use Prim.Native.Nat.{ℕ}
 use mathlib.Core.List.{List, _++_}
 use lib.ListN.{length, take}
 use Rattle.refusal.specs.Checks.{Check, bare, unless, within, _andThen_, check6}
-use Rattle.identifiers.specs.Checks.{labelCheck}
+use Rattle.labels.specs.Checks.{labelCheck}
 use Rattle.sha256_block.specs.Fips180.{sha256}
 
 -- 9: Session-ID not 1 to 255 bytes

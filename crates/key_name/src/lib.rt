@@ -4,7 +4,7 @@ ghost use mathlib.Core.Path.{_≡_};
 ghost use lib.ListN.{length};
 ghost use Rattle.refusal.specs.Checks.{_andThen_};
 ghost use Rattle.refusal.specs.Answers.{checkedAs, answerOf, answerTo, bufferAfter};
-ghost use Rattle.identifiers.specs.Checks.{labelCheck};
+ghost use Rattle.labels.specs.Checks.{labelCheck};
 ghost use Rattle.sha256_block.specs.Fips180.{sha256};
 ghost use Rattle.key_name.specs.Ndf64.{check9, nameCheck, nameOf};
 use refusal::Checked;
@@ -19,7 +19,7 @@ fn check_inputs(session: &[u8], label: &[u8]) -> Checked
     ensures { λ r. ⌜ checkedAs r ≡ (check9 (now (session .entry)) andThen labelCheck (now (label .entry))) ⌝ }
 {
     let id = refusal::unless(refusal::in_range(1, 255, session.len()), Refusal::SessionId);
-    let text = identifiers::check_label(label);
+    let text = labels::check_label(label);
     refusal::then_check(id, text)
 }
 

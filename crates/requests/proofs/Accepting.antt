@@ -10,9 +10,9 @@ use lib.ListN.{length}
 use Rattle.refusal.specs.Checks.{pass, within}
 use Rattle.refusal.proofs.Passing.{before-passed, last-passed, test-passed, within-low, within-high}
 use Rattle.charset.specs.Bytes.{every, labelByte}
-use Rattle.identifiers.specs.FixedLabels.{vrkLabel, dsrkLabel}
-use Rattle.identifiers.specs.Checks.{check31}
-use Rattle.identifiers.proofs.Labels.{good-label}
+use Rattle.fixed_labels.specs.FixedLabels.{vrkLabel, dsrkLabel}
+use Rattle.fixed_labels.specs.Checks.{check31}
+use Rattle.labels.proofs.Labels.{good-label}
 use Rattle.requests.specs.Requests.{Request, forUsage, forVrk, forDomain, labelOf, lengthOf, checkOf, Accepted}
 
 -- what acceptance says of a usage request

@@ -8,10 +8,12 @@ use Rattle.refusal.specs.Checks.{pass, unless, _andThen_, within}
 use Rattle.refusal.proofs.Passing.{then-pass}
 use Rattle.slices.specs.Same.{sameList}
 use Rattle.charset.specs.Bytes.{every, scanFrom, labelByte, domainByte}
-use Rattle.identifiers.specs.FixedLabels.{vrkLabel, visitedReauthLabel, dsrkLabel, rrkLabel}
-use Rattle.identifiers.specs.Syntax.{count, breaches, exempt}
-use Rattle.identifiers.specs.Checks.{labelCheck, check31, check32, check8}
-use Rattle.identifiers.proofs.Labels.{fixed-labels-pass}
+use Rattle.fixed_labels.specs.FixedLabels.{vrkLabel, visitedReauthLabel, dsrkLabel, rrkLabel, exempt}
+use Rattle.fixed_labels.specs.Checks.{check31}
+use Rattle.identifiers.specs.Checks.{check8}
+use Rattle.label_syntax.specs.Syntax.{count, breaches}
+use Rattle.labels.specs.Checks.{labelCheck, check32}
+use Rattle.labels.proofs.Labels.{fixed-labels-pass}
 use Rattle.hmac.specs.Rfc2104.{hmacSha256}
 use Rattle.hmac.proofs.Laws.{hmacSha256-length}
 use Rattle.prf_plus.specs.PrfPlus.{block, prfPlus}

@@ -4,7 +4,7 @@
 use Prim.Native.Nat.{ℕ}
 use mathlib.Core.List.{List, _++_}
 use Rattle.refusal.specs.Checks.{Check, _andThen_, check1, check6}
-use Rattle.identifiers.specs.FixedLabels.{visitedReauthLabel}
+use Rattle.fixed_labels.specs.FixedLabels.{visitedReauthLabel}
 use Rattle.identifiers.specs.Checks.{check7, check8}
 use Rattle.hmac.specs.Rfc2104.{hmacSha256}
 use Rattle.prf_plus.specs.PrfPlus.{prfPlus}

@@ -1,7 +1,7 @@
 -- `identifiers::check_domain` meets its contract.
 -- Assumes nothing.
 use Rattle.identifiers.specs.Checks.{check8}
-use Rattle.identifiers.proofs.Forms.{well-formed}
+use Rattle.charset.proofs.Forms.{well-formed}
 use Rattle.identifiers.proofs.check_domain.Statement.{statement}
 use Rattle.identifiers.proofs.check_domain.Tie as tie
 

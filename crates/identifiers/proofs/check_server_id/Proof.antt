@@ -1,7 +1,7 @@
 -- `identifiers::check_server_id` meets its contract.
 -- Assumes nothing.
 use Rattle.identifiers.specs.Checks.{check7}
-use Rattle.identifiers.proofs.Forms.{well-formed}
+use Rattle.charset.proofs.Forms.{well-formed}
 use Rattle.identifiers.proofs.check_server_id.Statement.{statement}
 use Rattle.identifiers.proofs.check_server_id.Tie as tie
 

@@ -1,0 +1,3 @@
+pub mod FixedLabels
+pub mod Checks
+pub mod Statements

@@ -1,4 +1,0 @@
-pub mod Forms
-pub mod Marks
-pub mod Breaches
-pub mod Labels

@@ -1,0 +1,35 @@
+// Tests of a label: document 01's numbers 2 and 3 ("Refusal numbers"), and document 02's 32. This is the one place that tests them.
+ghost use mathlib.Core.Path.{_≡_};
+ghost use mathlib.Core.Bool.{true};
+ghost use lib.ListN.{length};
+ghost use Rattle.labels.specs.Checks.{labelCheck, check32};
+ghost use Rattle.refusal.specs.Answers.{checkedAs};
+ghost use Rattle.refusal.specs.Checks.{within};
+use charset::ByteSet;
+use charset::Form;
+use fixed_labels::is_exempt;
+use label_syntax::is_breach;
+use refusal::Checked;
+use refusal::Refusal;
+
+// Tests the syntax of a label that 2 and 3 let pass: 32. Whether it is exempt is looked up only on a breach.
+fn check_syntax(label: &[u8]) -> Checked
+    requires { ⌜ within 1 255 (length (now label)) ≡ true ⌝ }
+    ensures { λ r. ⌜ checkedAs r ≡ check32 (now (label .entry)) ⌝ }
+{
+    if !is_breach(label) {
+        return Checked::Passed;
+    }
+    refusal::unless(is_exempt(label), Refusal::LabelSyntax)
+}
+
+// Tests a label, for usage keys and for names: 2, 3, 32. The position that the scan found goes with 3.
+pub fn check_label(label: &[u8]) -> Checked
+    ensures { λ r. ⌜ checkedAs r ≡ labelCheck (now (label .entry)) ⌝ }
+{
+    match charset::form_of(label, ByteSet::Label, 255) {
+        Form::WellFormed => check_syntax(label),
+        Form::WrongLength => Checked::Failed(Refusal::LabelLength),
+        Form::BadByte(i) => Checked::Failed(Refusal::LabelByte(i)),
+    }
+}
