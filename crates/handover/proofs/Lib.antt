@@ -1,4 +1,3 @@
 mod Answers
 mod Derived
 mod Names
-mod Texts

@@ -1,30 +1,33 @@
 // The handover keys of source document 003, sections 4.2, 4.3 and 5 (document 02, request 2): the R0-Key under an rRK, the R1-Key under an R0-Key,
 // and the R0Name. A refusal alters nothing, and nothing is derived before all tests have passed.
 ghost use mathlib.Core.Path.{_≡_};
-ghost use mathlib.Core.List.{_++_};
-ghost use Prim.Native.Nat.{_+_, _≤_};
+ghost use mathlib.Core.List.{List, _++_};
+ghost use Prim.Native.Nat.{ℕ, _+_, _≤_};
 ghost use lib.ListN.{length, take, drop, set};
 ghost use lib.Seq.{paste};
-ghost use Rattle.slices.specs.Ascii.{ascii};
 ghost use Rattle.refusal.specs.Checks as Checks;
 ghost use Rattle.refusal.specs.Checks.{bare, _andThen_, check6};
 ghost use Rattle.refusal.specs.Answers.{checkedAs, answerOf, answerTo, bufferAfter};
+ghost use Rattle.fips180.specs.Hash.{padding};
 ghost use Rattle.hmac_sha1.specs.Rfc2104.{hmacSha1};
 ghost use Rattle.handover_rules.specs.Handover.{
   check34,
   r0Check,
   r1Check,
   r0NameCheck,
-  r0Input,
-  r1Input,
   r0Key,
   r1Key,
   r0Name,
 };
+ghost use Rattle.handover.specs.Internal.{IsText};
+use handover_texts::name_text;
+use handover_texts::r0_text;
+use handover_texts::r1_text;
 use hmac_sha1::Keyed;
 use refusal::Checked;
 use refusal::Refusal;
 use refusal::Written;
+use sha1_block::compress_blocks;
 
 // The number of bytes in an rRK, in an R0-Key or R1-Key, and in an R0Name.
 const RRK: usize = 64;
@@ -58,45 +61,39 @@ fn put(bytes: &mut [u8], at: usize, part: &[u8], n: usize)
     }
 }
 
-// What the first iteration of an R0-Key hands to HMAC: 1 in two bytes, the label, a zero byte, AD-ID, SPA, and 256 in two bytes.
-fn r0_text(ad_id: &[u8], spa: &[u8]) -> [u8; 44]
-    requires { ⌜ (length (now «ad_id») ≡ 16) × (length (now spa) ≡ 6) ⌝ }
-    ensures { λ r. ⌜ r ≡ r0Input (now («ad_id» .entry)) (now (spa .entry)) 1 ⌝ }
+// An AD-ID or AN-ID, and an SPA, whose length was tested.
+fn id(s: &[u8]) -> [u8; ID]
+    requires { ⌜ length (now s) ≡ 16 ⌝ }
+    ensures { λ r. ⌜ r ≡ now (s .entry) ⌝ }
 {
-    let mut text = [0u8; 44];
-    bytes::copy(b"\x01\x00R0 Key derivation\x00", &mut text);
-    text[43] = 1;
-    put(&mut text, 36, spa, SPA);
-    put(&mut text, 20, ad_id, ID);
-    text
+    let mut r = [0u8; ID];
+    bytes::copy(&s[..ID], &mut r);
+    r
 }
 
-// The same for an R1-Key, whose identifiers are AD-ID, AN-ID and SPA.
-fn r1_text(ad_id: &[u8], an_id: &[u8], spa: &[u8]) -> [u8; 60]
-    requires { ⌜ (length (now «ad_id») ≡ 16) × (length (now «an_id») ≡ 16) × (length (now spa) ≡ 6) ⌝ }
-    ensures { λ r. ⌜ r ≡ r1Input (now («ad_id» .entry)) (now («an_id» .entry)) (now (spa .entry)) 1 ⌝ }
+fn address(s: &[u8]) -> [u8; SPA]
+    requires { ⌜ length (now s) ≡ 6 ⌝ }
+    ensures { λ r. ⌜ r ≡ now (s .entry) ⌝ }
 {
-    let mut text = [0u8; 60];
-    bytes::copy(b"\x01\x00R1 Key derivation\x00", &mut text);
-    text[59] = 1;
-    put(&mut text, 52, spa, SPA);
-    put(&mut text, 36, an_id, ID);
-    put(&mut text, 20, ad_id, ID);
-    text
+    let mut r = [0u8; SPA];
+    bytes::copy(&s[..SPA], &mut r);
+    r
 }
 
-// Two iterations of the KDF under a key: the 32 bytes at the start of out are those of the MACs of the text, which begins with 1, and of the
-// text with 2 in its place.
+// Two iterations of the KDF under a key of at most a block: the 32 bytes at the start of out are those of the MACs of the text, which begins with 1,
+// and of the text with 2 in its place. The text m stands with its padding, and its blocks are compressed where they stand.
 fn derive(key: &[u8], text: &mut [u8], out: &mut [u8])
+    requires { ⌜ length (now key) ≤ 64 ⌝ }
     requires { ⌜ 1 ≤ length (now text) ⌝ }
     requires { ⌜ 32 ≤ length (now out) ⌝ }
-    ensures { λ _. ⌜ now (out .exit) ≡ take 32 (hmacSha1 (now (key .entry)) (now (text .entry)) ++ hmacSha1 (now (key .entry)) (set (now (text .entry)) 0 2)) ++ drop 32 (now (out .entry)) ⌝ }
+    ensures { λ _. ⌜ ((m : List ℕ) → IsText m → now (text .entry) ≡ m ++ padding (64 + length m) → now (out .exit) ≡ take 32 (hmacSha1 (now (key .entry)) m ++ hmacSha1 (now (key .entry)) (set m 0 2)) ++ drop 32 (now (out .entry))) ⌝ }
 {
-    let keyed = Keyed::new(key);
-    let first = keyed.mac_of(text);
+    let keyed = Keyed::of_block(hmac_block::filled(key));
+    let inner = keyed.inner;
+    let first = keyed.close(compress_blocks(inner, text));
     put(out, 0, &first, 20);
     text[0] = 2;
-    let second = keyed.mac_of(text);
+    let second = keyed.close(compress_blocks(inner, text));
     put(out, 20, &second, 12);
 }
 
@@ -109,7 +106,7 @@ pub fn r0_key(rrk: &[u8], ad_id: &[u8], spa: &[u8], out: &mut [u8]) -> Written
     match check_call(rrk.len() == RRK, ids, KEY, out.len()) {
         Checked::Failed(why) => Written::Refused(why),
         Checked::Passed => {
-            let mut text = r0_text(ad_id, spa);
+            let mut text = r0_text(id(ad_id), address(spa));
             derive(&rrk[..KEY], &mut text, out);
             Written::Wrote(KEY)
         }
@@ -125,23 +122,11 @@ pub fn r1_key(r0_key: &[u8], ad_id: &[u8], an_id: &[u8], spa: &[u8], out: &mut [
     match check_call(r0_key.len() == KEY, ids, KEY, out.len()) {
         Checked::Failed(why) => Written::Refused(why),
         Checked::Passed => {
-            let mut text = r1_text(ad_id, an_id, spa);
+            let mut text = r1_text(id(ad_id), id(an_id), address(spa));
             derive(r0_key, &mut text, out);
             Written::Wrote(KEY)
         }
     }
-}
-
-// What a name's hash takes after the R0-Key: the label, AD-ID and SPA.
-fn name_text(ad_id: &[u8], spa: &[u8]) -> [u8; 33]
-    requires { ⌜ (length (now «ad_id») ≡ 16) × (length (now spa) ≡ 6) ⌝ }
-    ensures { λ r. ⌜ r ≡ ascii "R0 Key Name" ++ (now («ad_id» .entry) ++ now (spa .entry)) ⌝ }
-{
-    let mut text = [0u8; 33];
-    bytes::copy(b"R0 Key Name", &mut text);
-    put(&mut text, 27, spa, SPA);
-    put(&mut text, 11, ad_id, ID);
-    text
 }
 
 // Writes the R0Name of an R0-Key: 16 bytes at the start of out.
@@ -153,7 +138,7 @@ pub fn r0_name<'a>(r0_key: &'a [u8], ad_id: &'a [u8], spa: &'a [u8], out: &mut [
     match check_call(r0_key.len() == KEY, ids, NAME, out.len()) {
         Checked::Failed(why) => Written::Refused(why),
         Checked::Passed => {
-            let text = name_text(ad_id, spa);
+            let text = name_text(id(ad_id), address(spa));
             let hash = sha256::digest_of_two(r0_key, &text);
             bytes::copy(&hash[..NAME], out);
             Written::Wrote(NAME)

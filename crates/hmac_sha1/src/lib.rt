@@ -1,11 +1,14 @@
 // HMAC-SHA-1 (RFC 2104). A caller that has many messages under one key keeps the hash values after the key's two blocks in a `Keyed`
-// (section 4), and each message starts with them.
+// (section 4), and each message starts with them. One that has a message with its padding compresses it from the inner value, and closes it.
 ghost use mathlib.Core.Path.{_≡_};
-ghost use Rattle.fips180.specs.Sha1.{sha1, compress, H0};
+ghost use Prim.Native.Nat.{_+_, _<_};
+ghost use lib.ListN.{length};
+ghost use Rattle.fips180.specs.Sha1.{sha1, compress, H0, digest};
 ghost use Rattle.rfc2104.specs.Rfc2104 as Rfc2104;
 ghost use Rattle.rfc2104.specs.Rfc2104.{keyBlock, ipad, opad};
 ghost use Rattle.hmac_sha1.specs.Rfc2104.{hmacSha1};
-ghost use Rattle.hmac_sha1.specs.Keyed.{keyValue, macByValues};
+ghost use Rattle.hmac_sha1.specs.Keyed.{keyValue, hashAfter, macByValues};
+ghost use Rattle.hmac_sha1.specs.Internal.{wordMasked};
 use sha1::Sha1;
 
 // The bytes that the key's block is masked with, for the inner hash and for the outer one.
@@ -24,29 +27,64 @@ fn key_block(key: &[u8]) -> [u8; Sha1::BLOCK]
     hmac_block::filled(&short)
 }
 
-// The hash value after the key's block masked by a pad.
-fn key_value(block: [u8; Sha1::BLOCK], pad: u8) -> [u32; 5]
-    ensures { λ r. ⌜ r ≡ compress H0 (Rfc2104.masked block pad) ⌝ }
+// Masks the four bytes from index i on, as one word: a core of 32 bits takes no longer for four bytes than for one.
+fn mask_word(block: &mut [u8], i: usize, pad: u8)
+    requires { ⌜ i + 3 < length (now block) ⌝ }
+    ensures { λ _. ⌜ now (block .exit) ≡ wordMasked (now (block .entry)) i pad ⌝ }
 {
-    sha1::value_of(hmac_block::masked(block, pad))
+    let word = slices::from_be32(block[i], block[i + 1], block[i + 2], block[i + 3]);
+    let masked = slices::be32(word ^ slices::from_be32(pad, pad, pad, pad));
+    block[i] = masked[0];
+    block[i + 1] = masked[1];
+    block[i + 2] = masked[2];
+    block[i + 3] = masked[3];
+}
+
+// Masks each byte of a block.
+fn mask(block: &mut [u8; Sha1::BLOCK], pad: u8)
+    requires { ⌜ length (now block) ≡ 64 ⌝ }
+    ensures { λ _. ⌜ now (block .exit) ≡ Rfc2104.masked (now (block .entry)) pad ⌝ }
+{
+    for j in 0..16 {
+        mask_word(block, 4 * j, pad);
+    }
 }
 
 // A key as it is kept for many messages: the hash values that the inner and the outer hash start with.
 pub struct Keyed {
-    inner: [u32; 5],
+    pub inner: [u32; 5],
     outer: [u32; 5],
 }
 
 impl Keyed {
+    // The hash values of a key that is given as its block: one of at most 64 bytes, with zeros after it.
+    pub fn of_block(block: [u8; Sha1::BLOCK]) -> Self
+        ensures inner { λ r. ⌜ r .inner ≡ compress H0 (Rfc2104.masked block ipad) ⌝ }
+        ensures outer { λ r. ⌜ r .outer ≡ compress H0 (Rfc2104.masked block opad) ⌝ }
+    {
+        let mut first = block;
+        mask(&mut first, IPAD);
+        let inner = sha1::value_of(first);
+        let mut second = block;
+        mask(&mut second, OPAD);
+        let outer = sha1::value_of(second);
+        Keyed { inner, outer }
+    }
+
     // The hash values of a key. The key's block is not kept beside them.
     pub fn new(key: &[u8]) -> Self
         ensures inner { λ r. ⌜ r .inner ≡ keyValue (now (key .entry)) ipad ⌝ }
         ensures outer { λ r. ⌜ r .outer ≡ keyValue (now (key .entry)) opad ⌝ }
     {
-        let block = key_block(key);
-        let inner = key_value(block, IPAD);
-        let outer = key_value(block, OPAD);
-        Keyed { inner, outer }
+        Keyed::of_block(key_block(key))
+    }
+
+    // The MAC of a message, from the last hash value of its inner hash: the outer hash.
+    pub fn close(self, value: [u32; 5]) -> [u8; Sha1::DIGEST]
+        ensures { λ r. ⌜ r ≡ hashAfter (self .outer) (digest value) ⌝ }
+    {
+        let outer = self.outer;
+        Sha1::after(outer).finish_with_digest(value)
     }
 
     // The MAC of a message.
@@ -54,9 +92,8 @@ impl Keyed {
         ensures { λ r. ⌜ r ≡ macByValues (self .inner) (self .outer) (now (message .entry)) ⌝ }
     {
         let inner = self.inner;
-        let outer = self.outer;
         let value = Sha1::after(inner).value_with(message);
-        Sha1::after(outer).finish_with_digest(value)
+        self.close(value)
     }
 }
 

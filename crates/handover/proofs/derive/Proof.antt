@@ -1,18 +1,22 @@
 -- `handover::derive` meets its contract.
 -- Assumes nothing.
 use denote.Ref.{now}
-use lib.ListN.{set}
-use Rattle.hmac_sha1.proofs.Laws.{mac-by-values}
 use Rattle.handover.proofs.Derived.{derived}
 use borrow.Author.Needs.{needs}
 use Rattle.handover.proofs.derive.Statement.{statement}
 use Rattle.handover.proofs.derive.Tie as tie
 
-new-requires : tie.Need-new-requires
-new-requires c κs = search needs
+filled-requires : tie.Need-filled-requires
+filled-requires c κs = search needs
 
-mac-of-requires : tie.Need-mac-of-requires
-mac-of-requires c κs = search needs
+of-block-requires : tie.Need-of-block-requires
+of-block-requires c κs = search needs
+
+compress-blocks-requires : tie.Need-compress-blocks-requires
+compress-blocks-requires c κs = search needs
+
+close-requires : tie.Need-close-requires
+close-requires c κs = search needs
 
 slice-aggregate-put : tie.Need-slice-aggregate-put
 slice-aggregate-put c = search needs
@@ -23,8 +27,11 @@ put-requires c κs = search needs
 slice-write-text : tie.Need-slice-write-text
 slice-write-text c = search needs
 
-mac-of-requires-2 : tie.Need-mac-of-requires-2
-mac-of-requires-2 c κs = search needs
+compress-blocks-requires-2 : tie.Need-compress-blocks-requires-2
+compress-blocks-requires-2 c κs = search needs
+
+close-requires-2 : tie.Need-close-requires-2
+close-requires-2 c κs = search needs
 
 slice-aggregate-put-2 : tie.Need-slice-aggregate-put-2
 slice-aggregate-put-2 c = search needs
@@ -41,27 +48,35 @@ same-length-2 c = search needs
 returns : tie.Need-returns
 returns c =
     let p2 = c .before .before in
-    let m2 = p2 .before .before .before in
-    let p1 = m2 .before .before .before .before in
-    let m1 = p1 .before .before .before in
-    let k = m1 .before .before in
-    let a = k .before .before .before .before .args in
-    let key = now (a .key) in
-    let text = now (a .text) in
-    let inner = k .new .ensures .0 in
-    let outer = k .new .ensures .1 in
-    derived key text (now (a .out)) (mac-by-values key text inner outer (m1 .mac-of .ensures)) (p1 .put .ensures) (mac-by-values key (set text 0 2) inner outer (m2 .mac-of2 .ensures)) (p2 .put2 .ensures)
+    let d2 = p2 .before .before .before in
+    let v2 = d2 .before in
+    let p1 = v2 .before .before .before .before in
+    let d1 = p1 .before .before .before in
+    let v1 = d1 .before in
+    let o = v1 .before .before .before in
+    let f = o .before in
+    let k = f .before .before .before .before in
+    λ m is e. derived (now (k .args .key)) (k .pre .0) (f .filled .ensures) (o .of-block .ensures .0) (o .of-block .ensures .1) m (now (k .args .text)) (now (k .args .out)) is e
+    (v1 .compress-blocks .ensures)
+    (d1 .close .ensures)
+    (p1 .put .ensures)
+    (v2 .compress-blocks2 .ensures)
+    (d2 .close2 .ensures)
+    (p2 .put2 .ensures)
 
 pub derive-spec : {M : Type 1} → statement M
 derive-spec =
     tie.close
     (tie.spec
-    new-requires
-    mac-of-requires
+    filled-requires
+    of-block-requires
+    compress-blocks-requires
+    close-requires
     slice-aggregate-put
     put-requires
     slice-write-text
-    mac-of-requires-2
+    compress-blocks-requires-2
+    close-requires-2
     slice-aggregate-put-2
     put-requires-2
     same-length

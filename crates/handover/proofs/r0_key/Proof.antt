@@ -2,15 +2,15 @@
 -- Assumes nothing.
 use mathlib.Core.Path.{sym}
 use mathlib.Core.Bool.{_&&_}
+use native.Mathlib.Omega.{arith}
 use denote.Ref.{now}
 use lib.ListN.{length}
 use Rattle.refusal.specs.Checks.{check6}
 use Rattle.refusal.proofs.Answering.{passed, refused-so, written-so}
-use Rattle.handover_rules.specs.Handover.{check34, isId, isSpa, r0Check, r0Key}
+use Rattle.handover_rules.specs.Handover.{check34, isId, isSpa, r0Check, r0Input, r0Key}
 use Rattle.handover_rules.proofs.Accepting.{r0-lengths}
 use Rattle.handover.proofs.Answers.{half-length, room-passed}
-use Rattle.handover.proofs.Derived.{r0-put}
-use Rattle.handover.proofs.Texts.{r0-begun}
+use Rattle.handover.proofs.Derived.{r0-put, r0-is-text, r0-padded, some-bytes}
 use borrow.Author.Needs.{needs}
 use Rattle.handover.proofs.r0_key.Statement.{statement}
 use Rattle.handover.proofs.r0_key.Tie as tie
@@ -24,16 +24,27 @@ enum-known-why c = search needs
 enum-told : tie.Need-enum-told
 enum-told c = search needs
 
-r0-text-requires : tie.Need-r0-text-requires
+id-requires : tie.Need-id-requires
 unfolding r0Check
-r0-text-requires c κs =
+id-requires c κs =
     let k = c .before .before in
     let a = k .before .before .before .before .before .args in
-    r0-lengths (now (a .rrk)) (now (a .ad-id)) (now (a .spa)) (length (now (a .out))) (passed (k .check-call .ensures) (c .enum-told .given .1))
+    r0-lengths (now (a .rrk)) (now (a .ad-id)) (now (a .spa)) (length (now (a .out))) (passed (k .check-call .ensures) (c .enum-told .given .1)) .0
+
+address-requires : tie.Need-address-requires
+unfolding r0Check
+address-requires c κs =
+    let t = c .before in
+    let k = t .before .before in
+    let a = k .before .before .before .before .before .args in
+    r0-lengths (now (a .rrk)) (now (a .ad-id)) (now (a .spa)) (length (now (a .out))) (passed (k .check-call .ensures) (t .enum-told .given .1)) .1
+
+r0-text-requires : tie.Need-r0-text-requires
+r0-text-requires c κs = search needs
 
 slice-aggregate-derive : tie.Need-slice-aggregate-derive
 slice-aggregate-derive c =
-    let t = c .before .before in
+    let t = c .before .before .before .before in
     let k = t .before .before in
     let a = k .before .before .before .before .before .args in
     sym (half-length (now (a .rrk)) (check34 (isId (now (a .ad-id)) && isSpa (now (a .spa)))) (check6 32 (length (now (a .out)))) (passed (k .check-call .ensures) (t .enum-told .given .1)))
@@ -42,11 +53,25 @@ slice-aggregate-derive-2 : tie.Need-slice-aggregate-derive-2
 slice-aggregate-derive-2 c = search needs
 
 derive-requires : tie.Need-derive-requires
+unfolding r0Check
 derive-requires c κs =
     let x = c .before .before .before in
-    let t = x .before in
+    let s = x .before in
+    let i = s .before in
+    let t = i .before in
     let k = t .before .before in
-    (r0-begun _ _ (x .r0-text .ensures), room-passed _ 32 _ (passed (k .check-call .ensures) (t .enum-told .given .1)))
+    let a = k .before .before .before .before .before .args in
+    let ad = now (a .ad-id) in
+    let spa = now (a .spa) in
+    let lengths = r0-lengths (now (a .rrk)) ad spa (length (now (a .out))) (passed (k .check-call .ensures) (t .enum-told .given .1)) in
+    let is = r0-is-text ad spa (lengths .0) (lengths .1) in
+    let half = half-length (now (a .rrk)) (check34 (isId ad && isSpa spa)) (check6 32 (length (now (a .out)))) (passed (k .check-call .ensures) (t .enum-told .given .1)) in (
+      omega arith,
+      (
+        some-bytes (r0Input ad spa 1) _ is (r0-padded ad spa (lengths .0) (lengths .1) (i .id .ensures) (s .address .ensures) (x .r0-text .ensures)),
+        room-passed _ 32 _ (passed (k .check-call .ensures) (t .enum-told .given .1)),
+      ),
+    )
 
 returns : tie.Need-returns
 unfolding r0Check
@@ -60,12 +85,19 @@ unfolding r0Check
 returns-2 c =
     let d = c .before .before .before in
     let x = d .before .before .before .before in
-    let t = x .before in
+    let s = x .before in
+    let i = s .before in
+    let t = i .before in
     let k = t .before .before in
     let a = k .before .before .before .before .before .args in
+    let ad = now (a .ad-id) in
+    let spa = now (a .spa) in
+    let lengths = r0-lengths (now (a .rrk)) ad spa (length (now (a .out))) (passed (k .check-call .ensures) (t .enum-told .given .1)) in
     let out = now (a .out) in
-    written-so 32 (r0Key (now (a .rrk)) (now (a .ad-id)) (now (a .spa))) out (k .check-call .ensures) (t .enum-told .given .1)
-    (r0-put (now (a .rrk)) (now (a .ad-id)) (now (a .spa)) out (x .r0-text .ensures) (d .derive .ensures))
+    written-so 32 (r0Key (now (a .rrk)) ad spa) out (k .check-call .ensures) (t .enum-told .given .1)
+    (r0-put (now (a .rrk)) ad spa out
+    (d .derive .ensures (r0Input ad spa 1) (r0-is-text ad spa (lengths .0) (lengths .1))
+    (r0-padded ad spa (lengths .0) (lengths .1) (i .id .ensures) (s .address .ensures) (x .r0-text .ensures))))
 
 pub r0-key-spec : {M : Type 1} → statement M
 r0-key-spec =
@@ -74,6 +106,8 @@ r0-key-spec =
     check-call-requires
     enum-known-why
     enum-told
+    id-requires
+    address-requires
     r0-text-requires
     slice-aggregate-derive
     slice-aggregate-derive-2

@@ -1,8 +1,10 @@
 -- `handover::r0_name` meets its contract.
 -- Assumes nothing.
-use mathlib.Core.Path.{sym}
+use mathlib.Core.Path.{sym, _∙_}
+use mathlib.Core.List.{_++_}
 use denote.Ref.{now}
 use lib.ListN.{length}
+use Rattle.slices.specs.Ascii.{ascii}
 use Rattle.refusal.proofs.Answering.{passed, refused-so, written-so}
 use Rattle.handover_rules.specs.Handover.{r0NameCheck, r0Name}
 use Rattle.handover.proofs.Names.{name-size, name-fits, name-lengths, name-put}
@@ -19,12 +21,23 @@ enum-known-why c = search needs
 enum-told : tie.Need-enum-told
 enum-told c = search needs
 
-name-text-requires : tie.Need-name-text-requires
+id-requires : tie.Need-id-requires
 unfolding r0NameCheck
-name-text-requires c κs =
+id-requires c κs =
     let k = c .before .before in
     let a = k .before .before .before .before .before .args in
-    name-lengths (now (a .r0-key)) (now (a .ad-id)) (now (a .spa)) (length (now (a .out))) (passed (k .check-call .ensures) (c .enum-told .given .1))
+    name-lengths (now (a .r0-key)) (now (a .ad-id)) (now (a .spa)) (length (now (a .out))) (passed (k .check-call .ensures) (c .enum-told .given .1)) .0
+
+address-requires : tie.Need-address-requires
+unfolding r0NameCheck
+address-requires c κs =
+    let t = c .before in
+    let k = t .before .before in
+    let a = k .before .before .before .before .before .args in
+    name-lengths (now (a .r0-key)) (now (a .ad-id)) (now (a .spa)) (length (now (a .out))) (passed (k .check-call .ensures) (t .enum-told .given .1)) .1
+
+name-text-requires : tie.Need-name-text-requires
+name-text-requires c κs = search needs
 
 slice-aggregate-digest-of-two : tie.Need-slice-aggregate-digest-of-two
 slice-aggregate-digest-of-two c = search needs
@@ -41,7 +54,7 @@ slice-aggregate-copy c = sym (name-size _ (c .before .digest-of-two .ensures))
 copy-requires : tie.Need-copy-requires
 copy-requires c κs =
     let d = c .before .before in
-    let t = d .before .before .before in
+    let t = d .before .before .before .before .before in
     let k = t .before .before in
     name-fits _ (now (k .before .before .before .before .before .args .out)) _ (d .digest-of-two .ensures) (passed (k .check-call .ensures) (t .enum-told .given .1))
 
@@ -58,11 +71,14 @@ returns-2 c =
     let p = c .before .before in
     let d = p .before .before .before in
     let x = d .before .before in
-    let t = x .before in
+    let s = x .before in
+    let i = s .before in
+    let t = i .before in
     let k = t .before .before in
     let a = k .before .before .before .before .before .args in
+    let text = x .name-text .ensures ∙ (λ j. ascii "R0 Key Name" ++ (i .id .ensures j ++ s .address .ensures j)) in
     written-so 16 (r0Name (now (a .r0-key)) (now (a .ad-id)) (now (a .spa))) (now (a .out)) (k .check-call .ensures) (t .enum-told .given .1)
-    (name-put (now (a .r0-key)) (now (a .ad-id)) (now (a .spa)) (now (a .out)) (x .name-text .ensures) (d .digest-of-two .ensures) (p .copy .ensures .1))
+    (name-put (now (a .r0-key)) (now (a .ad-id)) (now (a .spa)) (now (a .out)) text (d .digest-of-two .ensures) (p .copy .ensures .1))
 
 pub r0-name-spec : {M : Type 1} → statement M
 r0-name-spec =
@@ -71,6 +87,8 @@ r0-name-spec =
     check-call-requires
     enum-known-why
     enum-told
+    id-requires
+    address-requires
     name-text-requires
     slice-aggregate-digest-of-two
     digest-of-two-requires

@@ -1,14 +1,15 @@
 -- `handover::r1_key` meets its contract.
 -- Assumes nothing.
+use mathlib.Core.Bool.{_&&_}
 use native.Mathlib.Omega.{arith}
 use denote.Ref.{now}
 use lib.ListN.{length}
+use Rattle.refusal.specs.Checks.{check6}
 use Rattle.refusal.proofs.Answering.{passed, refused-so, written-so}
-use Rattle.handover_rules.specs.Handover.{r1Check, r1Key}
+use Rattle.handover_rules.specs.Handover.{check34, isId, isSpa, r1Check, r1Input, r1Key}
 use Rattle.handover_rules.proofs.Accepting.{r1-lengths}
-use Rattle.handover.proofs.Answers.{room-passed}
-use Rattle.handover.proofs.Derived.{r1-put}
-use Rattle.handover.proofs.Texts.{r1-begun}
+use Rattle.handover.proofs.Answers.{key-length, room-passed}
+use Rattle.handover.proofs.Derived.{r1-put, r1-is-text, r1-padded, some-bytes}
 use borrow.Author.Needs.{needs}
 use Rattle.handover.proofs.r1_key.Statement.{statement}
 use Rattle.handover.proofs.r1_key.Tie as tie
@@ -22,23 +23,57 @@ enum-known-why c = search needs
 enum-told : tie.Need-enum-told
 enum-told c = search needs
 
-r1-text-requires : tie.Need-r1-text-requires
+id-requires : tie.Need-id-requires
 unfolding r1Check
-r1-text-requires c κs =
+id-requires c κs =
     let k = c .before .before in
     let a = k .before .before .before .before .before .before .args in
-    let lengths = r1-lengths (now (a .r0-key)) (now (a .ad-id)) (now (a .an-id)) (now (a .spa)) (length (now (a .out))) (passed (k .check-call .ensures) (c .enum-told .given .1)) in
-    (omega arith, omega arith, omega arith)
+    r1-lengths (now (a .r0-key)) (now (a .ad-id)) (now (a .an-id)) (now (a .spa)) (length (now (a .out))) (passed (k .check-call .ensures) (c .enum-told .given .1)) .0
+
+id-requires-2 : tie.Need-id-requires-2
+unfolding r1Check
+id-requires-2 c κs =
+    let t = c .before in
+    let k = t .before .before in
+    let a = k .before .before .before .before .before .before .args in
+    r1-lengths (now (a .r0-key)) (now (a .ad-id)) (now (a .an-id)) (now (a .spa)) (length (now (a .out))) (passed (k .check-call .ensures) (t .enum-told .given .1)) .1
+
+address-requires : tie.Need-address-requires
+unfolding r1Check
+address-requires c κs =
+    let t = c .before .before in
+    let k = t .before .before in
+    let a = k .before .before .before .before .before .before .args in
+    r1-lengths (now (a .r0-key)) (now (a .ad-id)) (now (a .an-id)) (now (a .spa)) (length (now (a .out))) (passed (k .check-call .ensures) (t .enum-told .given .1)) .2
+
+r1-text-requires : tie.Need-r1-text-requires
+r1-text-requires c κs = search needs
 
 slice-aggregate-derive : tie.Need-slice-aggregate-derive
 slice-aggregate-derive c = search needs
 
 derive-requires : tie.Need-derive-requires
+unfolding r1Check
 derive-requires c κs =
     let x = c .before .before in
-    let t = x .before in
+    let s = x .before in
+    let n = s .before in
+    let i = n .before in
+    let t = i .before in
     let k = t .before .before in
-    (r1-begun _ _ _ (x .r1-text .ensures), room-passed _ 32 _ (passed (k .check-call .ensures) (t .enum-told .given .1)))
+    let a = k .before .before .before .before .before .before .args in
+    let ad = now (a .ad-id) in
+    let an = now (a .an-id) in
+    let spa = now (a .spa) in
+    let lengths = r1-lengths (now (a .r0-key)) ad an spa (length (now (a .out))) (passed (k .check-call .ensures) (t .enum-told .given .1)) in
+    let is = r1-is-text ad an spa (lengths .0) (lengths .1) (lengths .2) in
+    let key = key-length 32 (now (a .r0-key)) (check34 (isId ad && isId an && isSpa spa)) (check6 32 (length (now (a .out)))) (passed (k .check-call .ensures) (t .enum-told .given .1)) in (
+      omega arith,
+      (
+        some-bytes (r1Input ad an spa 1) _ is (r1-padded ad an spa (lengths .0) (lengths .1) (lengths .2) (i .id .ensures) (n .id2 .ensures) (s .address .ensures) (x .r1-text .ensures)),
+        room-passed _ 32 _ (passed (k .check-call .ensures) (t .enum-told .given .1)),
+      ),
+    )
 
 returns : tie.Need-returns
 unfolding r1Check
@@ -52,12 +87,21 @@ unfolding r1Check
 returns-2 c =
     let d = c .before .before .before in
     let x = d .before .before .before in
-    let t = x .before in
+    let s = x .before in
+    let n = s .before in
+    let i = n .before in
+    let t = i .before in
     let k = t .before .before in
     let a = k .before .before .before .before .before .before .args in
+    let ad = now (a .ad-id) in
+    let an = now (a .an-id) in
+    let spa = now (a .spa) in
+    let lengths = r1-lengths (now (a .r0-key)) ad an spa (length (now (a .out))) (passed (k .check-call .ensures) (t .enum-told .given .1)) in
     let out = now (a .out) in
-    written-so 32 (r1Key (now (a .r0-key)) (now (a .ad-id)) (now (a .an-id)) (now (a .spa))) out (k .check-call .ensures) (t .enum-told .given .1)
-    (r1-put (now (a .r0-key)) (now (a .ad-id)) (now (a .an-id)) (now (a .spa)) out (x .r1-text .ensures) (d .derive .ensures))
+    written-so 32 (r1Key (now (a .r0-key)) ad an spa) out (k .check-call .ensures) (t .enum-told .given .1)
+    (r1-put (now (a .r0-key)) ad an spa out
+    (d .derive .ensures (r1Input ad an spa 1) (r1-is-text ad an spa (lengths .0) (lengths .1) (lengths .2))
+    (r1-padded ad an spa (lengths .0) (lengths .1) (lengths .2) (i .id .ensures) (n .id2 .ensures) (s .address .ensures) (x .r1-text .ensures))))
 
 pub r1-key-spec : {M : Type 1} → statement M
 r1-key-spec =
@@ -66,6 +110,9 @@ r1-key-spec =
     check-call-requires
     enum-known-why
     enum-told
+    id-requires
+    id-requires-2
+    address-requires
     r1-text-requires
     slice-aggregate-derive
     derive-requires

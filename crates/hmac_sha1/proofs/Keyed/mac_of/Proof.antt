@@ -12,26 +12,15 @@ after-requires c κs = search needs
 value-with-requires : tie.Need-value-with-requires
 value-with-requires c κs = search needs
 
-after-requires-2 : tie.Need-after-requires-2
-after-requires-2 c κs = search needs
-
-finish-with-digest-requires : tie.Need-finish-with-digest-requires
-finish-with-digest-requires c κs = search needs
+close-requires : tie.Need-close-requires
+close-requires c κs = search needs
 
 returns : tie.Need-returns
 returns c =
-    let q = c .before in
-    let v = q .before in
+    let v = c .before in
     let p = v .before in
-    let a = p .before .before .before .before .args in
-    mac-of-law (a .self .inner) (a .self .outer) (now (a .message)) (p .after .ensures) (v .value-with .ensures) (q .after2 .ensures) (c .finish-with-digest .ensures)
+    let a = p .before .before .before .args in
+    mac-of-law (a .self .inner) (a .self .outer) (now (a .message)) (p .after .ensures) (v .value-with .ensures) (c .close .ensures)
 
 pub mac-of-spec : {M : Type 1} → statement M
-mac-of-spec =
-    tie.close
-    (tie.spec
-    after-requires
-    value-with-requires
-    after-requires-2
-    finish-with-digest-requires
-    returns)
+mac-of-spec = tie.close (tie.spec after-requires value-with-requires close-requires returns)

@@ -1,0 +1,132 @@
+-- `handover_texts::r1_text` meets its contract.
+-- Assumes nothing.
+use native.Mathlib.Omega.{arith}
+use lib.ListN.{length}
+use mathlib.Core.Path.{_≡_}
+use Rattle.handover_rules.specs.Handover.{r1Label}
+use Rattle.handover_texts.proofs.Texts.{r1-begun-size, r1-spa-size, r1-size, r1-laid}
+use borrow.Author.Needs.{needs}
+use Rattle.handover_texts.proofs.r1_text.Statement.{statement}
+use Rattle.handover_texts.proofs.r1_text.Tie as tie
+
+-- the lengths that the identifiers have by their types
+sizes : (c : tie.Start) → (length (c .args .t1) ≡ 16) × (length (c .args .t2) ≡ 16) × (length (c .args .t3) ≡ 6)
+sizes c = (search needs, search needs, search needs)
+
+slice-aggregate-copy : tie.Need-slice-aggregate-copy
+slice-aggregate-copy c = search needs
+
+slice-aggregate-copy-2 : tie.Need-slice-aggregate-copy-2
+slice-aggregate-copy-2 c = search needs
+
+copy-requires : tie.Need-copy-requires
+copy-requires c κs = search needs
+
+array-write-text : tie.Need-array-write-text
+array-write-text c = search needs
+
+array-write-text-2 : tie.Need-array-write-text-2
+array-write-text-2 c = search needs
+
+array-write-text-3 : tie.Need-array-write-text-3
+array-write-text-3 c = search needs
+
+array-write-text-4 : tie.Need-array-write-text-4
+array-write-text-4 c = search needs
+
+slice-aggregate-copy-3 : tie.Need-slice-aggregate-copy-3
+slice-aggregate-copy-3 c = search needs
+
+sub-copy : tie.Need-sub-copy
+sub-copy c = search needs
+
+part-text-start : tie.Need-part-text-start
+part-text-start c = search needs
+
+part-text-end : tie.Need-part-text-end
+unfolding r1Label
+part-text-end c = omega (arith, r1-begun-size (c .before .before .copy .ensures .1))
+
+copy-requires-2 : tie.Need-copy-requires-2
+copy-requires-2 c κs = search needs
+
+slice-aggregate-copy-4 : tie.Need-slice-aggregate-copy-4
+slice-aggregate-copy-4 c = search needs
+
+sub-copy-2 : tie.Need-sub-copy-2
+sub-copy-2 c = search needs
+
+part-text-start-2 : tie.Need-part-text-start-2
+part-text-start-2 c = search needs
+
+part-text-end-2 : tie.Need-part-text-end-2
+unfolding r1Label
+part-text-end-2 c =
+    let s = c .before .before in
+    let h = s .before .before .before .before in
+    let k = h .before .before .before in
+    omega (arith, r1-spa-size (k .args .t3) (sizes k .2) (h .copy .ensures .1) (s .copy2 .ensures .1))
+
+copy-requires-3 : tie.Need-copy-requires-3
+copy-requires-3 c κs = search needs
+
+slice-aggregate-copy-5 : tie.Need-slice-aggregate-copy-5
+slice-aggregate-copy-5 c = search needs
+
+sub-copy-3 : tie.Need-sub-copy-3
+sub-copy-3 c = search needs
+
+part-text-start-3 : tie.Need-part-text-start-3
+part-text-start-3 c = search needs
+
+part-text-end-3 : tie.Need-part-text-end-3
+unfolding r1Label
+part-text-end-3 c =
+    let n = c .before .before in
+    let s = n .before .before .before .before in
+    let h = s .before .before .before .before in
+    let k = h .before .before .before in
+    let l = sizes k in
+    omega (arith, r1-size (k .args .t3) (l .2) (h .copy .ensures .1) (s .copy2 .ensures .1) (k .args .t2) (l .1) (n .copy3 .ensures .1))
+
+copy-requires-4 : tie.Need-copy-requires-4
+copy-requires-4 c κs = search needs
+
+returns : tie.Need-returns
+unfolding r1Label
+returns c =
+    let d = c .before in
+    let n = d .before .before .before .before in
+    let s = n .before .before .before .before in
+    let h = s .before .before .before .before in
+    let k = h .before .before .before in
+    let l = sizes k in
+    r1-laid (k .args .t3) (l .2) (h .copy .ensures .1) (s .copy2 .ensures .1) (k .args .t2) (l .1) (n .copy3 .ensures .1) (k .args .t1) (l .0) (d .copy4 .ensures .1)
+
+pub r1-text-spec : {M : Type 1} → statement M
+r1-text-spec =
+    tie.close
+    (tie.spec
+    slice-aggregate-copy
+    slice-aggregate-copy-2
+    copy-requires
+    array-write-text
+    array-write-text-2
+    array-write-text-3
+    array-write-text-4
+    slice-aggregate-copy-3
+    sub-copy
+    part-text-start
+    part-text-end
+    copy-requires-2
+    slice-aggregate-copy-4
+    sub-copy-2
+    part-text-start-2
+    part-text-end-2
+    copy-requires-3
+    slice-aggregate-copy-5
+    sub-copy-3
+    part-text-start-3
+    part-text-end-3
+    copy-requires-4
+    returns)
