@@ -1,4 +1,4 @@
--- `keywrap::unwrap_by` meets its contract, by the two outcomes of the integrity check: the buffer is written in one of them alone.
+-- `keywrap_unwrap::unwrap_by` meets its contract, by the two outcomes of the integrity check: the buffer is written in one of them alone.
 -- Assumes nothing.
 use mathlib.Core.Path.{refl, sym, ap, _∙_}
 use mathlib.Core.Bool.{Bool}
@@ -9,11 +9,11 @@ use Rattle.refusal.specs.Answers.{checkedAs, wrote, answerTo, bufferAfter}
 use Rattle.refusal.specs.Checks.{Check, bare, unless}
 use Rattle.slices.specs.Same.{sameList}
 use Rattle.rfc3394.specs.Rfc3394.{initialValue, unwrappedKey}
 use Rattle.keywrap.specs.Calls.{keyLength}
-use Rattle.keywrap.proofs.Parts.{released}
+use Rattle.keywrap_unwrap.proofs.Parts.{released}
 use borrow.Author.Needs.{needs}
-use Rattle.keywrap.proofs.unwrap_by.Statement.{statement}
-use Rattle.keywrap.proofs.unwrap_by.Tie as tie
+use Rattle.keywrap_unwrap.proofs.unwrap_by.Statement.{statement}
+use Rattle.keywrap_unwrap.proofs.unwrap_by.Tie as tie
 
 unwrap-into-requires : tie.Need-unwrap-into-requires
 unwrap-into-requires c κs = search needs

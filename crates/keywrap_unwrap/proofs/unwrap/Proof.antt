@@ -1,15 +1,15 @@
--- `keywrap::unwrap` meets its contract.
+-- `keywrap_unwrap::unwrap` meets its contract.
 -- Assumes nothing.
 use Rattle.rfc3394.specs.Rfc3394.{unwrappedKey}
 use Rattle.keywrap.specs.Calls.{keyLength}
-use Rattle.keywrap.proofs.Parts.{unwrap-bounds, unwrap-refused, unwrap-passed}
+use Rattle.keywrap_unwrap.proofs.Parts.{unwrap-bounds, unwrap-refused, unwrap-passed}
 use Rattle.refusal.specs.Answers.{checkedAs, answerTo, bufferAfter}
 use Rattle.refusal.specs.Checks.{Check}
 use denote.Ref.{now}
 use mathlib.Core.Path.{sym, ap, _∙_}
 use borrow.Author.Needs.{needs}
-use Rattle.keywrap.proofs.unwrap.Statement.{statement}
-use Rattle.keywrap.proofs.unwrap.Tie as tie
+use Rattle.keywrap_unwrap.proofs.unwrap.Statement.{statement}
+use Rattle.keywrap_unwrap.proofs.unwrap.Tie as tie
 
 key-length-requires : tie.Need-key-length-requires
 key-length-requires c κs = search needs

@@ -1,10 +1,10 @@
--- `keywrap::first_eight` meets its contract.
+-- `keywrap_unwrap::first_eight` meets its contract.
 -- Assumes nothing.
 use denote.Ref.{now}
-use Rattle.keywrap.proofs.Parts.{front-is}
+use Rattle.keywrap_unwrap.proofs.Parts.{front-is}
 use borrow.Author.Needs.{needs}
-use Rattle.keywrap.proofs.first_eight.Statement.{statement}
-use Rattle.keywrap.proofs.first_eight.Tie as tie
+use Rattle.keywrap_unwrap.proofs.first_eight.Statement.{statement}
+use Rattle.keywrap_unwrap.proofs.first_eight.Tie as tie
 
 shared-slice-read-t3 : tie.Need-shared-slice-read-t3
 shared-slice-read-t3 c = search needs

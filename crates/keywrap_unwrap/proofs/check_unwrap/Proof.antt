@@ -1,11 +1,11 @@
--- `keywrap::check_unwrap` meets its contract.
+-- `keywrap_unwrap::check_unwrap` meets its contract.
 -- Assumes nothing.
 use Rattle.refusal.specs.Checks.{bare, unless, _andThen_}
 use mathlib.Core.Bool.{Bool}
 use mathlib.Core.Path.{ap, ap₂, _∙_}
 use borrow.Author.Needs.{needs}
-use Rattle.keywrap.proofs.check_unwrap.Statement.{statement}
-use Rattle.keywrap.proofs.check_unwrap.Tie as tie
+use Rattle.keywrap_unwrap.proofs.check_unwrap.Statement.{statement}
+use Rattle.keywrap_unwrap.proofs.check_unwrap.Tie as tie
 
 is-wrappable-requires : tie.Need-is-wrappable-requires
 is-wrappable-requires c κs = search needs

@@ -1,7 +1,7 @@
--- `keywrap::wrap` meets its contract.
+-- `keywrap_wrap::wrap` meets its contract.
 -- Assumes nothing.
 use Rattle.rfc3394.specs.Rfc3394.{wrapped}
-use Rattle.keywrap.proofs.Parts.{wrap-bounds}
+use Rattle.keywrap_wrap.proofs.Parts.{wrap-bounds}
 use lib.ListN.{length}
 use Prim.Native.Nat.{_+_}
 use Rattle.refusal.specs.Answers.{checkedAs, answerTo, bufferAfter}
@@ -9,8 +9,8 @@ use Rattle.refusal.specs.Checks.{Check}
 use denote.Ref.{now}
 use mathlib.Core.Path.{sym, ap, _∙_}
 use borrow.Author.Needs.{needs}
-use Rattle.keywrap.proofs.wrap.Statement.{statement}
-use Rattle.keywrap.proofs.wrap.Tie as tie
+use Rattle.keywrap_wrap.proofs.wrap.Statement.{statement}
+use Rattle.keywrap_wrap.proofs.wrap.Tie as tie
 
 check-wrap-requires : tie.Need-check-wrap-requires
 check-wrap-requires c κs = search needs

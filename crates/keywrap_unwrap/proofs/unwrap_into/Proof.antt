@@ -1,10 +1,10 @@
--- `keywrap::unwrap_into` meets its contract.
+-- `keywrap_unwrap::unwrap_into` meets its contract.
 -- Assumes nothing.
 use denote.Ref.{now}
-use Rattle.keywrap.proofs.Parts.{copied-rest, unwrapped-in-scratch}
+use Rattle.keywrap_unwrap.proofs.Parts.{copied-rest, unwrapped-in-scratch}
 use borrow.Author.Needs.{needs}
-use Rattle.keywrap.proofs.unwrap_into.Statement.{statement}
-use Rattle.keywrap.proofs.unwrap_into.Tie as tie
+use Rattle.keywrap_unwrap.proofs.unwrap_into.Statement.{statement}
+use Rattle.keywrap_unwrap.proofs.unwrap_into.Tie as tie
 
 sub-copy : tie.Need-sub-copy
 sub-copy c = search needs

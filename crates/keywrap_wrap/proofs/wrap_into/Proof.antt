@@ -1,13 +1,13 @@
--- `keywrap::wrap_into` meets its contract: the part from byte 8 on holds the key, then the wrapped blocks, and A comes before it.
+-- `keywrap_wrap::wrap_into` meets its contract: the part from byte 8 on holds the key, then the wrapped blocks, and A comes before it.
 -- Assumes nothing.
 use Prim.Native.Nat.{_+_, _-_}
 use native.Mathlib.Omega.{arith}
 use denote.Ref.{now}
 use lib.ListN.{length}
-use Rattle.keywrap.proofs.Parts.{wrapped-in-place}
+use Rattle.keywrap_wrap.proofs.Parts.{wrapped-in-place}
 use borrow.Author.Needs.{needs}
-use Rattle.keywrap.proofs.wrap_into.Statement.{statement}
-use Rattle.keywrap.proofs.wrap_into.Tie as tie
+use Rattle.keywrap_wrap.proofs.wrap_into.Statement.{statement}
+use Rattle.keywrap_wrap.proofs.wrap_into.Tie as tie
 
 add-end : tie.Need-add-end
 add-end c = search needs

@@ -1,6 +1,7 @@
--- `keywrap::check_wrap` meets its contract.
+-- `keywrap_wrap::check_wrap` meets its contract.
 -- Assumes nothing.
-use Rattle.keywrap.proofs.Parts.{wrap-refused, wrap-passed, passed-high}
+use Rattle.keywrap.proofs.Lengths.{passed-high}
+use Rattle.keywrap_wrap.proofs.Parts.{wrap-refused, wrap-passed}
 use Rattle.refusal.specs.Answers.{checkedAs}
 use Rattle.refusal.specs.Checks.{bare, unless}
 use Prim.Native.Nat.{_≤_}
@@ -8,8 +9,8 @@ use mathlib.Core.Bool.{Bool}
 use native.Mathlib.Omega.{arith}
 use mathlib.Core.Path.{sym, ap, _∙_}
 use borrow.Author.Needs.{needs}
-use Rattle.keywrap.proofs.check_wrap.Statement.{statement}
-use Rattle.keywrap.proofs.check_wrap.Tie as tie
+use Rattle.keywrap_wrap.proofs.check_wrap.Statement.{statement}
+use Rattle.keywrap_wrap.proofs.check_wrap.Tie as tie
 
 is-wrappable-requires : tie.Need-is-wrappable-requires
 is-wrappable-requires c κs = search needs

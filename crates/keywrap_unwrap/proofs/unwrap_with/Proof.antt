@@ -1,10 +1,10 @@
--- `keywrap::unwrap_with` meets its contract.
+-- `keywrap_unwrap::unwrap_with` meets its contract.
 -- Assumes nothing.
 use native.Mathlib.Omega.{arith}
 use lib.ListN.{length-take}
 use borrow.Author.Needs.{needs}
-use Rattle.keywrap.proofs.unwrap_with.Statement.{statement}
-use Rattle.keywrap.proofs.unwrap_with.Tie as tie
+use Rattle.keywrap_unwrap.proofs.unwrap_with.Statement.{statement}
+use Rattle.keywrap_unwrap.proofs.unwrap_with.Tie as tie
 
 sub-n : tie.Need-sub-n
 sub-n c = search needs
