@@ -39,23 +39,23 @@ set-first (x ∷ m) p h = refl
 -- the MAC of a text, by the hash values of a key's block
 module _ (key : List ℕ) (short : length key ≤ 64) {block inner outer : List ℕ} (eb : block ≡ take 64 key ++ replicate (64 - length key) 0)
     (ei : inner ≡ compress H0 (masked block ipad)) (eo : outer ≡ compress H0 (masked block opad)) where
-  text-mac : (m : List ℕ) {t v d : List ℕ} → length m ≤ 1000 → t ≡ m ++ padding (64 + length m) → v ≡ blocks (length t / 64) inner t
-      → d ≡ hashAfter outer (digest v) → d ≡ hmacSha1 key m
-  text-mac m few et ev ed =
+  text-mac : (m : List ℕ) {t d : List ℕ} → length m ≤ 1000 → t ≡ m ++ padding (64 + length m) → d ≡ hashAfter outer (digest (blocks (length t / 64) inner t))
+      → d ≡ hmacSha1 key m
+  text-mac m few et ed =
       let small : 64 + length m < 2 ^ 64 = omega arith in
-      mac-of-padded key m small et (key-value-short key ipad short eb ei) (key-value-short key opad short eb eo) ev ed
+      mac-of-padded key m small et (key-value-short key ipad short eb ei) (key-value-short key opad short eb eo) refl ed
 
-  pub derived : (m text out : List ℕ) {v f w s one two : List ℕ} → IsText m → text ≡ m ++ padding (64 + length m)
-      → v ≡ blocks (length text / 64) inner text → f ≡ hashAfter outer (digest v) → one ≡ paste out 0 f 20
-      → w ≡ blocks (length (set text 0 2) / 64) inner (set text 0 2) → s ≡ hashAfter outer (digest w) → two ≡ paste one 20 s 12
+  pub derived : (m text out : List ℕ) {f s one two : List ℕ} → IsText m → text ≡ m ++ padding (64 + length m)
+      → f ≡ hashAfter outer (digest (blocks (length text / 64) inner text)) → one ≡ paste out 0 f 20
+      → s ≡ hashAfter outer (digest (blocks (length (set text 0 2) / 64) inner (set text 0 2))) → two ≡ paste one 20 s 12
       → two ≡ take 32 (hmacSha1 key m ++ hmacSha1 key (set m 0 2)) ++ drop 32 out
-  derived m text out {v} {f} {w} {s} is et ev ef e₁ ew es e₂ =
-      let a : f ≡ hmacSha1 key m = text-mac m (is .1) et ev ef in
+  derived m text out {f} {s} is et ef e₁ es e₂ =
+      let a : f ≡ hmacSha1 key m = text-mac m (is .1) et ef in
       let l : length (set m 0 2) ≡ length m = length-set m 0 2 in
       let second : set text 0 2 ≡ set m 0 2 ++ padding (64 + length (set m 0 2))
       = ap (λ (t : List ℕ). set t 0 2) et ∙ set-first m (padding (64 + length m)) (is .0) ∙ ap (λ (k : ℕ). set m 0 2 ++ padding (64 + k)) (sym l) in
       let few : length (set m 0 2) ≤ 1000 = omega (arith, l, is .1) in
-      let b : s ≡ hmacSha1 key (set m 0 2) = text-mac (set m 0 2) few second ew es in
+      let b : s ≡ hmacSha1 key (set m 0 2) = text-mac (set m 0 2) few second es in
       e₂ ∙ ap (λ (t : List ℕ). paste t 20 s 12) e₁
       ∙ two-parts f s out (ap length a ∙ hmacSha1-length key m)
       ∙ (λ i. take 32 (a i ++ b i) ++ drop 32 out)

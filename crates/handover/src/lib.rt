@@ -2,14 +2,16 @@
 // and the R0Name. A refusal alters nothing, and nothing is derived before all tests have passed.
 ghost use mathlib.Core.Path.{_≡_};
 ghost use mathlib.Core.List.{List, _++_};
-ghost use Prim.Native.Nat.{ℕ, _+_, _≤_};
+ghost use Prim.Native.Nat.{ℕ, _+_, _/_, _≤_};
 ghost use lib.ListN.{length, take, drop, set};
 ghost use lib.Seq.{paste};
 ghost use Rattle.refusal.specs.Checks as Checks;
 ghost use Rattle.refusal.specs.Checks.{bare, _andThen_, check6};
 ghost use Rattle.refusal.specs.Answers.{checkedAs, answerOf, answerTo, bufferAfter};
 ghost use Rattle.fips180.specs.Hash.{padding};
+ghost use Rattle.fips180.specs.Sha1.{blocks, digest};
 ghost use Rattle.hmac_sha1.specs.Rfc2104.{hmacSha1};
+ghost use Rattle.hmac_sha1.specs.Keyed.{hashAfter};
 ghost use Rattle.handover_rules.specs.Handover.{
   check34,
   r0Check,
@@ -80,8 +82,16 @@ fn address(s: &[u8]) -> [u8; SPA]
     r
 }
 
+// An iteration of the KDF: the MAC of a text that stands with its padding, whose blocks are compressed where they stand.
+fn iteration(keyed: Keyed, text: &[u8]) -> [u8; 20]
+    ensures { λ r. ⌜ r ≡ hashAfter (keyed .outer) (digest (blocks (length (now (text .entry)) / 64) (keyed .inner) (now (text .entry)))) ⌝ }
+{
+    let inner = keyed.inner;
+    keyed.close(compress_blocks(inner, text))
+}
+
 // Two iterations of the KDF under a key of at most a block: the 32 bytes at the start of out are those of the MACs of the text, which begins with 1,
-// and of the text with 2 in its place. The text m stands with its padding, and its blocks are compressed where they stand.
+// and of the text with 2 in its place. The text m stands with its padding.
 fn derive(key: &[u8], text: &mut [u8], out: &mut [u8])
     requires { ⌜ length (now key) ≤ 64 ⌝ }
     requires { ⌜ 1 ≤ length (now text) ⌝ }
@@ -89,11 +99,10 @@ fn derive(key: &[u8], text: &mut [u8], out: &mut [u8])
     ensures { λ _. ⌜ ((m : List ℕ) → IsText m → now (text .entry) ≡ m ++ padding (64 + length m) → now (out .exit) ≡ take 32 (hmacSha1 (now (key .entry)) m ++ hmacSha1 (now (key .entry)) (set m 0 2)) ++ drop 32 (now (out .entry))) ⌝ }
 {
     let keyed = Keyed::of_block(hmac_block::filled(key));
-    let inner = keyed.inner;
-    let first = keyed.close(compress_blocks(inner, text));
+    let first = iteration(keyed, text);
     put(out, 0, &first, 20);
     text[0] = 2;
-    let second = keyed.close(compress_blocks(inner, text));
+    let second = iteration(keyed, text);
     put(out, 20, &second, 12);
 }
 

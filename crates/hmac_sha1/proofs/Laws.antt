@@ -9,11 +9,12 @@ use lib.ListN.{length, take, replicate}
 use Rattle.rfc2104.specs.Rfc2104.{masked, keyBlock, ipad, opad, hmac}
 use Rattle.rfc2104.specs.Keyed.{hashAfterBy, macByValuesBy}
 use Rattle.rfc2104.proofs.Laws as laws
-use Rattle.rfc2104.proofs.Blocks.{key-short}
+use Rattle.rfc2104.proofs.Blocks.{key-short, masked-length}
 use Rattle.hmac_block.proofs.Filling.{filled-short}
 use Rattle.fips180.specs.Hash.{padding, hashBy}
 use Rattle.fips180.specs.Stream.{Progress, finishedBy}
 use Rattle.fips180.specs.Sha1.{sha1, compress, blocks, H0, digest}
+use Rattle.fips180.proofs.Blocks.{one-block}
 use Rattle.fips180.proofs.Stream.{absorbed-append, starting}
 use Rattle.sha1.specs.Stream.{startedAfter, absorbed, finished, lastValue}
 use Rattle.hmac_sha1.specs.Rfc2104.{hmacSha1}
@@ -28,6 +29,14 @@ key-value = laws.key-value compress H0 digest
 pub key-value-short : (key : List ℕ) (pad : ℕ) {block v : List ℕ} → length key ≤ 64 → block ≡ take 64 key ++ replicate (64 - length key) 0 → v ≡ compress H0 (masked block pad)
     → v ≡ keyValue key pad
 key-value-short key pad h eb ev = key-value key pad (key-short sha1 key h (filled-short key h eb)) ev
+
+-- a block that was masked, and the hash value after it
+pub masked-size : (block : List ℕ) (pad : ℕ) {m : List ℕ} → length block ≡ 64 → m ≡ masked block pad → length m ≡ 64
+masked-size block pad l em = ap length em ∙ masked-length block pad ∙ l
+
+pub masked-value : (block : List ℕ) (pad : ℕ) {m v : List ℕ} → length block ≡ 64 → m ≡ masked block pad → v ≡ blocks (length m / 64) H0 m → v ≡ compress H0 (masked block pad)
+masked-value block pad l em ev =
+    ev ∙ ap (λ (b : List ℕ). blocks (length b / 64) H0 b) em ∙ one-block compress H0 (masked block pad) (masked-length block pad ∙ l)
 
 digest-fits : (value : List ℕ) → length (digest value) ≤ 64
 unfolding digest

@@ -64,10 +64,10 @@ impl Keyed {
     {
         let mut first = block;
         mask(&mut first, IPAD);
-        let inner = sha1::value_of(first);
+        let inner = sha1::value_after(&first);
         let mut second = block;
         mask(&mut second, OPAD);
-        let outer = sha1::value_of(second);
+        let outer = sha1::value_after(&second);
         Keyed { inner, outer }
     }
 

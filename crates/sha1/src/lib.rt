@@ -170,11 +170,11 @@ impl Sha1 {
     }
 }
 
-// The hash value after one block.
-pub fn value_of(block: [u8; 64]) -> [u32; 5]
-    ensures { λ r. ⌜ r ≡ Fips180.compress Fips180.H0 block ⌝ }
+// The hash value after the whole blocks of a message, from the first one.
+pub fn value_after(message: &[u8]) -> [u32; 5]
+    ensures { λ r. ⌜ r ≡ Fips180.blocks (length (now (message .entry)) / 64) Fips180.H0 (now (message .entry)) ⌝ }
 {
-    compress_blocks(H0, &block)
+    compress_blocks(H0, message)
 }
 
 // The hash of a message.

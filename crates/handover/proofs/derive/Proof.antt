@@ -1,4 +1,4 @@
--- `handover::derive` meets its contract.
+-- `handover::derive` meets its contract: two iterations, whose MACs are put one after the other.
 -- Assumes nothing.
 use denote.Ref.{now}
 use Rattle.handover.proofs.Derived.{derived}
@@ -12,11 +12,8 @@ filled-requires c κs = search needs
 of-block-requires : tie.Need-of-block-requires
 of-block-requires c κs = search needs
 
-compress-blocks-requires : tie.Need-compress-blocks-requires
-compress-blocks-requires c κs = search needs
-
-close-requires : tie.Need-close-requires
-close-requires c κs = search needs
+iteration-requires : tie.Need-iteration-requires
+iteration-requires c κs = search needs
 
 slice-aggregate-put : tie.Need-slice-aggregate-put
 slice-aggregate-put c = search needs
@@ -27,11 +24,8 @@ put-requires c κs = search needs
 slice-write-text : tie.Need-slice-write-text
 slice-write-text c = search needs
 
-compress-blocks-requires-2 : tie.Need-compress-blocks-requires-2
-compress-blocks-requires-2 c κs = search needs
-
-close-requires-2 : tie.Need-close-requires-2
-close-requires-2 c κs = search needs
+iteration-requires-2 : tie.Need-iteration-requires-2
+iteration-requires-2 c κs = search needs
 
 slice-aggregate-put-2 : tie.Need-slice-aggregate-put-2
 slice-aggregate-put-2 c = search needs
@@ -49,19 +43,15 @@ returns : tie.Need-returns
 returns c =
     let p2 = c .before .before in
     let d2 = p2 .before .before .before in
-    let v2 = d2 .before in
-    let p1 = v2 .before .before .before .before in
+    let p1 = d2 .before .before .before .before in
     let d1 = p1 .before .before .before in
-    let v1 = d1 .before in
-    let o = v1 .before .before .before in
+    let o = d1 .before .before in
     let f = o .before in
     let k = f .before .before .before .before in
     λ m is e. derived (now (k .args .key)) (k .pre .0) (f .filled .ensures) (o .of-block .ensures .0) (o .of-block .ensures .1) m (now (k .args .text)) (now (k .args .out)) is e
-    (v1 .compress-blocks .ensures)
-    (d1 .close .ensures)
+    (d1 .iteration .ensures)
     (p1 .put .ensures)
-    (v2 .compress-blocks2 .ensures)
-    (d2 .close2 .ensures)
+    (d2 .iteration2 .ensures)
     (p2 .put2 .ensures)
 
 pub derive-spec : {M : Type 1} → statement M
@@ -70,13 +60,11 @@ derive-spec =
     (tie.spec
     filled-requires
     of-block-requires
-    compress-blocks-requires
-    close-requires
+    iteration-requires
     slice-aggregate-put
     put-requires
     slice-write-text
-    compress-blocks-requires-2
-    close-requires-2
+    iteration-requires-2
     slice-aggregate-put-2
     put-requires-2
     same-length

@@ -1,30 +1,55 @@
 -- `hmac_sha1::Keyed::of_block` meets its contract: the block masked by each of the two pads, and compressed.
 -- Assumes nothing.
-use mathlib.Core.Path.{ap, _∙_}
-use Rattle.fips180.specs.Sha1.{compress, H0}
+use mathlib.Core.Path.{_≡_, sym}
+use lib.ListN.{length}
+use Rattle.rfc2104.specs.Rfc2104.{ipad, opad}
+use Rattle.hmac_sha1.proofs.Laws.{masked-size, masked-value}
 use borrow.Author.Needs.{needs}
 use Rattle.hmac_sha1.proofs.Keyed.of_block.Statement.{statement}
 use Rattle.hmac_sha1.proofs.Keyed.of_block.Tie as tie
 
+-- the length that the block has by its type
+size : (c : tie.Start) → length (c .args .block) ≡ 64
+size c = search needs
+
 mask-requires : tie.Need-mask-requires
 mask-requires c κs = search needs
 
-value-of-requires : tie.Need-value-of-requires
-value-of-requires c κs = search needs
+slice-aggregate-value-after : tie.Need-slice-aggregate-value-after
+slice-aggregate-value-after c =
+    let k = c .before .before .before in
+    sym (masked-size (k .args .block) ipad (size k) (c .before .mask .ensures))
+
+value-after-requires : tie.Need-value-after-requires
+value-after-requires c κs = search needs
 
 mask-requires-2 : tie.Need-mask-requires-2
 mask-requires-2 c κs = search needs
 
-value-of-requires-2 : tie.Need-value-of-requires-2
-value-of-requires-2 c κs = search needs
+slice-aggregate-value-after-2 : tie.Need-slice-aggregate-value-after-2
+slice-aggregate-value-after-2 c =
+    let k = c .before .before .before .before .before .before .before in
+    sym (masked-size (k .args .block) opad (size k) (c .before .mask2 .ensures))
+
+value-after-requires-2 : tie.Need-value-after-requires-2
+value-after-requires-2 c κs = search needs
 
 returns : tie.Need-returns
 returns c =
-    let b = c .before in
-    let a = b .before .before in
-    (a .value-of .ensures ∙ ap (compress H0) (a .before .mask .ensures), c .value-of2 .ensures ∙ ap (compress H0) (b .mask2 .ensures))
+    let n = c .before .before in
+    let v = n .before .before in
+    let m = v .before .before in
+    let k = m .before .before in
+    (masked-value (k .args .block) ipad (size k) (m .mask .ensures) (v .value-after .ensures), masked-value (k .args .block) opad (size k) (n .mask2 .ensures) (c .value-after2 .ensures))
 
 pub of-block-spec : {M : Type 1} → statement M
 of-block-spec =
     tie.close
-    (tie.spec mask-requires value-of-requires mask-requires-2 value-of-requires-2 returns)
+    (tie.spec
+    mask-requires
+    slice-aggregate-value-after
+    value-after-requires
+    mask-requires-2
+    slice-aggregate-value-after-2
+    value-after-requires-2
+    returns)
