@@ -1,4 +1,3 @@
-pub mod Numbers
 pub mod Walking
 pub mod Bodies
 pub mod Tests

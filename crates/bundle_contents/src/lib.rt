@@ -1,46 +1,16 @@
-// The table of contents and the bodies of a bundle (document 02, request 9): the tests of a file that its reader and the comparison of two share, and what both read
-// of the contents.
+// The table of contents and the bodies of a bundle (document 02, request 9): the tests of a file that its reader and the comparison of two share.
 ghost use mathlib.Core.Path.{_≡_};
-ghost use Prim.Native.Nat.{_+_, _*_, _-_, _%_, _≤_, _<_};
+ghost use Prim.Native.Nat.{_+_, _*_, _-_, _≤_};
 ghost use lib.ListN.{length};
-ghost use Rattle.refusal.specs.Checks.{_andThen_, bare};
-ghost use Rattle.refusal.specs.Checks;
 ghost use Rattle.refusal.specs.Answers.{checkedAs};
-ghost use Rattle.slices.specs.Numbers.{be16At};
-ghost use Rattle.slices.specs.Same.{sameList};
-ghost use Rattle.key_frame.specs.KeyFrame.{frameCheck};
 ghost use Rattle.bundle_contents.specs.Internal.{Inside};
-ghost use Rattle.bundle_rules.specs.Bundle.{contentsEnd, keyIdIn, idStands, idRepeats, linesFrom, follow, lastEnd, idsOf, bodiesCheck, bundleCheck};
+ghost use Rattle.bundle_rules.specs.Bundle.{contentsEnd, idStands, idRepeats, linesFrom, follow, lastEnd, idsOf, bodiesCheck, bundleCheck};
+use bundle_body::check_body;
 use bundle_ids::same_id;
-use key_frame::check_frame;
+use bundle_numbers::lines_length;
+use bundle_numbers::number_at;
 use refusal::Checked;
 use refusal::Refusal;
-use refusal::unless;
-use slices::from_be16;
-
-// The number in two bytes of a file, high byte first. A byte past its end counts as 0.
-pub fn number_at(file: &[u8], at: usize) -> usize
-    ensures number { λ r. ⌜ r ≡ be16At (now (file .entry)) at ⌝ }
-    ensures small { λ r. ⌜ r < 65536 ⌝ }
-{
-    let size = file.len();
-    if size <= at {
-        return 0;
-    }
-    let next = at + 1;
-    if size <= next {
-        return from_be16(file[at], 0) as usize;
-    }
-    from_be16(file[at], file[next]) as usize
-}
-
-// The bytes of n lines, where n is a number of two bytes. The product is one of 32 bits: for one of 64 a Cortex-M0+ would need a function of the compiler's.
-pub fn lines_length(n: usize) -> usize
-    ensures { λ r. ⌜ r ≡ 20 * (n % 65536) ⌝ }
-{
-    let lines = (n % 65536) as u32;
-    (20 * lines) as usize
-}
 
 // Whether each of n lines' offsets is the previous end, for the first the end of the contents.
 fn follows(file: &[u8], n: usize) -> bool
@@ -108,16 +78,6 @@ fn id_repeats(file: &[u8], n: usize) -> bool
         i += 1;
     }
     false
-}
-
-// A body: its own number, then 50 for a Key ID unlike its line's.
-fn check_body(id: &[u8], body: &[u8]) -> Checked
-    ensures { λ r. ⌜ checkedAs r ≡ (frameCheck (now (body .entry)) andThen Checks.unless (sameList (keyIdIn (now (body .entry))) (now (id .entry))) (bare 50)) ⌝ }
-{
-    match check_frame(body) {
-        Checked::Failed(why) => Checked::Failed(why),
-        Checked::Passed => unless(same_id(&body[24..40], id), Refusal::KeyIdUnlikeContents),
-    }
 }
 
 // The bodies of n lines, one after the other.

@@ -25,12 +25,15 @@ ghost use Rattle.key_attribute_c.specs.Outcomes.{keyOutcome};
 ghost use Rattle.packet_rules.specs.Mac.{signAnswer, signBuffer, checkCheck};
 ghost use Rattle.packet_c.specs.Outcomes.{checkOutcome};
 ghost use Rattle.bundle_rules.specs.Bundle as Bundle;
+ghost use Rattle.compare_rules.specs.Compare.{compareAnswer, compareBuffer, compareCounts};
+ghost use Rattle.compare_c.specs.Outcomes.{comparisonOutcome};
 ghost use Rattle.slot_rules.specs.Table.{liveCount};
 ghost use Rattle.slot_rules.specs.Calls.{putAnswer, putTable, dropAnswer, dropTable};
 ghost use Rattle.slot_rules.specs.Stored.{tableOf, putStored, dropStored};
 ghost use Rattle.slots_c.specs.Outcomes.{parentFor, slotsOutcome};
 use area_c::AreaOutcome;
 use area_format::Way;
+use compare_c::Comparison;
 use key_attribute_c::KeyAttributeOutcome;
 use offers_c::FirstRoundOutcome;
 use outcome::Outcome;
@@ -81,7 +84,7 @@ pub extern "C" fn kv_visited_root_key(emsk: &[u8], out: &mut [u8]) -> Outcome
     ensures answer { λ r. ⌜ r ≡ outcomeOf (requestAnswer (now (emsk .entry)) (forVrk (length (now (out .entry))))) ⌝ }
     ensures buffer { λ _. ⌜ now (out .exit) ≡ requestBuffer (now (emsk .entry)) (forVrk (length (now (out .entry)))) (now (out .entry)) ⌝ }
 {
-    keys_c::visited_root_key(emsk, out)
+    visited_c::visited_root_key(emsk, out)
 }
 
 // Source document 001: the VMSK of a server and a domain under a VRK, 64 bytes.
@@ -95,7 +98,7 @@ pub extern "C" fn kv_visited_master_key<'a>(
     ensures answer { λ r. ⌜ r ≡ outcomeOf (answerTo (vmskCheck (now (vrk .entry)) (now («server_id» .entry)) (now (domain .entry)) (length (now (out .entry)))) 64) ⌝ }
     ensures buffer { λ _. ⌜ now (out .exit) ≡ bufferAfter (vmskCheck (now (vrk .entry)) (now («server_id» .entry)) (now (domain .entry)) (length (now (out .entry)))) 64 (vmskKey (now (vrk .entry)) (now («server_id» .entry)) (now (domain .entry))) (now (out .entry)) ⌝ }
 {
-    keys_c::visited_master_key(vrk, server_id, domain, out)
+    visited_c::visited_master_key(vrk, server_id, domain, out)
 }
 
 // Source document 001: the V-rRK under a VMSK, 64 bytes.
@@ -104,7 +107,7 @@ pub extern "C" fn kv_visited_reauth_key(vmsk: &[u8], out: &mut [u8]) -> Outcome
     ensures answer { λ r. ⌜ r ≡ outcomeOf (answerTo (reauthCheck (now (vmsk .entry)) (length (now (out .entry)))) 64) ⌝ }
     ensures buffer { λ _. ⌜ now (out .exit) ≡ bufferAfter (reauthCheck (now (vmsk .entry)) (length (now (out .entry)))) 64 (reauthKey (now (vmsk .entry))) (now (out .entry)) ⌝ }
 {
-    keys_c::visited_reauth_key(vmsk, out)
+    visited_c::visited_reauth_key(vmsk, out)
 }
 
 // RFC 5295: the root key of a domain under an EMSK, 64 bytes.
@@ -113,7 +116,7 @@ pub extern "C" fn kv_domain_root_key<'a>(emsk: &[u8], domain: &'a [u8], out: &mu
     ensures answer { λ r. ⌜ r ≡ outcomeOf (requestAnswer (now (emsk .entry)) (forDomain (now (domain .entry)) (length (now (out .entry))))) ⌝ }
     ensures buffer { λ _. ⌜ now (out .exit) ≡ requestBuffer (now (emsk .entry)) (forDomain (now (domain .entry)) (length (now (out .entry)))) (now (out .entry)) ⌝ }
 {
-    keys_c::domain_root_key(emsk, domain, out)
+    domain_keys_c::domain_root_key(emsk, domain, out)
 }
 
 // RFC 5296: the re-authentication root key under the root key of a domain, 64 bytes.
@@ -122,7 +125,7 @@ pub extern "C" fn kv_domain_reauth_key(dsrk: &[u8], out: &mut [u8]) -> Outcome
     ensures answer { λ r. ⌜ r ≡ outcomeOf (answerTo (rrkCheck (now (dsrk .entry)) (length (now (out .entry)))) 64) ⌝ }
     ensures buffer { λ _. ⌜ now (out .exit) ≡ bufferAfter (rrkCheck (now (dsrk .entry)) (length (now (out .entry)))) 64 (rrkKey (now (dsrk .entry))) (now (out .entry)) ⌝ }
 {
-    keys_c::domain_reauth_key(dsrk, out)
+    domain_keys_c::domain_reauth_key(dsrk, out)
 }
 
 // RFC 5448: K_encr, K_aut, K_re, MSK and EMSK of EAP-AKA' from CK and IK, 208 bytes.
@@ -316,6 +319,15 @@ pub extern "C" fn kv_read_bundle(file: &[u8], out: &mut [u8]) -> Outcome
     ensures buffer { λ _. ⌜ now (out .exit) ≡ Bundle.readBuffer (now (file .entry)) (now (out .entry)) ⌝ }
 {
     bundle_c::read_bundle(file, out)
+}
+
+// Document 02, request 10: what changed between two bundles.
+#[no_mangle]
+pub extern "C" fn kv_compare_bundles(first: &[u8], second: &[u8], out: &mut [u8]) -> Comparison
+    ensures answer { λ r. ⌜ r ≡ comparisonOutcome (compareAnswer (now (first .entry)) (now (second .entry)) (length (now (out .entry)))) (compareCounts (now (first .entry)) (now (second .entry)) (length (now (out .entry)))) ⌝ }
+    ensures buffer { λ _. ⌜ now (out .exit) ≡ compareBuffer (now (first .entry)) (now (second .entry)) (now (out .entry)) ⌝ }
+{
+    compare_c::compare_bundles(first, second, out)
 }
 
 // ---- slots

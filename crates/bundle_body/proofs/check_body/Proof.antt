@@ -1,0 +1,64 @@
+-- `bundle_body::check_body` meets its contract.
+-- Assumes nothing.
+use Rattle.bundle_rules.proofs.Packing.{sized}
+use Rattle.bundle_rules.specs.Bundle.{keyIdIn}
+use Rattle.refusal.proofs.Passing.{first-refuses, second-decides}
+use Rattle.key_frame.specs.KeyFrame.{fieldsIn, frameCheck}
+use Rattle.refusal.specs.Answers.{checkedAs}
+use Rattle.refusal.specs.Checks.{bare, pass, unless}
+use denote.Ref.{now}
+use native.Mathlib.Omega.{arith}
+use mathlib.Core.Bool.{Bool}
+use mathlib.Core.Path.{_≡_, sym, ap, _∙_}
+use borrow.Author.Needs.{needs}
+use Rattle.bundle_body.proofs.check_body.Statement.{statement}
+use Rattle.bundle_body.proofs.check_body.Tie as tie
+
+check-frame-requires : tie.Need-check-frame-requires
+check-frame-requires c κs = search needs
+
+enum-known-why : tie.Need-enum-known-why
+enum-known-why c = search needs
+
+enum-told : tie.Need-enum-told
+enum-told c = search needs
+
+sub-same-id : tie.Need-sub-same-id
+sub-same-id c = search needs
+
+part-same-id-start : tie.Need-part-same-id-start
+part-same-id-start c = search needs
+
+passes : (c : tie.After-enum-told) → frameCheck (now (c .before .before .before .before .before .args .body)) ≡ pass
+passes c = sym (c .before .before .check-frame .ensures) ∙ ap checkedAs (c .enum-told .given .1)
+
+part-same-id-end : tie.Need-part-same-id-end
+part-same-id-end c = omega (arith, sized _ (passes c) .low)
+
+same-id-requires : tie.Need-same-id-requires
+same-id-requires c κs = search needs
+
+unless-requires : tie.Need-unless-requires
+unless-requires c κs = search needs
+
+returns : tie.Need-returns
+returns c = first-refuses _ _ (sym (c .before .before .before .check-frame .ensures) ∙ ap checkedAs (c .before .why .given .1))
+
+returns-2 : tie.Need-returns-2
+unfolding keyIdIn fieldsIn
+returns-2 c = c .unless .ensures ∙ ap (λ (b : Bool). unless b (bare 50)) (c .before .same-id .ensures) ∙ second-decides _ _ (passes (c .before .before .before))
+
+pub check-body-spec : {M : Type 1} → statement M
+check-body-spec =
+    tie.close
+    (tie.spec
+    check-frame-requires
+    enum-known-why
+    enum-told
+    sub-same-id
+    part-same-id-start
+    part-same-id-end
+    same-id-requires
+    unless-requires
+    returns
+    returns-2)

@@ -1,0 +1,4 @@
+mod Lines
+pub mod Telling
+mod Filling
+mod Finding
