@@ -6,7 +6,7 @@ use mathlib.Core.List.{List, _++_}
 use native.Mathlib.Nat.{min-eq-left}
 use native.Mathlib.Omega.{arith}
 use borrow.Author.Tests.{le-leb, lt-leb}
-use lib.ListN.{length, take, drop, length-append}
+use lib.ListN.{length, take, drop, length-append, length-drop}
 use Rattle.refusal.specs.Checks.{Reason, Check, pass, refuse, bare, unless, _andThen_}
 use Rattle.refusal.specs.Answers.{wrote, refused, bufferAfter}
 use Rattle.refusal.proofs.Passing.{before-passed, last-passed, both-pass, first-refuses, second-decides}
@@ -19,7 +19,7 @@ use Rattle.compare_rules.specs.Places.{firstKind, secondKind, kindsTo, firstKin
 use Rattle.compare_rules.proofs.Places.{kinds-long}
 use Rattle.compare_rules.proofs.Counting.{fit-entries, all-counted, written-size}
 use Rattle.bundle_compare.specs.Internal.{countTo, entriesTo}
-use Rattle.bundle_compare.proofs.Entries.{put-size, written-append}
+use Rattle.bundle_compare.proofs.Entries.{written-append}
 use Rattle.bundle_compare.proofs.Tallying.{count-few, count-append, count-entries, first-no-3, second-none}
 use Rattle.bundle_compare.proofs.Listing.{first-list, second-list}
 
@@ -29,12 +29,22 @@ pub record Told (f s ones others : List ℕ) : Type 0 where
   pub second-passes : bundleCheck s ≡ pass
   pub after-ones : List ℕ
   pub after-others : List ℕ
+  pub first-few : countIn f ≤ 64
+  pub second-few : countIn s ≤ 64
+  pub ones-long : length ones ≡ 64
+  pub others-long : length others ≡ 64
   pub first-kinds : ones ≡ kindsTo (firstKind f s) (countIn f) ++ after-ones
   pub second-kinds : others ≡ kindsTo (secondKind f s) (countIn s) ++ after-others
 
 -- what was put into an array that had room
 kinds-put : (c : Check) (kind : ℕ → ℕ) (n : ℕ) (l : List ℕ) {kinds : List ℕ} → c ≡ pass → n ≤ length l → kinds ≡ bufferAfter c n (kindsTo kind (min n (length l))) l → kinds ≡ kindsTo kind n ++ drop n l
 kinds-put c kind n l e h p = p ∙ rw (e, min-eq-left h)
+
+kinds-size : (kind : ℕ → ℕ) (n : ℕ) (l : List ℕ) {kinds : List ℕ} → n ≤ length l → kinds ≡ kindsTo kind n ++ drop n l → length kinds ≡ length l
+kinds-size kind n l h e =
+    let k = kinds-long kind n in
+    let d = length-drop n l in
+    ap length e ∙ length-append (kindsTo kind n) (drop n l) ∙ omega arith
 
 -- what `find_kinds` ensures of two arrays of 64, where it passes
 pub told-by : (f s l m ones others : List ℕ) → length l ≡ 64 → length m ≡ 64 → (bundleCheck f andThen bundleCheck s) ≡ pass
@@ -46,29 +56,22 @@ told-by f s l m ones others h h′ e a b =
     let q = last-passed (bundleCheck f) (bundleCheck s) e in
     let few = contents f p .high in
     let few′ = contents s q .high in
+    let ones-are = kinds-put _ (firstKind f s) (countIn f) l e (omega arith) a in
+    let others-are = kinds-put _ (secondKind f s) (countIn s) m e (omega arith) b in
     record {
       first-passes = p;
       second-passes = q;
       after-ones = drop (countIn f) l;
       after-others = drop (countIn s) m;
-      first-kinds = kinds-put _ (firstKind f s) (countIn f) l e (omega arith) a;
-      second-kinds = kinds-put _ (secondKind f s) (countIn s) m e (omega arith) b;
+      first-few = few;
+      second-few = few′;
+      ones-long = kinds-size (firstKind f s) (countIn f) l (omega arith) ones-are ∙ h;
+      others-long = kinds-size (secondKind f s) (countIn s) m (omega arith) others-are ∙ h′;
+      first-kinds = ones-are;
+      second-kinds = others-are;
     }
 
 module _ (f s ones others : List ℕ) (t : Told f s ones others) where
-  -- each list is long enough
-  long : (kind : ℕ → ℕ) (n : ℕ) (rest : List ℕ) {kinds : List ℕ} → kinds ≡ kindsTo kind n ++ rest → n ≤ length kinds
-  long kind n rest e =
-      let l = ap length e ∙ length-append (kindsTo kind n) rest in
-      let k = kinds-long kind n in
-      omega arith
-
-  pub ones-long : countIn f ≤ length ones
-  ones-long = long _ _ (t .after-ones) (t .first-kinds)
-
-  pub others-long : countIn s ≤ length others
-  others-long = long _ _ (t .after-others) (t .second-kinds)
-
   -- the list, its counts and its bytes
   joined : entriesTo ones f (countIn f) ++ entriesTo others s (countIn s) ≡ entriesIn f s
   unfolding entriesIn entries
@@ -106,8 +109,7 @@ counted-by f s ones others m n a b d t p q one two three = record { told = t; on
 module _ (f s ones others : List ℕ) (a b d : ℕ) (k : Counted f s ones others a b d) where
   pub counts-few : (a ≤ 64) × (b ≤ 64) × (d ≤ 64)
   counts-few =
-      let m = contents f (k .told .first-passes) .high in
-      let n = contents s (k .told .second-passes) .high in
+      let t = k .told in
       (omega (arith, k .one, count-few 1 ones (countIn f)), omega (arith, k .two, count-few 2 ones (countIn f)), omega (arith, k .three, count-few 3 others (countIn s)))
 
   tally : _≡_ {A = Tally} (record { onlyFirst = a; changed = b; onlySecond = d }) (record { onlyFirst = countKind 1 (entriesIn f s); changed = countKind 2 (entriesIn f s); onlySecond = countKind 3 (entriesIn f s) })
@@ -125,25 +127,13 @@ module _ (f s ones others : List ℕ) (a b d : ℕ) (k : Counted f s ones others
       omega arith
 
   -- the bytes of both lists
-  bytes-long : length (written (entriesTo ones f (countIn f))) + length (written (entriesTo others s (countIn s))) ≡ 17 * (a + b + d)
+  pub bytes-long : length (written (entriesTo ones f (countIn f))) + length (written (entriesTo others s (countIn s))) ≡ 17 * (a + b + d)
   bytes-long =
       let w = written-size (fit-entries f s (k .told .first-passes) (k .told .second-passes)) in
       let j = ap (λ (l : List ℕ). length l) (sym (written-append (entriesTo ones f (countIn f)) (entriesTo others s (countIn s))) ∙ ap written (joined f s ones others (k .told))) in
       let l = length-append (written (entriesTo ones f (countIn f))) (written (entriesTo others s (countIn s))) in
       let z = size in
       omega arith
-
-  -- there is room for each
-  pub first-room : (room : ℕ) → 17 * (a + b + d) ≤ room → 0 + length (written (entriesTo ones f (countIn f))) ≤ room
-  first-room room h = let z = bytes-long in omega arith
-
-  pub second-room : (out₀ out₁ : List ℕ) (m : ℕ) → 17 * (a + b + d) ≤ length out₀
-      → (m ≡ 0 + length (written (entriesTo ones f (countIn f)))) × (out₁ ≡ take 0 out₀ ++ (written (entriesTo ones f (countIn f)) ++ drop m out₀))
-      → m + length (written (entriesTo others s (countIn s))) ≤ length out₁
-  second-room out₀ out₁ m h e =
-      let z = bytes-long in
-      let n = put-size 0 m (written (entriesTo ones f (countIn f))) out₀ (e .0) (omega (arith, e .0)) (e .1) in
-      omega (arith, e .0)
 
   -- too little room, and enough
   pub no-room : (room : ℕ) → room < 17 * (a + b + d) → refuse (bare 6) ≡ compareCheck f s room

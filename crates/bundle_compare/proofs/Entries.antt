@@ -15,8 +15,8 @@ use Rattle.compare_rules.specs.Compare.{Entry, listed, written}
 use Rattle.bundle_compare.specs.Internal.{entriesTo}
 
 -- bytes put in place leave the buffer as long as it was
-pub put-size : (at next : ℕ) (w l : List ℕ) {l′ : List ℕ} → next ≡ at + length w → next ≤ length l → l′ ≡ take at l ++ (w ++ drop next l) → length l′ ≡ length l
-put-size at next w l e h p =
+pub put-size : (at next : ℕ) (w l : List ℕ) {l′ : List ℕ} → l′ ≡ take at l ++ (w ++ drop next l) → next ≡ at + length w → next ≤ length l → length l′ ≡ length l
+put-size at next w l p e h =
     let t = length-take-le at l (omega arith) in
     let d = length-drop next l in
     ap length p ∙ length-append (take at l) (w ++ drop next l) ∙ simp length-append (omega arith)
@@ -109,7 +109,7 @@ module _ (kinds f : List ℕ) where
       let on = next-part l₀ done part l l′ place (length part) long (s .bytes) (rw e at p) in
       let both = ap length (bytes-on i) ∙ length-append (written (entriesTo kinds f i)) part in
       record {
-        size = put-size place next part l e (omega arith) p ∙ s .size;
+        size = put-size place next part l p e (omega arith) ∙ s .size;
         end = omega (arith, s .end);
         bytes = rw (bytes-on i, e, ← append-assoc) on;
       }

@@ -5,8 +5,7 @@ use native.Mathlib.Omega.{arith}
 use denote.Ref.{now}
 use lib.ListN.{replicate}
 use Rattle.refusal.specs.Answers.{checkedAs}
-use Rattle.bundle_rules.proofs.Reading.{contents}
-use Rattle.bundle_compare.proofs.Comparing.{Told, told-by, ones-long, others-long, Counted, counted-by, counts-few, first-room, second-room, no-room, compared, refused-early, compare-refused}
+use Rattle.bundle_compare.proofs.Comparing.{Told, told-by, Counted, counted-by, counts-few, bytes-long, no-room, compared, refused-early, compare-refused}
 use borrow.Author.Needs.{needs}
 use Rattle.bundle_compare.proofs.compare_bundles.Statement.{statement}
 use Rattle.bundle_compare.proofs.compare_bundles.Tie as tie
@@ -37,13 +36,13 @@ slice-aggregate-count-kind : tie.Need-slice-aggregate-count-kind
 slice-aggregate-count-kind c = search needs
 
 count-kind-requires : tie.Need-count-kind-requires
-count-kind-requires c κs = let t = told (c .before .before) in (omega (arith, c .before .number-at .ensures .0, contents _ (t .first-passes) .high), omega (arith, c .before .number-at .ensures .0, ones-long _ _ _ _ t))
+count-kind-requires c κs = let t = told (c .before .before) in (omega (arith, c .before .number-at .ensures .0), omega (arith, c .before .number-at .ensures .0))
 
 slice-aggregate-count-kind-2 : tie.Need-slice-aggregate-count-kind-2
 slice-aggregate-count-kind-2 c = search needs
 
 count-kind-requires-2 : tie.Need-count-kind-requires-2
-count-kind-requires-2 c κs = let t = told (c .before .before .before .before) in (omega (arith, c .before .before .before .number-at .ensures .0, contents _ (t .first-passes) .high), omega (arith, c .before .before .before .number-at .ensures .0, ones-long _ _ _ _ t))
+count-kind-requires-2 c κs = let t = told (c .before .before .before .before) in (omega (arith, c .before .before .before .number-at .ensures .0), omega (arith, c .before .before .before .number-at .ensures .0))
 
 slice-aggregate-count-kind-3 : tie.Need-slice-aggregate-count-kind-3
 slice-aggregate-count-kind-3 c = search needs
@@ -52,7 +51,7 @@ number-at-requires-2 : tie.Need-number-at-requires-2
 number-at-requires-2 c κs = search needs
 
 count-kind-requires-3 : tie.Need-count-kind-requires-3
-count-kind-requires-3 c κs = let t = told (c .before .before .before .before .before .before .before) in (omega (arith, c .number-at2 .ensures .0, contents _ (t .second-passes) .high), omega (arith, c .number-at2 .ensures .0, others-long _ _ _ _ t))
+count-kind-requires-3 c κs = let t = told (c .before .before .before .before .before .before .before) in (omega (arith, c .number-at2 .ensures .0), omega (arith, c .number-at2 .ensures .0))
 
 counted : (c : tie.After-count-kind3) → let x = c .before .before .before .before .before .before .before .before .before .before .before .before .before .before .before .before .before .before .args in let r = c .before .before .before .before .before .before .before .before .before .before .before .before .find-kinds .last in Counted (now (x .first)) (now (x .second)) (r .1 .1 .0) (r .1 .1 .1 .0) (c .before .before .before .before .before .count-kind .result) (c .before .before .before .count-kind2 .result) (c .count-kind3 .result)
 counted c = counted-by _ _ _ _ _ _ _ _ _ (told (c .before .before .before .before .before .before .before .before)) (c .before .before .before .before .before .before .before .number-at .ensures .0) (c .before .number-at2 .ensures .0) (c .before .before .before .before .before .count-kind .ensures) (c .before .before .before .count-kind2 .ensures) (c .count-kind3 .ensures)
@@ -78,7 +77,10 @@ slice-aggregate-put-entries c = search needs
 put-entries-requires : tie.Need-put-entries-requires
 put-entries-requires c κs =
     let k = counted (c .before .before .before) in
-    (k .told .first-passes, (ones-long _ _ _ _ (k .told), first-room _ _ _ _ _ _ _ k _ (c .before .before .if1 .left)))
+    let t = k .told in
+    let p = t .first-passes in
+    let q = t .second-passes in
+    (search needs, (omega arith, omega (arith, c .before .before .if1 .left, bytes-long _ _ _ _ _ _ _ k)))
 
 slice-aggregate-put-entries-2 : tie.Need-slice-aggregate-put-entries-2
 slice-aggregate-put-entries-2 c = search needs
@@ -86,7 +88,12 @@ slice-aggregate-put-entries-2 c = search needs
 put-entries-requires-2 : tie.Need-put-entries-requires-2
 put-entries-requires-2 c κs =
     let k = counted (c .before .before .before .before .before .before .before .before) in
-    (k .told .second-passes, (others-long _ _ _ _ (k .told), second-room _ _ _ _ _ _ _ k _ _ _ (c .before .before .before .before .before .before .before .if1 .left) (c .before .before .before .before .put-entries .ensures)))
+    let t = k .told in
+    let p = t .first-passes in
+    let q = t .second-passes in
+    let e = c .before .before .before .before .put-entries .ensures in
+    let z = bytes-long _ _ _ _ _ _ _ k in
+    (search needs, (omega arith, omega (arith, c .before .before .before .before .before .before .before .if1 .left, e .0)))
 
 returns-2 : tie.Need-returns-2
 returns-2 c = compare-refused _ _ _ (refused-early _ _ _ (sym (c .before .before .before .before .before .find-kinds .ensures .0) ∙ ap checkedAs (c .before .why .given .1)))

@@ -55,7 +55,7 @@ same-length : tie.Need-same-length
 same-length c =
     let x = c .before .before .before .before .before .before .before .args in
     let d = done c in
-    put-size (x .at) _ (written (listed (x .kind) (now (x .id)) [])) (now (x .out)) (d .0) (room (c .before .before .before .before)) (d .1)
+    put-size (x .at) _ (written (listed (x .kind) (now (x .id)) [])) (now (x .out)) (d .1) (d .0) (room (c .before .before .before .before))
 
 returns-2 : tie.Need-returns-2
 returns-2 c = done c
