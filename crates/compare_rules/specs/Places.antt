@@ -1,8 +1,8 @@
 -- The comparison as code makes it, over the lines of the two files: a Key ID is looked for in the lines, and a body is the part of the file that its line names.
 -- Assumes nothing.
-use Prim.Native.Nat.{ℕ, suc}
+use Prim.Native.Nat.{ℕ, zero, suc, min}
 use mathlib.Core.Bool.{cond}
-use mathlib.Core.List.{List, [], _∷_}
+use mathlib.Core.List.{List, [], _∷_, _++_}
 use lib.Dec.{ltb}
 use Rattle.slices.specs.Same.{sameList}
 use Rattle.bundle_rules.specs.Bundle.{Line, lineAt, countIn, linesIn, bodyOf}
@@ -26,3 +26,15 @@ firstKind first second i = kindInFirst (bodyOf first (lineAt first i)) (foundAt 
 
 abbrev pub secondKind : List ℕ → List ℕ → ℕ → ℕ
 secondKind first second i = kindInSecond (foundAt first (placeIn (lineAt second i .id) first))
+
+-- the kinds of the first n lines, where `kind` gives that of each
+unfoldable pub kindsTo : (ℕ → ℕ) → ℕ → List ℕ
+kindsTo kind zero = []
+kindsTo kind (suc n) = kindsTo kind n ++ (kind n ∷ [])
+
+-- the kinds of the lines of the first file, and of the second, as many as there is room for
+abbrev pub firstKinds : List ℕ → List ℕ → ℕ → List ℕ
+firstKinds first second room = kindsTo (firstKind first second) (min (countIn first) room)
+
+abbrev pub secondKinds : List ℕ → List ℕ → ℕ → List ℕ
+secondKinds first second room = kindsTo (secondKind first second) (min (countIn second) room)

@@ -25,12 +25,15 @@ ghost use Rattle.key_attribute_c.specs.Outcomes.{keyOutcome};
 ghost use Rattle.packet_rules.specs.Mac.{signAnswer, signBuffer, checkCheck};
 ghost use Rattle.packet_c.specs.Outcomes.{checkOutcome};
 ghost use Rattle.bundle_rules.specs.Bundle as Bundle;
+ghost use Rattle.compare_rules.specs.Compare.{compareAnswer, compareBuffer, compareCounts};
+ghost use Rattle.compare_c.specs.Outcomes.{comparisonOutcome};
 ghost use Rattle.slot_rules.specs.Table.{liveCount};
 ghost use Rattle.slot_rules.specs.Calls.{putAnswer, putTable, dropAnswer, dropTable};
 ghost use Rattle.slot_rules.specs.Stored.{tableOf, putStored, dropStored};
 ghost use Rattle.slots_c.specs.Outcomes.{parentFor, slotsOutcome};
 use area_c::AreaOutcome;
 use area_format::Way;
+use compare_c::Comparison;
 use key_attribute_c::KeyAttributeOutcome;
 use offers_c::FirstRoundOutcome;
 use outcome::Outcome;
@@ -316,6 +319,15 @@ pub extern "C" fn kv_read_bundle(file: &[u8], out: &mut [u8]) -> Outcome
     ensures buffer { λ _. ⌜ now (out .exit) ≡ Bundle.readBuffer (now (file .entry)) (now (out .entry)) ⌝ }
 {
     bundle_c::read_bundle(file, out)
+}
+
+// Document 02, request 10: what changed between two bundles.
+#[no_mangle]
+pub extern "C" fn kv_compare_bundles(first: &[u8], second: &[u8], out: &mut [u8]) -> Comparison
+    ensures answer { λ r. ⌜ r ≡ comparisonOutcome (compareAnswer (now (first .entry)) (now (second .entry)) (length (now (out .entry)))) (compareCounts (now (first .entry)) (now (second .entry)) (length (now (out .entry)))) ⌝ }
+    ensures buffer { λ _. ⌜ now (out .exit) ≡ compareBuffer (now (first .entry)) (now (second .entry)) (now (out .entry)) ⌝ }
+{
+    compare_c::compare_bundles(first, second, out)
 }
 
 // ---- slots

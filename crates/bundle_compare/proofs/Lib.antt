@@ -1,0 +1,4 @@
+mod Entries
+mod Tallying
+mod Listing
+mod Comparing

@@ -1,0 +1,4 @@
+mod Lines
+mod Telling
+mod Filling
+mod Finding

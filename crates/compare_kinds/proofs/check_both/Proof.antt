@@ -1,0 +1,37 @@
+-- `compare_kinds::check_both` meets its contract.
+-- Assumes nothing.
+use mathlib.Core.Path.{sym, ap, _∙_}
+use Rattle.refusal.specs.Answers.{checkedAs}
+use Rattle.refusal.proofs.Passing.{first-refuses, second-decides}
+use borrow.Author.Needs.{needs}
+use Rattle.compare_kinds.proofs.check_both.Statement.{statement}
+use Rattle.compare_kinds.proofs.check_both.Tie as tie
+
+check-bundle-requires : tie.Need-check-bundle-requires
+check-bundle-requires c κs = search needs
+
+enum-known-why : tie.Need-enum-known-why
+enum-known-why c = search needs
+
+enum-told : tie.Need-enum-told
+enum-told c = search needs
+
+check-bundle-requires-2 : tie.Need-check-bundle-requires-2
+check-bundle-requires-2 c κs = search needs
+
+returns : tie.Need-returns
+returns c = first-refuses _ _ (sym (c .before .before .before .check-bundle .ensures) ∙ ap checkedAs (c .before .why .given .1))
+
+returns-2 : tie.Need-returns-2
+returns-2 c = c .check-bundle2 .ensures ∙ second-decides _ _ (sym (c .before .before .before .check-bundle .ensures) ∙ ap checkedAs (c .before .enum-told .given .1))
+
+pub check-both-spec : {M : Type 1} → statement M
+check-both-spec =
+    tie.close
+    (tie.spec
+    check-bundle-requires
+    enum-known-why
+    enum-told
+    check-bundle-requires-2
+    returns
+    returns-2)
