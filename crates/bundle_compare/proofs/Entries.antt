@@ -1,6 +1,6 @@
 -- Entries written one after the other, from an index of the buffer on.
 -- Assumes nothing.
-use Prim.Native.Nat.{ℕ, zero, suc, _+_, _-_, _*_, _≤_, _<_}
+use Prim.Native.Nat.{ℕ, zero, suc, _+_, _-_, _≤_, _<_}
 use mathlib.Core.Path.{_≡_, refl, sym, ap, _∙_}
 use mathlib.Core.List.{List, [], _∷_, _++_, append-nil, append-assoc}
 use native.Mathlib.Nat.{add-zero}
@@ -11,7 +11,6 @@ use lib.ListN.{length, take, drop, getD, set, length-append, length-drop, take-a
 use lib.Seq.{length-take-le, take-suc-set, drop-set-lt}
 use Rattle.key_frame.proofs.Parts.{next-part}
 use Rattle.bundle_rules.specs.Bundle.{lineAt}
-use Rattle.bundle_contents.proofs.Walking.{line-id}
 use Rattle.compare_rules.specs.Compare.{Entry, listed, written}
 use Rattle.bundle_compare.specs.Internal.{entriesTo}
 
@@ -56,11 +55,6 @@ pub entry-room : (kind at n : ℕ) (id : List ℕ) → (kind ≡ 0 → ⊥) → 
 entry-room kind at n id k h = let e = ap length (entry-one kind id k) in omega arith
 
 -- ---- one after the other
-
--- the part of the file that holds the Key ID of line i
-pub line-id-is : (f : List ℕ) (i : ℕ) → take (2 + 20 * i + 16 - (2 + 20 * i)) (drop (2 + 20 * i) f) ≡ lineAt f i .id
-unfolding lineAt
-line-id-is f i = line-id f i
 
 pub written-append : (a b : List Entry) → written (a ++ b) ≡ written a ++ written b
 unfolding written

@@ -1,4 +1,4 @@
 mod Lines
-mod Telling
+pub mod Telling
 mod Filling
 mod Finding

@@ -1,15 +1,15 @@
 -- The kind of a line of one file, by the place of its Key ID in the other.
 -- Assumes nothing.
 use Prim.Native.Nat.{ℕ, _+_, _*_, _-_, _%_, _≤_, _<_}
-use mathlib.Core.Path.{_≡_, refl, sym, ap, _∙_}
-use mathlib.Core.Bool.{Bool, true, false, cond}
+use mathlib.Core.Path.{_≡_, sym, ap}
+use mathlib.Core.Bool.{Bool, cond}
 use mathlib.Core.List.{List}
 use native.Mathlib.Omega.{arith}
 use borrow.Author.Tests.{lt-ltb, le-ltb}
 use lib.ListN.{length, take, drop}
 use Rattle.refusal.specs.Checks.{pass}
 use Rattle.slices.specs.Same.{sameList}
-use Rattle.bundle_rules.specs.Bundle.{contentsEnd, lineAt, countIn, bodyOf, bundleCheck}
+use Rattle.bundle_rules.specs.Bundle.{lineAt, countIn, bodyOf, bundleCheck}
 use Rattle.bundle_rules.proofs.Reading.{contents}
 use Rattle.bundle_contents.proofs.Numbers.{lines-told}
 use Rattle.bundle_contents.proofs.Walking.{line-id}
@@ -23,7 +23,7 @@ line-inside f i line e h l =
     let t = lines-told i line (omega (arith, k .high)) l in
     (t, omega (arith, k .inside))
 
-line-id-is : (f : List ℕ) (i line : ℕ) → line ≡ 20 * i → take (2 + line + 16 - (2 + line)) (drop (2 + line) f) ≡ lineAt f i .id
+pub line-id-is : (f : List ℕ) (i line : ℕ) → line ≡ 20 * i → take (2 + line + 16 - (2 + line)) (drop (2 + line) f) ≡ lineAt f i .id
 unfolding lineAt
 line-id-is f i line l = rw l (line-id f i)
 
