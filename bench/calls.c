@@ -1,6 +1,6 @@
 /* The calls of include/ketvaulo.h that are measured, in C over another library's hash, expansion and key wrap (peer.h): the same tests
  * in the same order, the layout of the Key attribute and, over no library at all, the reader of the attribute area, written by hand as
- * eap_sim_parse_attr of wpa_supplicant is, and the bundles. */
+ * eap_sim_parse_attr of wpa_supplicant is, the bundles and their comparison. */
 #include "ketvaulo.h"
 #include "peer.h"
 #include <string.h>
@@ -446,6 +446,67 @@ kv_outcome kv_read_bundle(const uint8_t *file, size_t file_len, uint8_t *out, si
         return refused(KV_ROOM);
     memcpy(out, file + contents, file_len - contents);
     return wrote(file_len - contents);
+}
+
+/* The line of a bundle with a Key ID, or past its last line. */
+static const uint8_t *line_of(const uint8_t *file, const uint8_t *id)
+{
+    const uint8_t *line = file + 2, *last = line + 20 * get16(file);
+    while (line < last && memcmp(line, id, 16))
+        line += 20;
+    return line;
+}
+
+/* Whether the attributes of two lines are the same bytes. */
+static int same_body(const uint8_t *first, const uint8_t *a, const uint8_t *second, const uint8_t *b)
+{
+    size_t len = get16(a + 18);
+    return len == get16(b + 18) && !memcmp(first + get16(a + 16), second + get16(b + 16), len);
+}
+
+static uint8_t *put_entry(uint8_t *at, uint8_t kind, const uint8_t *id)
+{
+    *at = kind;
+    memcpy(at + 1, id, 16);
+    return at + 17;
+}
+
+kv_comparison kv_compare_bundles(const uint8_t *first, size_t first_len, const uint8_t *second, size_t second_len, uint8_t *out,
+                                 size_t out_len)
+{
+    kv_comparison r = {.refusal = bundle_refusal(first, first_len)};
+    if (!r.refusal)
+        r.refusal = bundle_refusal(second, second_len);
+    if (r.refusal)
+        return r;
+    size_t first_count = get16(first), second_count = get16(second);
+    uint8_t kinds[64], met[64] = {0}; /* the kind of each line of the first; which lines of the second stand in the first */
+    for (size_t i = 0; i < first_count; i++) {
+        const uint8_t *a = first + 2 + 20 * i, *b = line_of(second, a);
+        size_t place = (size_t)(b - second - 2) / 20;
+        kinds[i] = 0;
+        if (place == second_count) {
+            kinds[i] = KV_ONLY_FIRST;
+            r.only_first++;
+            continue;
+        }
+        met[place] = 1;
+        if (!same_body(first, a, second, b)) {
+            kinds[i] = KV_CHANGED;
+            r.changed++;
+        }
+    }
+    for (size_t i = 0; i < second_count; i++)
+        r.only_second += !met[i];
+    if (out_len < 17 * (size_t)(r.only_first + r.changed + r.only_second))
+        return (kv_comparison){.refusal = KV_ROOM};
+    for (size_t i = 0; i < first_count; i++)
+        if (kinds[i])
+            out = put_entry(out, kinds[i], first + 2 + 20 * i);
+    for (size_t i = 0; i < second_count; i++)
+        if (!met[i])
+            out = put_entry(out, KV_ONLY_SECOND, second + 2 + 20 * i);
+    return r;
 }
 
 /* ---- slots */

@@ -12,7 +12,7 @@ static const uint8_t kek_id[16] = "kek-of-the-yard", key_id[16] = "key-of-the-ga
 static const uint8_t spa[6] = {0x02, 0x11, 0x22, 0x33, 0x44, 0x55};
 static uint8_t attribute16[76], attribute192[252];
 enum { BUNDLED = 64 };
-static uint8_t attributes[BUNDLED * 252], bundle[2 + BUNDLED * (20 + 252)];
+static uint8_t attributes[BUNDLED * 252], bundle[2 + BUNDLED * (20 + 252)], later_bundle[sizeof bundle];
 uint8_t area[4 * OFFERS + 4 + NAME + 3];
 const uint8_t own_name[NAME] = {'w', 'l', 'a', 'n', '.', 'y', 'a', 'r', 'd', '.', 'e', 'x', 'a', 'm', 'p', 'l', 'e'};
 
@@ -30,6 +30,7 @@ uint16_t offers[17];
 static kv_outcome outcome;
 static kv_key_attribute attribute;
 static kv_area found;
+static kv_comparison compared;
 
 /* ---- jobs */
 static void none(void) {}
@@ -81,6 +82,10 @@ static void area_17(void) { found = kv_read_area(area, sizeof area, own_name, NA
 
 static void bundle_write_64(void) { outcome = kv_write_bundle(attributes, sizeof attributes, out, sizeof out); }
 static void bundle_read_64(void) { outcome = kv_read_bundle(bundle, sizeof bundle, out, sizeof out); }
+static void bundle_compare_64(void)
+{
+    compared = kv_compare_bundles(bundle, sizeof bundle, later_bundle, sizeof later_bundle, out, sizeof out);
+}
 
 /* All 64 slots are taken: slot 0 is a root, seven stand below it, and eight below each of these and of slot 0. A put goes into the last. */
 static kv_slots full_slots, free_slots;
@@ -111,9 +116,22 @@ const struct job jobs[JOBS] = {
     {"area-17", area_17},
     {"bundle-write-64", bundle_write_64},
     {"bundle-read-64", bundle_read_64},
+    {"bundle-compare-64", bundle_compare_64},
     {"slot-put", slot_put},
     {"slot-drop", slot_drop},
 };
+
+/* Makes the attributes and their bundle: Key IDs that are counted up, and the last byte of every third attribute changed by so much. */
+static void bundle_up(int first_id, uint8_t change, uint8_t *to)
+{
+    for (int i = 0; i < BUNDLED; i++) {
+        memcpy(attributes + 252 * i, attribute192, 252);
+        attributes[252 * i + 39] = (uint8_t)(first_id + i);
+        if (i % 3 == 0)
+            attributes[252 * i + 251] ^= change;
+    }
+    outcome = kv_write_bundle(attributes, sizeof attributes, to, sizeof bundle);
+}
 
 void prepare_jobs(void)
 {
@@ -134,11 +152,9 @@ void prepare_jobs(void)
     frame_packet(packet4096, 4096);
     write(key16, 16, attribute16, sizeof attribute16);
     write(key192, 192, attribute192, sizeof attribute192);
-    for (int i = 0; i < BUNDLED; i++) { /* Key IDs that are counted up */
-        memcpy(attributes + 252 * i, attribute192, 252);
-        attributes[252 * i + 39] = (uint8_t)i;
-    }
-    outcome = kv_write_bundle(attributes, sizeof attributes, bundle, sizeof bundle);
+    /* a later bundle: 16 Key IDs are gone and 16 are new; of the 48 others 32 agree and 16 differ */
+    bundle_up(16, 1, later_bundle);
+    bundle_up(0, 0, bundle);
     full_slots.taken = ~(uint64_t)0;
     for (int i = 0; i < KV_SLOTS; i++) {
         fill(full_slots.names[i].bytes, sizeof full_slots.names[i].bytes, (uint8_t)i);
@@ -180,11 +196,12 @@ void show_job(const struct job *job, void (*put)(const char *))
     memset(&attribute, 0, sizeof attribute);
     memset(&found, 0, sizeof found);
     memset(&changed, 0, sizeof changed);
+    memset(&compared, 0, sizeof compared);
     job->call();
     const uint64_t numbers[] = {outcome.refusal, outcome.value,   attribute.refusal, attribute.app_id, attribute.lifetime,
                                 attribute.key_len, attribute.type, found.refusal,    found.offers,     found.at,
                                 found.name_at,   found.name_len,  found.same_name,   changed.refusal,  changed.value,
-                                changed.slots.taken};
+                                changed.slots.taken, compared.refusal, compared.only_first, compared.changed, compared.only_second};
     put(job->name);
     for (size_t i = 0; i < sizeof numbers / sizeof *numbers; i++)
         show_number(numbers[i], put);

@@ -31,6 +31,7 @@ BEGIN {
     job_is("area-17", "area", "area", "area of 17 offers")
     job_is("bundle-write-64", "bundle-write", "bundle", "bundle of 64 written")
     job_is("bundle-read-64", "bundle-read", "bundle", "bundle of 64 read")
+    job_is("bundle-compare-64", "bundle-compare", "comparison", "two bundles of 64 compared")
     job_is("slot-put", "slots", "slots", "a name put into the last slot, below two others")
     job_is("slot-drop", "slots", "slots", "64 slots dropped with the root of all")
     call_is("sha256", "SHA-256")
@@ -44,6 +45,7 @@ BEGIN {
     call_is("area", "area of 17 offers")
     call_is("bundle-write", "bundle of 64 written")
     call_is("bundle-read", "bundle of 64 read")
+    call_is("bundle-compare", "two bundles of 64 compared")
     call_is("slots", "slots")
     kind_is("hash", "SHA-256")
     kind_is("usage", "usage key")
@@ -51,6 +53,7 @@ BEGIN {
     kind_is("attribute", "Key attribute, both ways")
     kind_is("area", "attribute area")
     kind_is("bundle", "bundles, both ways")
+    kind_is("comparison", "two bundles compared")
     kind_is("slots", "slots")
     kind_is("all", "all of these")
 }

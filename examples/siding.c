@@ -2,8 +2,8 @@
  * the keys of a handheld that moves to another access node, agrees with a handheld on a key derivation function, reads the
  * attribute area that carried the offers, and sends the siding's key to a neighbour as a RADIUS Key attribute, which the
  * neighbour opens: first alone, then in a packet that is signed and checked. It packs the keys of a box that moves in one
- * bundle, and keeps the names of the keys of a visited domain in slots until their EMSK expires. Each step prints its result;
- * examples/siding.expected has what must be printed. */
+ * bundle, lists what changed since last month's, and keeps the names of the keys of a visited domain in slots until their EMSK
+ * expires. Each step prints its result; examples/siding.expected has what must be printed. */
 #include "ketvaulo.h"
 #include "ketvaulo_text.h"
 
@@ -208,20 +208,46 @@ static void deliver_key(const uint8_t key[32])
     printf("another lifetime on the way: the attribute %u, the packet %u\n", (unsigned)got.refusal, (unsigned)r.refusal);
 }
 
-/* When a box moves, the Key attributes of its keys travel in one file, a bundle. No Key ID may stand twice in it. */
-static void move_box(const uint8_t key[32])
+enum { ONE = 32 + KV_KEY_ATTRIBUTE_MORE, BODIES = 2 * ONE, CONTENTS = 2 + 2 * 20, BUNDLE = CONTENTS + BODIES };
+
+/* The Key attributes of two keys, packed end to end. */
+static void pack_keys(const uint8_t key[32], const uint8_t key_ids[2][KV_ID_LEN + 1], uint32_t lifetime, uint8_t attributes[BODIES])
 {
     static const uint8_t kek[KV_KEK_LEN] = { 0, 1, 2, 3, 4, 5, 6, 7, 8, 9, 10, 11, 12, 13, 14, 15 };
     static const uint8_t kek_id[] = "yard kek 0000001";
-    static const uint8_t key_ids[2][KV_ID_LEN + 1] = { "siding gate/0012", "siding ramp/0007" };
-    enum { ONE = 32 + KV_KEY_ATTRIBUTE_MORE, CONTENTS = 2 + 2 * 20 };
-    uint8_t attributes[2 * ONE], file[CONTENTS + 2 * ONE], back[2 * ONE];
     for (size_t i = 0; i < 2; i++) {
-        kv_outcome w = kv_write_key_attribute(26, 7, kek_id, KV_ID_LEN, key_ids[i], KV_ID_LEN, 3600, kek, sizeof kek, key, 32,
+        kv_outcome w = kv_write_key_attribute(26, 7, kek_id, KV_ID_LEN, key_ids[i], KV_ID_LEN, lifetime, kek, sizeof kek, key, 32,
                                               attributes + i * ONE, ONE);
         expect_accepted("kv_write_key_attribute", w.refusal);
     }
-    kv_outcome r = kv_write_bundle(attributes, sizeof attributes, file, sizeof file);
+}
+
+/* Lists what changed since last month: what is only in the first bundle is gone, and what is only in the second is new. */
+static void list_changes(const uint8_t last_month[BUNDLE], const uint8_t file[BUNDLE])
+{
+    static const char words[4][8] = { [KV_ONLY_FIRST] = "gone", [KV_CHANGED] = "changed", [KV_ONLY_SECOND] = "new" };
+    uint8_t changes[4 * KV_CHANGE_LEN]; /* two bundles of two have four Key IDs at most; KV_CHANGES_MAX is enough for any two */
+    kv_comparison r = kv_compare_bundles(last_month, BUNDLE, file, BUNDLE, changes, sizeof changes);
+    expect_accepted("kv_compare_bundles", r.refusal);
+    for (size_t i = 0; i < r.only_first + r.changed + r.only_second; i++) {
+        const uint8_t *entry = changes + i * KV_CHANGE_LEN;
+        printf("%s: Key ID %.16s\n", words[entry[0]], (const char *)entry + 1);
+    }
+    printf("since last month %u gone, %u changed, %u new\n", (unsigned)r.only_first, (unsigned)r.changed, (unsigned)r.only_second);
+}
+
+/* When a box moves, the Key attributes of its keys travel in one file, a bundle. No Key ID may stand twice in it. Before the box goes out it
+ * is compared with last month's bundle. */
+static void move_box(const uint8_t key[32])
+{
+    static const uint8_t key_ids[2][KV_ID_LEN + 1] = { "siding gate/0012", "siding ramp/0007" };
+    static const uint8_t old_key_ids[2][KV_ID_LEN + 1] = { "siding dock/0003", "siding gate/0012" };
+    uint8_t attributes[BODIES], file[BUNDLE], last_month[BUNDLE], back[BODIES];
+    pack_keys(key, old_key_ids, 1800, attributes);
+    kv_outcome r = kv_write_bundle(attributes, sizeof attributes, last_month, sizeof last_month);
+    expect_accepted("kv_write_bundle", r.refusal);
+    pack_keys(key, key_ids, 3600, attributes);
+    r = kv_write_bundle(attributes, sizeof attributes, file, sizeof file);
     expect_accepted("kv_write_bundle", r.refusal);
     printf("bundle of %u bytes\n", (unsigned)r.value);
     print_bytes("contents", file, CONTENTS);
@@ -232,6 +258,7 @@ static void move_box(const uint8_t key[32])
     for (size_t i = 0; i < sizeof back; i++)
         differ += back[i] != attributes[i];
     printf("read back: %u bytes, %u differ\n", (unsigned)r.value, differ);
+    list_changes(last_month, file);
 
     memcpy(attributes + ONE + 24, key_ids[0], KV_ID_LEN);
     r = kv_write_bundle(attributes, sizeof attributes, file, sizeof file);

@@ -91,6 +91,8 @@ const shape shapes[CALLS] = {
                        .refusals = FRAME_REFUSALS | BIT(KV_BUNDLE_COUNT) | BIT(KV_REPEATED_KEY_ID) | BIT(KV_ROOM) },
     [READ_BUNDLE] = { .name = "kv_read_bundle", .slices = 1, BYTES, .counts = { BUNDLE }, OUT_BYTES(16128),
                       .refusals = BUNDLE_REFUSALS | BIT(KV_ROOM) },
+    [COMPARE_BUNDLES] = { .name = "kv_compare_bundles", .slices = 2, BYTES, .counts = { BUNDLE, BUNDLE }, OUT_BYTES(2176),
+                          .refusals = BUNDLE_REFUSALS | BIT(KV_ROOM) },
     /* the slots are the bytes of a slice, and the name is a number, before that of the parent */
     [PUT_SLOT] = { .name = "kv_put_slot", .slices = 1, BYTES, .counts = { ANY }, .numbers = { 8, 8 },
                    .refusals = BIT(KV_PARENT_NOT_LIVE) | BIT(KV_TOO_DEEP) | BIT(KV_SLOTS_FULL) },
@@ -141,6 +143,15 @@ static void take_key_attribute(answer *given, kv_key_attribute r)
     given->fields[3] = r.type;
     memcpy(given->kek_id, r.kek_id, 16);
     memcpy(given->key_id, r.key_id, 16);
+}
+
+static void take_comparison(answer *given, kv_comparison r)
+{
+    given->refusal = r.refusal;
+    given->fields[0] = r.only_first;
+    given->fields[1] = r.changed;
+    given->fields[2] = r.only_second;
+    given->written = KV_CHANGE_LEN * ((size_t)r.only_first + r.changed + r.only_second);
 }
 
 /* Says which part of an accepted packet may have changed: the 32 bytes from byte 20 on of its first attribute of the type. */
@@ -222,6 +233,7 @@ static void call(const request *asked, void *const in[SLICES], void *out, answer
     case CHECK_PACKET: take_outcome(given, kv_check_packet(a, an, (uint8_t)numbers[0], b, bn), 0); break;
     case WRITE_BUNDLE: take_outcome(given, kv_write_bundle(a, an, out, room), 1); break;
     case READ_BUNDLE: take_outcome(given, kv_read_bundle(a, an, out, room), 1); break;
+    case COMPARE_BUNDLES: take_comparison(given, kv_compare_bundles(a, an, b, bn, out, room)); break;
     case PUT_SLOT: take_slots(asked, given, slots, kv_put_slot(slots, name_of(numbers[0]), numbers[1])); break;
     case DROP_SLOT: take_slots(asked, given, slots, kv_drop_slot(slots, numbers[0])); break;
     case LIVE_SLOTS: given->fields[0] = kv_live_slots(slots); break;

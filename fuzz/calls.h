@@ -32,6 +32,7 @@ enum call {
     CHECK_PACKET,
     WRITE_BUNDLE,
     READ_BUNDLE,
+    COMPARE_BUNDLES,
     PUT_SLOT,
     DROP_SLOT,
     LIVE_SLOTS,

@@ -2,7 +2,8 @@
  * accepted the answer is compared with other calls of the library (relations.h).
  *
  * libFuzzer learns nothing from the archive, which has no counters. So the harness marks, call by call and refusal by refusal, how long
- * each slice and number was, which of them were accepted, and what an area was made of; an input that marks something new is kept. */
+ * each slice and number was, which of them were accepted, what an area was made of, and how many entries of each kind two bundles gave; an
+ * input that marks something new is kept. */
 #include "calls.h"
 #include "relations.h"
 #include "requests.h"
@@ -38,6 +39,10 @@ MARKS accepted[CALLS][NUMBER + NUMBERS][256];
 #define OFFERS 20
 MARKS areas[PLACES][ATTRIBUTES][OFFERS];
 
+/* How many entries of each kind an accepted comparison listed; the last stands for more. */
+#define ENTRIES 4
+MARKS comparisons[ENTRIES][ENTRIES][ENTRIES];
+
 /* The place of an answer among those of its call: 0 for acceptance, then its refusals by their numbers. */
 static int place_of(enum call call, uint32_t refusal)
 {
@@ -70,6 +75,8 @@ static void mark_area(slice area, int answered)
     areas[answered][attributes][offers] = 1;
 }
 
+static size_t entries_of(uint64_t count) { return count < ENTRIES ? (size_t)count : ENTRIES - 1; }
+
 /* Marks a count or number of the request. */
 static void mark_size(const request *asked, int answered, int which, uint64_t size)
 {
@@ -78,9 +85,9 @@ static void mark_size(const request *asked, int answered, int which, uint64_t si
         accepted[asked->call][which][size & 0xff] = 1;
 }
 
-static void mark(const request *asked, uint32_t refusal)
+static void mark(const request *asked, const answer *given)
 {
-    const int answered = place_of(asked->call, refusal);
+    const int answered = place_of(asked->call, given->refusal);
     for (int i = 0; i < shapes[asked->call].slices; i++)
         mark_size(asked, answered, i, asked->in[i].count);
     mark_size(asked, answered, ROOM, asked->room);
@@ -88,6 +95,8 @@ static void mark(const request *asked, uint32_t refusal)
         mark_size(asked, answered, NUMBER + i, asked->numbers[i]);
     if (asked->call == READ_AREA || asked->call == READ_AREA_LENIENT)
         mark_area(asked->in[0], answered);
+    if (asked->call == COMPARE_BUNDLES && given->refusal == KV_ACCEPTED)
+        comparisons[entries_of(given->fields[0])][entries_of(given->fields[1])][entries_of(given->fields[2])] = 1;
 }
 
 /* How often each call gave each answer, told at the end: what the run has tried. */
@@ -125,7 +134,7 @@ int LLVMFuzzerTestOneInput(const uint8_t *data, size_t size)
     perform(&asked, &given);
     if (given.refusal == KV_ACCEPTED)
         check_relations(&asked, &given);
-    mark(&asked, given.refusal);
+    mark(&asked, &given);
     answers[asked.call][given.refusal]++;
     free_request(&asked);
     return 0;

@@ -453,6 +453,57 @@ static void check_unpacked(const request *asked, const answer *given)
     expect(same(file, asked->in[0].values, asked->in[0].count), asked, "what was read is written as another file");
 }
 
+static size_t number_at(const uint8_t *bytes) { return (size_t)bytes[0] << 8 | bytes[1]; }
+
+/* The attribute of a Key ID in a bundle, or null. */
+static const uint8_t *attribute_of(slice bundle, const uint8_t *id)
+{
+    const uint8_t *file = bundle.values;
+    for (size_t i = 0; i < number_at(file); i++)
+        if (same(file + 2 + 20 * i, id, 16))
+            return file + number_at(file + 18 + 20 * i);
+    return NULL;
+}
+
+/* The kind by which a Key ID is listed, 0 where its attributes agree. */
+static uint8_t kind_of(slice first, slice second, const uint8_t *id)
+{
+    const uint8_t *a = attribute_of(first, id), *b = attribute_of(second, id);
+    return a == NULL ? KV_ONLY_SECOND : b == NULL ? KV_ONLY_FIRST : a[1] == b[1] && same(a, b, a[1]) ? 0 : KV_CHANGED;
+}
+
+/* The list by the lines of both bundles, and its counts; and the comparison the other way round. */
+static void check_compared(const request *asked, const answer *given)
+{
+    static uint8_t attributes[LARGEST_BUNDLE], listed[KV_CHANGES_MAX];
+    const slice bundles[2] = { asked->in[0], asked->in[1] };
+    const uint8_t *entry = (const uint8_t *)given->out, *end = entry + given->written;
+    uint64_t counts[4] = { 0 };
+    for (int i = 0; i < 2; i++) {
+        const uint8_t *file = bundles[i].values;
+        kv_outcome read = kv_read_bundle(file, bundles[i].count, attributes, sizeof attributes);
+        expect(read.refusal == KV_ACCEPTED, asked, "compared a bundle that cannot be read");
+        for (size_t j = 0; j < number_at(file); j++) {
+            const uint8_t *id = file + 2 + 20 * j;
+            const uint8_t kind = kind_of(bundles[0], bundles[1], id);
+            if (kind == 0 || (i == 1) != (kind == KV_ONLY_SECOND))
+                continue;
+            expect(entry < end && entry[0] == kind && same(entry + 1, id, 16), asked, "another entry in its place");
+            entry += KV_CHANGE_LEN;
+            counts[kind]++;
+        }
+    }
+    expect(entry == end, asked, "an entry too many");
+    expect(given->fields[0] == counts[KV_ONLY_FIRST] && given->fields[1] == counts[KV_CHANGED] && given->fields[2] == counts[KV_ONLY_SECOND],
+           asked, "other counts than those of the list");
+    kv_comparison back = kv_compare_bundles(bundles[1].values, bundles[1].count, bundles[0].values, bundles[0].count, listed, given->written);
+    expect(back.refusal == KV_ACCEPTED && back.only_first == given->fields[2] && back.changed == given->fields[1] &&
+               back.only_second == given->fields[0], asked, "the other way round is not the same with both ends changed");
+    kv_comparison itself = kv_compare_bundles(bundles[0].values, bundles[0].count, bundles[0].values, bundles[0].count, NULL, 0);
+    expect(itself.refusal == KV_ACCEPTED && itself.only_first + itself.changed + itself.only_second == 0, asked,
+           "the first bundle differs from itself");
+}
+
 /* The slot that a put took was the lowest free one and has name and parent; dropped, it alone goes where no parent named it before. */
 static void check_put(const request *asked, const answer *given)
 {
@@ -506,6 +557,7 @@ void check_relations(const request *asked, const answer *given)
     case CHECK_PACKET: check_checked(asked); break;
     case WRITE_BUNDLE: check_bundle(asked, given); break;
     case READ_BUNDLE: check_unpacked(asked, given); break;
+    case COMPARE_BUNDLES: check_compared(asked, given); break;
     case PUT_SLOT: check_put(asked, given); break;
     case DROP_SLOT: check_drop(asked, given); break;
     case LIVE_SLOTS: expect(given->fields[0] <= KV_SLOTS, asked, "counts more slots than there are"); break;

@@ -46,7 +46,8 @@
  * (kv_check_packet), and reads the Key attribute only if that was accepted. Then App ID, IDs and lifetime are the sender's.
  *
  * Bundles. When a box moves, its Key attributes travel in one file, a bundle: kv_write_bundle makes it of the attributes packed
- * end to end, and kv_read_bundle gives them back so. No KEK is wanted for either.
+ * end to end, and kv_read_bundle gives them back so. Before the box goes out, kv_compare_bundles lists what changed against
+ * an earlier bundle. No KEK is wanted for any of these.
  *
  * Slots. A controller keeps the names of its live keys in 64 slots, each below the key that it was derived from. The slots
  * are a value of the caller's: kv_put_slot and kv_drop_slot take them and return those after the call. When a key expires, a
@@ -157,6 +158,11 @@
 #define KV_BUNDLE_KEYS_MAX 64     /* attributes of a bundle */
 #define KV_BUNDLE_MAX 17410       /* the largest bundle */
 #define KV_BUNDLE_BODIES_MAX 16128 /* room for the attributes of any bundle, packed end to end */
+#define KV_CHANGE_LEN 17          /* an entry that kv_compare_bundles writes: its kind, one of the next three, and the Key ID */
+#define KV_ONLY_FIRST 1           /* the Key ID stands in the first bundle alone */
+#define KV_CHANGED 2              /* it stands in both, and the attributes differ */
+#define KV_ONLY_SECOND 3          /* it stands in the second bundle alone */
+#define KV_CHANGES_MAX 2176       /* room for the entries of any two bundles */
 #define KV_SLOTS 64               /* slots for live keys, numbered from 0 */
 #define KV_NO_PARENT (~(uint64_t)0) /* the parent of a root, as kv_put_slot takes it */
 
@@ -222,7 +228,7 @@ enum {
     KV_IV_FIELD = 27,               /* IV field not eight bytes A6 */
     KV_INTEGRITY = 28,              /* unwrapping does not yield the initial value A6 (eight times) */
 
-    /* Document 02. A number whose request has not landed yet is given by no call. */
+    /* document 02 */
     KV_KDF_INPUT_PADDING = 29,      /* AT_KDF_INPUT whose padding is not zero */
     KV_NETWORK_NAME_DIFFERS = 30,   /* a differing network name, where the caller does not ask for lenient reading */
     KV_DOMAIN_LABEL = 31,           /* a usage request under the EMSK with the label of the domain root key */
@@ -532,6 +538,26 @@ KV_USE_RESULT kv_outcome kv_write_bundle(const uint8_t *attributes, size_t attri
  * with the last attribute; 42 repeated Key ID in the contents. Then attribute by attribute 24, 20, 25, 26 and 27 as above, and
  * 50 its Key ID is not that of its line. Then 6 `out` has no room for the attributes. */
 KV_USE_RESULT kv_outcome kv_read_bundle(const uint8_t *file, size_t file_len, uint8_t *out, size_t out_len);
+
+/* What kv_compare_bundles returns: how many entries of each kind it wrote. On a refusal every count is 0. */
+typedef struct {
+    uint32_t refusal, only_first, changed, only_second;
+} kv_comparison;
+KV_LAYOUT(sizeof(kv_comparison) == 16 && offsetof(kv_comparison, only_second) == 12);
+
+/* Lists what changed between two bundles, say last month's and this month's (document 02, request 10). An entry has 17
+ * bytes: its kind, which is 1 (only in the first), 2 (in both, and the attributes differ) or 3 (only in the second), and
+ * then the Key ID (16). Each Key ID that differs is listed exactly once, and none whose attributes agree. Those of kind 1
+ * and 2 come first, mixed, in the order of the first bundle, and then those of kind 3 in the order of the second. Returns
+ * how many there are of each kind; what is written is 17 times their sum. Where nothing differs nothing is written, and
+ * `out` may have no bytes. Room for 2,176 bytes is always enough. Both files may be the same memory.
+ *
+ * Attributes differ where their lengths do or any byte does. Their order in the file is no difference. A key that was
+ * wrapped under another KEK, or has another lifetime, is a change.
+ * Refusals: first those of kv_read_bundle for `first`, without 6; then those for `second`, likewise. Then 6 `out` has no
+ * room for the entries. */
+KV_USE_RESULT kv_comparison kv_compare_bundles(const uint8_t *first, size_t first_len, const uint8_t *second, size_t second_len,
+                                               uint8_t *out, size_t out_len);
 
 /* Slots for live keys. Each of the 64 is free or holds a key's name, which is any 8 bytes, as kv_key_name writes them, and
  * its parent: none, so that the key is a root, or the slot of the key that it was derived from.

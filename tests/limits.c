@@ -131,6 +131,21 @@ int main(void)
     GIVES(kv_read_bundle(file, KV_BUNDLE_MAX, attributes, KV_BUNDLE_BODIES_MAX), KV_BUNDLE_BODIES_MAX);
     IS(kv_read_bundle(file, KV_BUNDLE_MAX, attributes, KV_BUNDLE_BODIES_MAX - 1), KV_ROOM);
 
+    /* a bundle with none of these Key IDs, and then one that has the first of them, with another type */
+    static uint8_t other[KV_BUNDLE_MAX], changes[KV_CHANGES_MAX];
+    for (size_t i = 0; i < KV_BUNDLE_KEYS_MAX; i++)
+        attributes[i * KV_KEY_ATTRIBUTE_MAX + 25] = 1;
+    IS(kv_write_bundle(attributes, KV_BUNDLE_BODIES_MAX, other, sizeof other), KV_ACCEPTED);
+    kv_comparison compared = kv_compare_bundles(file, KV_BUNDLE_MAX, other, sizeof other, changes, sizeof changes);
+    expect(KV_CHANGE_LEN * (compared.only_first + compared.only_second), KV_CHANGES_MAX, "KV_CHANGES_MAX");
+    expect(changes[0], KV_ONLY_FIRST, "KV_ONLY_FIRST");
+    expect(changes[sizeof changes - KV_CHANGE_LEN], KV_ONLY_SECOND, "KV_ONLY_SECOND");
+    IS(kv_compare_bundles(file, KV_BUNDLE_MAX, other, sizeof other, changes, sizeof changes - 1), KV_ROOM);
+    attributes[0] = 2, attributes[25] = 0;
+    IS(kv_write_bundle(attributes, KV_BUNDLE_BODIES_MAX, other, sizeof other), KV_ACCEPTED);
+    expect(kv_compare_bundles(file, KV_BUNDLE_MAX, other, sizeof other, changes, sizeof changes).changed, 1, "changed");
+    expect(changes[0], KV_CHANGED, "KV_CHANGED");
+
     kv_slots slots = { 0 };
     kv_name named = { { 'a' } };
     for (int i = 0; i < KV_SLOTS; i++) {

@@ -45,6 +45,16 @@ pub struct KeyAttribute {
     pub key_id: [u8; 16],
 }
 
+/// What comparing two bundles answers: how many entries of each kind were written.
+#[repr(C)]
+#[derive(Clone, Copy, Debug, Default, PartialEq)]
+pub struct Comparison {
+    pub refusal: u32,
+    pub only_first: u32,
+    pub changed: u32,
+    pub only_second: u32,
+}
+
 /// The name of a key.
 #[repr(C)]
 #[derive(Clone, Copy, Debug, Default, PartialEq)]
@@ -247,6 +257,15 @@ extern "C" {
     pub fn kv_write_bundle(attributes: *const u8, attributes_len: usize, out: *mut u8, out_len: usize) -> Outcome;
 
     pub fn kv_read_bundle(file: *const u8, file_len: usize, out: *mut u8, out_len: usize) -> Outcome;
+
+    pub fn kv_compare_bundles(
+        first: *const u8,
+        first_len: usize,
+        second: *const u8,
+        second_len: usize,
+        out: *mut u8,
+        out_len: usize,
+    ) -> Comparison;
 
     pub fn kv_put_slot(slots: Slots, name: Name, parent: u64) -> SlotsOutcome;
 

@@ -86,6 +86,7 @@ fn main() -> ExitCode {
         ["kv_write_bundle"] "kv_write_bundle" => cases::bundle::write;
         ["kv_read_bundle"] "kv_read_bundle" => cases::bundle::read;
         ["kv_write_bundle", "kv_read_bundle"] "bundles, there and back" => cases::bundle::round_trips;
+        ["kv_compare_bundles"] "kv_compare_bundles" => cases::compare::run;
         ["kv_put_slot"] "kv_put_slot" => cases::slots::put;
         ["kv_drop_slot"] "kv_drop_slot" => cases::slots::drop;
         ["kv_live_slots"] "kv_live_slots" => cases::slots::live;

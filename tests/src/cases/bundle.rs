@@ -198,7 +198,7 @@ fn set_body(call: &mut ReadBundle, at: usize, byte: u8) {
     set(call, place, byte);
 }
 
-const READ_FAULTS: &[Fault<ReadBundle>] = &[
+pub const READ_FAULTS: &[Fault<ReadBundle>] = &[
     (39, |call| call.file = vec![0, 0].into()),
     (39, |call| call.file.clear()),
     (39, |call| call.file.truncate(1)),

@@ -3,6 +3,7 @@
 pub mod aka;
 pub mod area;
 pub mod bundle;
+pub mod compare;
 pub mod domain;
 pub mod exports;
 pub mod handover;

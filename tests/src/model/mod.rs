@@ -4,6 +4,7 @@ pub mod aka;
 pub mod area;
 pub mod handover;
 pub mod bundle;
+pub mod compare;
 pub mod domain;
 pub mod key_attribute;
 pub mod key_name;
