@@ -250,9 +250,21 @@ extern "C" {
         out_len: usize,
     ) -> KeyAttribute;
 
-    pub fn kv_sign_packet(mac_key: *const u8, mac_key_len: usize, kind: u8, packet: *mut u8, packet_len: usize) -> Outcome;
+    pub fn kv_sign_packet(
+        mac_key: *const u8,
+        mac_key_len: usize,
+        kind: u8,
+        packet: *mut u8,
+        packet_len: usize,
+    ) -> Outcome;
 
-    pub fn kv_check_packet(mac_key: *const u8, mac_key_len: usize, kind: u8, packet: *const u8, packet_len: usize) -> Outcome;
+    pub fn kv_check_packet(
+        mac_key: *const u8,
+        mac_key_len: usize,
+        kind: u8,
+        packet: *const u8,
+        packet_len: usize,
+    ) -> Outcome;
 
     pub fn kv_write_bundle(attributes: *const u8, attributes_len: usize, out: *mut u8, out_len: usize) -> Outcome;
 

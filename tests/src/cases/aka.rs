@@ -124,8 +124,13 @@ fn every_bit(group: &mut Group) {
         room: KEYS,
     };
     let plain = group.compare(&call);
-    let inputs: [fn(&mut AkaKeys) -> &mut Bytes; 5] =
-        [|call| &mut call.ck, |call| &mut call.ik, |call| &mut call.name, |call| &mut call.sqn_xor_ak, |call| &mut call.identity];
+    let inputs: [fn(&mut AkaKeys) -> &mut Bytes; 5] = [
+        |call| &mut call.ck,
+        |call| &mut call.ik,
+        |call| &mut call.name,
+        |call| &mut call.sqn_xor_ak,
+        |call| &mut call.identity,
+    ];
     for input in inputs {
         for bit in 0..8 * input(&mut call.clone()).len() {
             let mut changed = call.clone();
@@ -140,6 +145,12 @@ fn every_bit(group: &mut Group) {
 fn emsk_is_root(group: &mut Group) {
     for _ in 0..50 {
         let keys = request(&mut group.rng).keys().expect("accepted");
-        group.compare(&UsageKey { emsk: keys[144..].into(), label: "gate@yard".into(), data: "12".into(), n: 32, room: 32 });
+        group.compare(&UsageKey {
+            emsk: keys[144..].into(),
+            label: "gate@yard".into(),
+            data: "12".into(),
+            n: 32,
+            room: 32,
+        });
     }
 }

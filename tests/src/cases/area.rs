@@ -55,9 +55,14 @@ impl Call for ReadArea {
                 Way::Strict => {
                     ffi::kv_read_area(area.pointer, area.len, own_name.pointer, own_name.len, out.pointer, out.len)
                 }
-                Way::Lenient => {
-                    ffi::kv_read_area_lenient(area.pointer, area.len, own_name.pointer, own_name.len, out.pointer, out.len)
-                }
+                Way::Lenient => ffi::kv_read_area_lenient(
+                    area.pointer,
+                    area.len,
+                    own_name.pointer,
+                    own_name.len,
+                    out.pointer,
+                    out.len,
+                ),
             }
         }
     }

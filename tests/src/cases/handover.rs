@@ -24,16 +24,7 @@ impl Call for R0Key {
         let out = lender.room(self.room);
         // SAFETY: all of it is lent.
         unsafe {
-            ffi::kv_r0_key(
-                rrk.pointer,
-                rrk.len,
-                ad_id.pointer,
-                ad_id.len,
-                spa.pointer,
-                spa.len,
-                out.pointer,
-                out.len,
-            )
+            ffi::kv_r0_key(rrk.pointer, rrk.len, ad_id.pointer, ad_id.len, spa.pointer, spa.len, out.pointer, out.len)
         }
     }
 }

@@ -95,7 +95,8 @@ fn names(group: &mut Group) {
         ("FOO", "FOOBAR", false),
     ];
     for (a, b, agree) in pairs {
-        let right = names_agree(a.as_bytes(), b.as_bytes()) == agree && names_agree(b.as_bytes(), a.as_bytes()) == agree;
+        let right =
+            names_agree(a.as_bytes(), b.as_bytes()) == agree && names_agree(b.as_bytes(), a.as_bytes()) == agree;
         row(group, &format!("names {a:?} and {b:?}"), right);
     }
 }

@@ -36,11 +36,7 @@ pub struct R0Key {
 
 impl R0Key {
     pub fn tests(&self) -> Order {
-        vec![
-            (33, self.rrk.len() != RRK),
-            (34, self.ad_id.len() != ID || self.spa.len() != SPA),
-            (6, self.room < KEY),
-        ]
+        vec![(33, self.rrk.len() != RRK), (34, self.ad_id.len() != ID || self.spa.len() != SPA), (6, self.room < KEY)]
     }
 
     pub fn key(&self) -> Result<Vec<u8>, Refusal> {

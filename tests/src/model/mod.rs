@@ -2,10 +2,10 @@
 
 pub mod aka;
 pub mod area;
-pub mod handover;
 pub mod bundle;
 pub mod compare;
 pub mod domain;
+pub mod handover;
 pub mod key_attribute;
 pub mod key_name;
 pub mod offers;
