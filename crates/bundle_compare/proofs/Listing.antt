@@ -47,19 +47,24 @@ module _ (kinds f : List ℕ) (n : ℕ) (rest : ℕ → List Entry)
 no-lines : (f : List ℕ) → map (bodyOf f) (linesFrom f (countIn f) (countIn f - countIn f)) ≡ []
 no-lines f = ap (map (bodyOf f)) (lines-done f (countIn f) (countIn f) (omega arith))
 
+-- the entries of a file's lines by their kinds are a list of its bodies that grows by one entry a line
+list-of :
+    (f kinds : List ℕ) (kind : ℕ → ℕ) (of : List (List ℕ) → List Entry)
+    → ((i : ℕ) → i < countIn f → of (map (bodyOf f) (linesFrom f i (countIn f - i))) ≡ listed (kind i) (lineAt f i .id) (of (map (bodyOf f) (linesFrom f (i + 1) (countIn f - (i + 1))))))
+    → of [] ≡ []
+    → (rest : List ℕ) → kinds ≡ kindsTo kind (countIn f) ++ rest
+    → entriesTo kinds f (countIn f) ≡ of (bodiesOf f)
+list-of f kinds kind of next none rest e =
+    all-walked kinds f (countIn f) (λ i. of (map (bodyOf f) (linesFrom f i (countIn f - i))))
+    (λ i h. next i h ∙ ap (λ (k : ℕ). listed k (lineAt f i .id) (of (map (bodyOf f) (linesFrom f (i + 1) (countIn f - (i + 1)))))) (sym (kind-told kind (countIn f) i rest e h)))
+    (ap of (no-lines f) ∙ none)
+    ∙ rw (sub-zero (countIn f))
+
 module _ (f s : List ℕ) (p : bundleCheck f ≡ pass) (q : bundleCheck s ≡ pass) (kinds : List ℕ) where
   pub first-list : (rest : List ℕ) → kinds ≡ kindsTo (firstKind f s) (countIn f) ++ rest → entriesTo kinds f (countIn f) ≡ firstEntries (bodiesOf s) (bodiesOf f)
   unfolding firstEntries
-  first-list rest e =
-      all-walked kinds f (countIn f) (λ i. firstEntries (bodiesOf s) (map (bodyOf f) (linesFrom f i (countIn f - i))))
-      (λ i h. first-next f s i p q h ∙ ap (λ (k : ℕ). listed k (lineAt f i .id) (firstEntries (bodiesOf s) (map (bodyOf f) (linesFrom f (i + 1) (countIn f - (i + 1)))))) (sym (kind-told (firstKind f s) (countIn f) i rest e h)))
-      (ap (firstEntries (bodiesOf s)) (no-lines f))
-      ∙ rw (sub-zero (countIn f))
+  first-list = list-of f kinds (firstKind f s) (firstEntries (bodiesOf s)) (λ i h. first-next f s i p q h) refl
 
   pub second-list : (rest : List ℕ) → kinds ≡ kindsTo (secondKind f s) (countIn s) ++ rest → entriesTo kinds s (countIn s) ≡ secondEntries (bodiesOf f) (bodiesOf s)
   unfolding secondEntries
-  second-list rest e =
-      all-walked kinds s (countIn s) (λ i. secondEntries (bodiesOf f) (map (bodyOf s) (linesFrom s i (countIn s - i))))
-      (λ i h. second-next f s i p q h ∙ ap (λ (k : ℕ). listed k (lineAt s i .id) (secondEntries (bodiesOf f) (map (bodyOf s) (linesFrom s (i + 1) (countIn s - (i + 1)))))) (sym (kind-told (secondKind f s) (countIn s) i rest e h)))
-      (ap (secondEntries (bodiesOf f)) (no-lines s))
-      ∙ rw (sub-zero (countIn s))
+  second-list = list-of s kinds (secondKind f s) (secondEntries (bodiesOf f)) (λ i h. second-next f s i p q h) refl
