@@ -36,25 +36,31 @@ kit_folder() {
 }
 tools_folder() { echo "$(kit_folder)/on/$(uname -m)/toolchain/bin"; }
 
-# Runs rt staticlib with a copy of the kit by links, in which clang is a script. The script keeps the module and the flags that rattle
+# link_kit FOLDER FILE: makes FOLDER a copy of the kit by links, all but FILE, which the caller puts there
+link_kit() {
+    local kit copy=$1 at=. part file
+    kit=$(kit_folder) || return 1
+    for part in ${2//\// }; do
+        for file in "$kit/$at"/*; do [ "${file##*/}" = "$part" ] || ln -s "$file" "$copy/$at/" || return 1; done
+        at=$at/$part
+        [ "$at" = "./$2" ] || mkdir "$copy/$at" || return 1
+    done
+}
+
+# Runs rt staticlib with a copy of the kit in which clang is a script. The script keeps the module and the flags that rattle
 # hands to clang, and calls clang. So the archive is what rt staticlib makes anyway.
 build_library() {
-    local kit copy at=. part file status
-    kit=$(kit_folder) || return 1
+    local copy clang status
+    clang=on/$(uname -m)/toolchain/bin/clang
     mkdir -p target/staticlib
-    copy=$(mktemp -d "$PWD/target/kit.XXXXXX") || return 1
-    for part in on "$(uname -m)" toolchain bin clang; do
-        for file in "$kit/$at"/*; do [ "${file##*/}" = "$part" ] || ln -s "$file" "$copy/$at/"; done
-        at=$at/$part
-        [ "$part" = clang ] || mkdir "$copy/$at"
-    done
-    cat >"$copy/$at" <<SCRIPT
+    copy=$(mktemp -d "$PWD/target/kit.XXXXXX") && link_kit "$copy" "$clang" || return 1
+    cat >"$copy/$clang" <<SCRIPT
 #!/bin/sh
 for word in "\$@"; do case \$word in *.bc) cp "\$word" "$PWD/target/staticlib/ketvaulo.bc" ;; esac; done
 printf '%s\n' "\$@" >"$PWD/$module_flags"
-exec "$kit/$at" "\$@"
+exec "$(kit_folder)/$clang" "\$@"
 SCRIPT
-    chmod +x "$copy/$at"
+    chmod +x "$copy/$clang"
     RATTLE_HOME=$copy "$copy/bin/rt" staticlib ketvaulo
     status=$?
     rm -rf "$copy"
