@@ -122,8 +122,12 @@ module _ (s : Slots) (f : Fits s) where
     pub parent-below : (q : ℕ) → p ≡ Below q → q < 64
     parent-below q z = live-below q (sym (ap (parentLive (tableOf s)) z) ∙ parent-lives)
 
+  names-taken : (i : ℕ) (x : Name) (p : Parent) → namesOf (taking s i x p) ≡ set (namesOf s) i x
+  unfolding namesOf
+  names-taken i x p = names-put i x s (byteOf p) f
+
   pub put-stored : (x : Name) (p : Parent) → tableOf (putStored s x p) ≡ putTable (tableOf s) x p
-  unfolding putStored putTable namesOf
+  unfolding putStored putTable
   put-stored x p = go (putCheck (tableOf s) p) refl
     where
       go : (c : Check) → putCheck (tableOf s) p ≡ c → tableOf (putStored s x p) ≡ putTable (tableOf s) x p
@@ -132,7 +136,7 @@ module _ (s : Slots) (f : Fits s) where
           let h : lowestFree (tableOf s) < 64 = room p e in
           let inside : lowestFree (tableOf s) < length (namesOf s) = omega (arith, l) in
           simp e
-          (ap (λ (names : List Name). slotsFrom (bitOr (s .taken) (2 ^ i)) (keysOf names (set (s .parents) i (byteOf p)))) (names-put i x s (byteOf p) f)
+          (ap (λ (names : List Name). slotsFrom (bitOr (s .taken) (2 ^ i)) (keysOf names (set (s .parents) i (byteOf p)))) (names-taken i x p)
           ∙ ap (slotsFrom (bitOr (s .taken) (2 ^ i))) (keys-set (namesOf s) (s .parents) i x (byteOf p) (l ∙ sym m) inside)
           ∙ put-law (keysOf (namesOf s) (s .parents)) (s .taken) i (record { name = x; parent = parentOf (byteOf p) }) (keys-inside i h)
           ∙ ap (λ (q : Parent). set (tableOf s) i (holding (record { name = x; parent = q }))) (byte-back p (parent-below p e)))
