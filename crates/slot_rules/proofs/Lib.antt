@@ -2,5 +2,6 @@ pub mod Digits
 pub mod Tables
 pub mod Sound
 pub mod Statements
+pub mod Rows
 pub mod Steps
 pub mod Stored

@@ -21,9 +21,10 @@ use Rattle.slot_rules.specs.declared.Parent.the-variants.{Root, Below}
 use Rattle.slot_rules.specs.Table.{hasDigit, holding, slotsFrom, lowestFree, liveCount, isLive, freed, countGone, wordGone}
 use Rattle.slot_rules.specs.Parents.{Key, goesWith, parentLive, rootNear}
 use Rattle.slot_rules.specs.Calls.{check46, check47, check48, check49, putCheck, putAnswer, putTable, dropAnswer, dropTable}
-use Rattle.slot_rules.specs.Stored.{tableOf, parentOf, byteOf, keysOf, taking, freeing, putStored, goneIn, dropStored}
+use Rattle.slot_rules.specs.Stored.{tableOf, parentOf, byteOf, keysOf, namesOf, withTaken, withKey, taking, freeing, putStored, goneIn, dropStored}
 use Rattle.slot_rules.specs.Internal.{stepFrom, stepIn, reachesBy, rootWithinTwoBy}
 use Rattle.slot_rules.proofs.Digits.{put-law, freed-law, count-law, word-same}
+use Rattle.slot_rules.proofs.Rows.{Fits, names-length, names-put}
 use Rattle.slot_rules.proofs.Steps.{table, keys, below, keys-set, same-ways}
 use Rattle.slot_rules.proofs.Steps
 
@@ -56,31 +57,40 @@ module _ (p : Parent) (h : (q : ℕ) → p ≡ Below q → q < 64) where
       go Root h = omega arith
       go (Below q) h = let l : q < 64 = h q refl in omega arith
 
--- slots as they are stored: a word of 64 digits, 64 names, 64 parents
-module _ (s : Slots) (b : s .taken < 2 ^ 64) (l : length (s .names) ≡ 64) (m : length (s .parents) ≡ 64) where
+-- slots as they are stored
+module _ (s : Slots) (f : Fits s) where
+  b : s .taken < 2 ^ 64
+  b = f .bits
+
+  l : length (namesOf s) ≡ 64
+  l = names-length s f
+
+  m : length (s .parents) ≡ 64
+  m = f .parents
+
   pub counted : ones (s .taken) ≡ liveCount (tableOf s)
-  counted = Steps.counted (s .taken) (s .names) (s .parents) b l m
+  counted = Steps.counted (s .taken) (namesOf s) (s .parents) b l m
 
   pub lowest : trailingZeros 64 ((2 ^ 64 - 1) - s .taken) ≡ lowestFree (tableOf s)
   unfolding table keys
-  lowest = Steps.lowest (s .taken) (s .names) (s .parents) b l m
+  lowest = Steps.lowest (s .taken) (namesOf s) (s .parents) b l m
 
   size : length (tableOf s) ≡ 64
   unfolding table keys
-  size = Steps.long (s .taken) (s .names) (s .parents) b l m
+  size = Steps.long (s .taken) (namesOf s) (s .parents) b l m
 
   pub live : (n : ℕ) → isLive (tableOf s) n ≡ hasDigit (s .taken) n
   unfolding table keys
-  live n = Steps.live-of (s .taken) (s .names) (s .parents) b l m n
+  live n = Steps.live-of (s .taken) (namesOf s) (s .parents) b l m n
 
   pub live-below : (n : ℕ) → isLive (tableOf s) n ≡ true → n < 64
   live-below n e = below (s .taken) n (sym (live n) ∙ e)
 
-  keys-size : length (keysOf (s .names) (s .parents)) ≡ 64
+  keys-size : length (keysOf (namesOf s) (s .parents)) ≡ 64
   unfolding keys
-  keys-size = Steps.size (s .taken) (s .names) (s .parents) b l m
+  keys-size = Steps.size (s .taken) (namesOf s) (s .parents) b l m
 
-  keys-inside : (i : ℕ) → i < 64 → i < length (keysOf (s .names) (s .parents))
+  keys-inside : (i : ℕ) → i < 64 → i < length (keysOf (namesOf s) (s .parents))
   keys-inside i h = let z = keys-size in omega arith
 
   -- 46 asks for a slot below 64
@@ -92,7 +102,7 @@ module _ (s : Slots) (b : s .taken < 2 ^ 64) (l : length (s .names) ≡ 64) (m :
 
   pub near : (p : ℕ) → rootNear (tableOf s) (Below p) ≡ rootWithinTwoBy (s .taken) (s .parents) p
   unfolding table keys
-  near p = Steps.near-of (s .taken) (s .names) (s .parents) b l m p
+  near p = Steps.near-of (s .taken) (namesOf s) (s .parents) b l m p
 
   pub parent-checked : (p : ℕ)
       → (unless (hasDigit (s .taken) p) (bare 48) andThen unless (rootWithinTwoBy (s .taken) (s .parents) p) (bare 49))
@@ -112,6 +122,10 @@ module _ (s : Slots) (b : s .taken < 2 ^ 64) (l : length (s .names) ≡ 64) (m :
     pub parent-below : (q : ℕ) → p ≡ Below q → q < 64
     parent-below q z = live-below q (sym (ap (parentLive (tableOf s)) z) ∙ parent-lives)
 
+  names-taken : (i : ℕ) (x : Name) (p : Parent) → namesOf (taking s i x p) ≡ set (namesOf s) i x
+  unfolding namesOf
+  names-taken i x p = names-put i x s (byteOf p) f
+
   pub put-stored : (x : Name) (p : Parent) → tableOf (putStored s x p) ≡ putTable (tableOf s) x p
   unfolding putStored putTable
   put-stored x p = go (putCheck (tableOf s) p) refl
@@ -120,10 +134,11 @@ module _ (s : Slots) (b : s .taken < 2 ^ 64) (l : length (s .names) ≡ 64) (m :
       go pass e =
           let i : ℕ = lowestFree (tableOf s) in
           let h : lowestFree (tableOf s) < 64 = room p e in
-          let inside : lowestFree (tableOf s) < length (s .names) = omega arith in
+          let inside : lowestFree (tableOf s) < length (namesOf s) = omega (arith, l) in
           simp e
-          (ap (slotsFrom (bitOr (s .taken) (2 ^ i))) (keys-set (s .names) (s .parents) i x (byteOf p) (l ∙ sym m) inside)
-          ∙ put-law (keysOf (s .names) (s .parents)) (s .taken) i (record { name = x; parent = parentOf (byteOf p) }) (keys-inside i h)
+          (ap (λ (names : List Name). slotsFrom (bitOr (s .taken) (2 ^ i)) (keysOf names (set (s .parents) i (byteOf p)))) (names-taken i x p)
+          ∙ ap (slotsFrom (bitOr (s .taken) (2 ^ i))) (keys-set (namesOf s) (s .parents) i x (byteOf p) (l ∙ sym m) inside)
+          ∙ put-law (keysOf (namesOf s) (s .parents)) (s .taken) i (record { name = x; parent = parentOf (byteOf p) }) (keys-inside i h)
           ∙ ap (λ (q : Parent). set (tableOf s) i (holding (record { name = x; parent = q }))) (byte-back p (parent-below p e)))
       go (refuse y) e = simp e
 
@@ -133,9 +148,9 @@ module _ (s : Slots) (b : s .taken < 2 ^ 64) (l : length (s .names) ≡ 64) (m :
   pub gone-live : (n : ℕ) (steps : List ℕ) → hasDigit (s .taken) n ≡ true → ((j : ℕ) → stepIn steps j ≡ stepFrom (s .taken) (s .parents) j)
       → wordGone (reachesBy (stepIn steps) n) 0 64 ≡ goneIn s n
   unfolding goneIn check47 table keys
-  gone-live n steps e f =
-      word-same _ _ (λ j. same-ways (stepIn steps) (stepFrom (s .taken) (s .parents)) f n j
-      ∙ sym (Steps.goes-of (s .taken) (s .names) (s .parents) b l m n j e)) 0 64
+  gone-live n steps e g =
+      word-same _ _ (λ j. same-ways (stepIn steps) (stepFrom (s .taken) (s .parents)) g n j
+      ∙ sym (Steps.goes-of (s .taken) (namesOf s) (s .parents) b l m n j e)) 0 64
       ∙ sym (ap (λ (c : Check). afterCheck c (wordGone (goesWith (tableOf s) n) 0 64) 0) (test-holds _ _ (live n ∙ e)))
 
   pub gone-none : (n : ℕ) → hasDigit (s .taken) n ≡ false → 0 ≡ goneIn s n
@@ -147,14 +162,14 @@ module _ (s : Slots) (b : s .taken < 2 ^ 64) (l : length (s .names) ≡ 64) (m :
   gone-by n e = rw e
 
   pub drop-stored : (n : ℕ) → tableOf (dropStored s n) ≡ dropTable (tableOf s) n
-  unfolding dropStored dropTable
+  unfolding dropStored dropTable namesOf
   drop-stored n = go (check47 (tableOf s) n) refl
     where
       go : (c : Check) → check47 (tableOf s) n ≡ c → tableOf (dropStored s n) ≡ dropTable (tableOf s) n
       go pass e =
           simp e
-          (ap (λ (g : ℕ). slotsFrom (bitAnd (s .taken) ((2 ^ 64 - 1) - g)) (keysOf (s .names) (s .parents))) (gone-by n e)
-          ∙ rw keys-size at (freed-law (goesWith (tableOf s) n) (keysOf (s .names) (s .parents)) (s .taken) 0))
+          (ap (λ (g : ℕ). slotsFrom (bitAnd (s .taken) ((2 ^ 64 - 1) - g)) (keysOf (namesOf s) (s .parents))) (gone-by n e)
+          ∙ rw keys-size at (freed-law (goesWith (tableOf s) n) (keysOf (namesOf s) (s .parents)) (s .taken) 0))
       go (refuse y) e = simp e
 
   pub drop-count : (n : ℕ) → isLive (tableOf s) n ≡ true → wrote (ones (goneIn s n)) ≡ dropAnswer (tableOf s) n
@@ -165,15 +180,6 @@ module _ (s : Slots) (b : s .taken < 2 ^ 64) (l : length (s .names) ≡ 64) (m :
       ∙ sym (ap (λ (d : Check). answerTo d (countGone (goesWith (tableOf s) n) 0 (length (tableOf s)))) c)
 
 -- ---- the other cases of the calls
-
--- slots with this word of taken ones, and with this name and this byte at a place
-abbrev written : Slots → ℕ → ℕ → ℕ → Name → Slots
-written s w i q x = record { taken = w; names = set (s .names) i x; parents = set (s .parents) i q }
-
--- at a place that is no slot's nothing is written
-pub no-place : (s : Slots) (w i q : ℕ) → length (s .names) ≤ i → length (s .parents) ≤ i → (x : Name)
-    → written s w i q x ≡ record { taken = w; names = s .names; parents = s .parents }
-no-place s w i q g h x = λ j. record { taken = w; names = set-out (s .names) i x g j; parents = set-out (s .parents) i q h j }
 
 module _ (s : Slots) (p : Parent) where
   pub put-number : (i : ℕ) → i ≡ lowestFree (tableOf s) → putCheck (tableOf s) p ≡ pass → wrote i ≡ putAnswer (tableOf s) p
@@ -186,14 +192,14 @@ module _ (s : Slots) (p : Parent) where
 
   -- by what changes, whatever the name is
   pub put-takes : (w i q : ℕ) → i ≡ lowestFree (tableOf s) → putCheck (tableOf s) p ≡ pass → w ≡ bitOr (s .taken) (2 ^ i) → q ≡ byteOf p
-      → (x : Name) → written s w i q x ≡ putStored s x p
+      → (x : Name) → withKey (withTaken s w) i x q ≡ putStored s x p
   unfolding putStored
-  put-takes w i q e h t k x = rw h ((λ j. written s (t j) i (k j) x) ∙ ap (λ (n : ℕ). taking s n x p) e)
+  put-takes w i q e h t k x = rw h ((λ j. withKey (withTaken s (t j)) i x (k j)) ∙ ap (λ (n : ℕ). taking s n x p) e)
 
-  pub put-leaves : (i q : ℕ) (y : Reason) → putCheck (tableOf s) p ≡ refuse y → length (s .names) ≤ i → length (s .parents) ≤ i
-      → (x : Name) → written s (s .taken) i q x ≡ putStored s x p
+  -- 64 is no slot's place
+  pub put-leaves : (q : ℕ) (y : Reason) → putCheck (tableOf s) p ≡ refuse y → length (s .parents) ≤ 64 → (x : Name) → withKey s 64 x q ≡ putStored s x p
   unfolding putStored
-  put-leaves i q y h g m x = rw h (no-place s (s .taken) i q g m x)
+  put-leaves q y h m x = rw h (rw (set-out (s .parents) 64 q m))
 
 module _ (s : Slots) (n : ℕ) where
   pub drop-none : isLive (tableOf s) n ≡ false → refused (bare 47) ≡ dropAnswer (tableOf s) n

@@ -1,14 +1,16 @@
 // Sixty-four slots for live keys, each free or holding the name of a key and its parent (document 02, requests 12 and 13). The slots are passed by
 // value. A put and a drop return their answer with what changes, and not the slots after it, so that a caller who is to return both copies them once.
 ghost use mathlib.Core.Path.{_≡_};
+ghost use mathlib.Core.Bool.{cond};
 ghost use Prim.Native.Nat.{_<_};
 ghost use lib.Count.{ones};
+ghost use lib.ListN.{set};
 ghost use Rattle.refusal.specs.Answers.{checkedAs};
 ghost use Rattle.slot_rules.specs.Table.{lowestFree, liveCount, isLive};
 ghost use Rattle.slot_rules.specs.Calls.{putCheck, putAnswer, putTable, dropAnswer, dropTable};
-ghost use Rattle.slot_rules.specs.Stored.{tableOf, byteOf, putStored, dropStored};
+ghost use Rattle.slot_rules.specs.Stored.{tableOf, byteOf, withTaken, putStored, dropStored};
 ghost use Rattle.slot_rules.specs.declared.Name.{Name};
-ghost use Rattle.slots.specs.Answers.{answerOf, withTaken, withPut};
+ghost use Rattle.slots.specs.Answers.{answerOf, withPut};
 use refusal::Checked;
 use refusal::Refusal;
 use refusal::then_check;
@@ -74,7 +76,7 @@ fn check_put(slots: Slots, parent: Parent) -> Checked
 pub struct Put {
     pub answer: SlotAnswer,
     pub taken: u64,
-    pub place: u64,
+    pub place: u32,
     pub parent: u8,
 }
 
@@ -93,11 +95,11 @@ pub fn put_key(slots: Slots, parent: Parent) -> Put
             parent: 0,
         },
         Checked::Passed => {
-            let i = lowest_free(slots);
-            let place = i as u64;
+            let place = lowest_free(slots);
+            let number = place as u64;
             Put {
-                answer: SlotAnswer::Number(place),
-                taken: slots.taken | power(place),
+                answer: SlotAnswer::Number(number),
+                taken: slots.taken | power(number),
                 place: place,
                 parent: parent_byte(parent),
             }
@@ -105,18 +107,72 @@ pub fn put_key(slots: Slots, parent: Parent) -> Put
     }
 }
 
-// The slots after a put of this name.
+// The parents after a put: at a place that is no slot's nothing is written.
+fn parents_after(parents: [u8; 64], place: u32, byte: u8) -> [u8; 64]
+    ensures { λ r. ⌜ r ≡ set parents place byte ⌝ }
+{
+    let mut next = parents;
+    if place < 64 {
+        let i = place as usize;
+        next[i] = byte;
+    }
+    next
+}
+
+// The name that is put here, or the old one.
+fn chosen(here: bool, name: Name, old: Name) -> Name
+    ensures { λ r. ⌜ r ≡ cond here name old ⌝ }
+{
+    if here { name } else { old }
+}
+
+// A row of names after a put, which is into this row or not. The place is written either way: with a branch here a put takes 8 to 32 bytes more of stack
+// on controllers.
+fn row_after(names: [Name; 8], here: bool, at: usize, name: Name) -> [Name; 8]
+    requires { ⌜ at < 8 ⌝ }
+    ensures { λ r. ⌜ r ≡ cond here (set names at name) names ⌝ }
+{
+    let mut next = names;
+    next[at] = chosen(here, name, next[at]);
+    next
+}
+
+// The slots after a put of this name. The parents are made first, so that they need not be kept while the rows are copied.
 pub fn after_put(slots: Slots, put: Put, name: Name) -> Slots
     ensures { λ r. ⌜ r ≡ withPut slots put name ⌝ }
 {
-    let mut next = slots;
-    next.taken = put.taken;
-    if put.place < 64 {
-        let place = put.place as usize;
-        next.names[place] = name;
-        next.parents[place] = put.parent;
+    let old = slots.parents;
+    let parents = parents_after(old, put.place, put.parent);
+    let row = put.place / 8;
+    let at = (put.place % 8) as usize;
+    let old0 = slots.row0;
+    let row0 = row_after(old0, row == 0, at, name);
+    let old1 = slots.row1;
+    let row1 = row_after(old1, row == 1, at, name);
+    let old2 = slots.row2;
+    let row2 = row_after(old2, row == 2, at, name);
+    let old3 = slots.row3;
+    let row3 = row_after(old3, row == 3, at, name);
+    let old4 = slots.row4;
+    let row4 = row_after(old4, row == 4, at, name);
+    let old5 = slots.row5;
+    let row5 = row_after(old5, row == 5, at, name);
+    let old6 = slots.row6;
+    let row6 = row_after(old6, row == 6, at, name);
+    let old7 = slots.row7;
+    let row7 = row_after(old7, row == 7, at, name);
+    Slots {
+        taken: put.taken,
+        row0: row0,
+        row1: row1,
+        row2: row2,
+        row3: row3,
+        row4: row4,
+        row5: row5,
+        row6: row6,
+        row7: row7,
+        parents: parents,
     }
-    next
 }
 
 // How many digits of a word are set.

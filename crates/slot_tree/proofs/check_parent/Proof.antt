@@ -2,25 +2,17 @@
 -- Assumes nothing.
 use borrow.Author.Needs.{needs}
 use mathlib.Core.Bool.{Bool}
-use mathlib.Core.Path.{_≡_, ap, ap₂, _∙_}
-use Prim.Native.Nat.{_<_, _^_}
-use lib.ListN.{length}
+use mathlib.Core.Path.{ap, ap₂, _∙_}
 use Rattle.refusal.specs.Checks.{bare, unless, _andThen_}
 use Rattle.slot_rules.proofs.Digits.{length-mapped}
+use Rattle.slot_rules.proofs.Rows.{Fits}
 use Rattle.slot_rules.proofs.Stored.{parent-checked, root-checked}
 use Rattle.slot_tree.proofs.check_parent.Statement.{statement}
 use Rattle.slot_tree.proofs.check_parent.Tie as tie
 
--- the slots at entry: a word of 64 digits, 64 names, 64 parents
-module _ (s : tie.Start) where
-  bits : s .args .slots .taken < 2 ^ 64
-  bits = search needs
-
-  long : length (s .args .slots .names) ≡ 64
-  long = search (needs, length-mapped)
-
-  wide : length (s .args .slots .parents) ≡ 64
-  wide = search needs
+-- the slots at entry
+stored : (s : tie.Start) → Fits (s .args .slots)
+stored s = search (needs, length-mapped)
 
 enum-told : tie.Need-enum-told
 enum-told c = search needs
@@ -58,7 +50,7 @@ returns-2 c =
     ∙ ap₂ _andThen_
     (c .before .before .before .before .unless .ensures ∙ ap (λ (b : Bool). unless b (bare 48)) (c .before .before .before .before .before .has-digit .ensures))
     (c .before .unless2 .ensures ∙ ap (λ (b : Bool). unless b (bare 49)) (c .before .before .root-within-two .ensures))
-    ∙ parent-checked (s .args .slots) (bits s) (long s) (wide s) _)
+    ∙ parent-checked (s .args .slots) (stored s) _)
 
 pub check-parent-spec : {M : Type 1} → statement M
 check-parent-spec =

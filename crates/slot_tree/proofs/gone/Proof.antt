@@ -1,24 +1,16 @@
 -- `slot_tree::gone` meets its contract.
 -- Assumes nothing.
 use borrow.Author.Needs.{needs}
-use mathlib.Core.Path.{_≡_, sym, _∙_}
-use Prim.Native.Nat.{_<_, _^_}
-use lib.ListN.{length}
+use mathlib.Core.Path.{sym, _∙_}
 use Rattle.slot_rules.proofs.Digits.{length-mapped}
+use Rattle.slot_rules.proofs.Rows.{Fits}
 use Rattle.slot_rules.proofs.Stored.{gone-live, gone-none}
 use Rattle.slot_tree.proofs.gone.Statement.{statement}
 use Rattle.slot_tree.proofs.gone.Tie as tie
 
--- the slots at entry: a word of 64 digits, 64 names, 64 parents
-module _ (s : tie.Start) where
-  bits : s .args .slots .taken < 2 ^ 64
-  bits = search needs
-
-  long : length (s .args .slots .names) ≡ 64
-  long = search (needs, length-mapped)
-
-  wide : length (s .args .slots .parents) ≡ 64
-  wide = search needs
+-- the slots at entry
+stored : (s : tie.Start) → Fits (s .args .slots)
+stored s = search (needs, length-mapped)
 
 has-digit-requires : tie.Need-has-digit-requires
 has-digit-requires c κs = search needs
@@ -40,7 +32,7 @@ returns c =
     let s = c .before .before .before .before .before .before .before in
     let a = s .args in
     c .reaching .ensures
-    ∙ gone-live (a .slots) (bits s) (long s) (wide s) (a .number) (c .before .before .all-steps .result)
+    ∙ gone-live (a .slots) (stored s) (a .number) (c .before .before .all-steps .result)
     (sym (c .before .before .before .before .before .has-digit .ensures) ∙ c .before .before .before .before .if1 .taken)
     (c .before .before .all-steps .ensures)
 
@@ -48,7 +40,7 @@ returns-2 : tie.Need-returns-2
 returns-2 c =
     let s = c .before .before .before in
     let a = s .args in
-    gone-none (a .slots) (bits s) (long s) (wide s) (a .number) (sym (c .before .has-digit .ensures) ∙ c .if1 .left)
+    gone-none (a .slots) (stored s) (a .number) (sym (c .before .has-digit .ensures) ∙ c .if1 .left)
 
 pub gone-spec : {M : Type 1} → statement M
 gone-spec =

@@ -1,27 +1,20 @@
 -- `slots::check_put` meets its contract.
 -- Assumes nothing.
 use borrow.Author.Needs.{needs}
-use mathlib.Core.Path.{_≡_, sym, ap, ap₂, _∙_}
-use Prim.Native.Nat.{ℕ, _<_, _^_}
-use lib.ListN.{length}
+use mathlib.Core.Path.{sym, ap, ap₂, _∙_}
+use Prim.Native.Nat.{ℕ}
 use Rattle.slot_rules.proofs.Digits.{length-mapped}
 use lib.Dec.{ltb}
 use Rattle.refusal.specs.Checks.{bare, unless, _andThen_}
 use Rattle.slot_rules.specs.Calls.{putCheck}
+use Rattle.slot_rules.proofs.Rows.{Fits}
 use Rattle.slot_rules.proofs.Stored.{full}
 use Rattle.slots.proofs.check_put.Statement.{statement}
 use Rattle.slots.proofs.check_put.Tie as tie
 
--- the slots at entry: a word of 64 digits, 64 names, 64 parents
-module _ (s : tie.Start) where
-  bits : s .args .slots .taken < 2 ^ 64
-  bits = search needs
-
-  long : length (s .args .slots .names) ≡ 64
-  long = search (needs, length-mapped)
-
-  wide : length (s .args .slots .parents) ≡ 64
-  wide = search needs
+-- the slots at entry
+stored : (s : tie.Start) → Fits (s .args .slots)
+stored s = search (needs, length-mapped)
 
 check-parent-requires : tie.Need-check-parent-requires
 check-parent-requires c κs = search needs
@@ -43,7 +36,7 @@ returns c =
     ∙ ap₂ _andThen_ (c .before .before .before .check-parent .ensures)
     (c .before .unless .ensures
     ∙ ap (λ (n : ℕ). unless (ltb n 64) (bare 46)) (c .before .before .lowest-free .ensures)
-    ∙ sym (full (s .args .slots) (bits s) (long s) (wide s)))
+    ∙ sym (full (s .args .slots) (stored s)))
 
 pub check-put-spec : {M : Type 1} → statement M
 check-put-spec =

@@ -1,27 +1,19 @@
 -- `slots::drop_key` meets its contract.
 -- Assumes nothing.
 use borrow.Author.Needs.{needs}
-use mathlib.Core.Path.{_≡_, sym, ap, _∙_}
-use Prim.Native.Nat.{_<_, _^_}
-use lib.ListN.{length}
+use mathlib.Core.Path.{sym, ap, _∙_}
 use lib.Count.{ones}
 use Rattle.refusal.specs.Answers.{wrote}
 use Rattle.slot_rules.specs.Stored.{tableOf, freeing}
 use Rattle.slot_rules.proofs.Digits.{length-mapped}
+use Rattle.slot_rules.proofs.Rows.{Fits}
 use Rattle.slot_rules.proofs.Stored.{drop-count, drop-none, drop-frees, drop-leaves, drop-stored}
 use Rattle.slots.proofs.drop_key.Statement.{statement}
 use Rattle.slots.proofs.drop_key.Tie as tie
 
--- the slots at entry: a word of 64 digits, 64 names, 64 parents
-module _ (s : tie.Start) where
-  bits : s .args .slots .taken < 2 ^ 64
-  bits = search needs
-
-  long : length (s .args .slots .names) ≡ 64
-  long = search (needs, length-mapped)
-
-  wide : length (s .args .slots .parents) ≡ 64
-  wide = search needs
+-- the slots at entry
+stored : (s : tie.Start) → Fits (s .args .slots)
+stored s = search (needs, length-mapped)
 
 is-live-requires : tie.Need-is-live-requires
 is-live-requires c κs = search needs
@@ -38,9 +30,9 @@ returns c =
     let a = s .args in
     let live = sym (c .before .before .before .before .is-live .ensures) ∙ c .before .before .before .if1 .taken in
     let went = c .before .before .gone .ensures in
-    let said = ap wrote (c .before .count .ensures ∙ ap ones went) ∙ drop-count (a .slots) (bits s) (long s) (wide s) (a .number) live in
+    let said = ap wrote (c .before .count .ensures ∙ ap ones went) ∙ drop-count (a .slots) (stored s) (a .number) live in
     let e = drop-frees (a .slots) (a .number) _ live (ap (freeing (a .slots)) went) in
-    (said, (e, ap tableOf e ∙ drop-stored (a .slots) (bits s) (long s) (wide s) (a .number)))
+    (said, (e, ap tableOf e ∙ drop-stored (a .slots) (stored s) (a .number)))
 
 returns-2 : tie.Need-returns-2
 returns-2 c =
@@ -48,7 +40,7 @@ returns-2 c =
     let a = s .args in
     let dead = sym (c .before .is-live .ensures) ∙ c .if1 .left in
     let e = drop-leaves (a .slots) (a .number) dead in
-    (drop-none (a .slots) (a .number) dead, (e, ap tableOf e ∙ drop-stored (a .slots) (bits s) (long s) (wide s) (a .number)))
+    (drop-none (a .slots) (a .number) dead, (e, ap tableOf e ∙ drop-stored (a .slots) (stored s) (a .number)))
 
 pub drop-key-spec : {M : Type 1} → statement M
 drop-key-spec =

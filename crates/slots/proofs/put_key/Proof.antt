@@ -3,7 +3,7 @@
 use borrow.Author.Needs.{needs}
 use mathlib.Core.Path.{_≡_, sym, ap, _∙_}
 use native.Mathlib.Omega.{arith}
-use Prim.Native.Nat.{_≤_, _<_, _^_}
+use Prim.Native.Nat.{_≤_, _<_}
 use lib.Bits.{bitOr}
 use lib.ListN.{length}
 use Rattle.refusal.specs.Checks.{pass}
@@ -12,20 +12,14 @@ use Rattle.slot_rules.specs.Table.{lowestFree}
 use Rattle.slot_rules.specs.Calls.{putCheck}
 use Rattle.slot_rules.specs.Stored.{tableOf}
 use Rattle.slot_rules.proofs.Digits.{length-mapped, power-small}
+use Rattle.slot_rules.proofs.Rows.{Fits}
 use Rattle.slot_rules.proofs.Stored.{room, parent-below, byte-fits, put-number, put-none, put-takes, put-leaves, put-stored}
 use Rattle.slots.proofs.put_key.Statement.{statement}
 use Rattle.slots.proofs.put_key.Tie as tie
 
--- the slots at entry: a word of 64 digits, 64 names, 64 parents
-module _ (s : tie.Start) where
-  bits : s .args .slots .taken < 2 ^ 64
-  bits = search needs
-
-  long : length (s .args .slots .names) ≡ 64
-  long = search (needs, length-mapped)
-
-  wide : length (s .args .slots .parents) ≡ 64
-  wide = search needs
+-- the slots at entry
+stored : (s : tie.Start) → Fits (s .args .slots)
+stored s = search (needs, length-mapped)
 
 check-put-requires : tie.Need-check-put-requires
 check-put-requires c κs = search needs
@@ -46,11 +40,11 @@ passed c = sym (c .before .before .check-put .ensures) ∙ ap checkedAs (c .enum
 found : (c : tie.After-lowest-free) → c .lowest-free .result < 64
 found c =
     let s = c .before .before .before .before in
-    let h : lowestFree (tableOf (s .args .slots)) < 64 = room (s .args .slots) (bits s) (long s) (wide s) (s .args .parent) (passed (c .before)) in
+    let h : lowestFree (tableOf (s .args .slots)) < 64 = room (s .args .slots) (stored s) (s .args .parent) (passed (c .before)) in
     rw (c .lowest-free .ensures) h
 
-cast-place : tie.Need-cast-place
-cast-place c = search needs
+cast-number : tie.Need-cast-number
+cast-number c = search needs
 
 power-requires : tie.Need-power-requires
 power-requires c κs = search needs
@@ -60,17 +54,16 @@ parent-byte-requires c κs =
     let f = c .before .before in
     let s = f .before .before .before .before in
     let a = s .args in
-    byte-fits (a .parent) (parent-below (a .slots) (bits s) (long s) (wide s) (a .parent) (passed (f .before)))
+    byte-fits (a .parent) (parent-below (a .slots) (stored s) (a .parent) (passed (f .before)))
 
 returns : tie.Need-returns
 returns c =
     let s = c .before .before .before .before in
     let a = s .args in
     let no = sym (c .before .before .before .check-put .ensures) ∙ ap checkedAs (c .before .check .given .1) in
-    let past : length (a .slots .names) ≤ 64 = let l = long s in omega arith in
-    let over : length (a .slots .parents) ≤ 64 = let l = wide s in omega arith in
-    let e = put-leaves (a .slots) (a .parent) 64 0 _ no past over in
-    (put-none (a .slots) (a .parent) _ no, (e, λ x. ap tableOf (e x) ∙ put-stored (a .slots) (bits s) (long s) (wide s) x (a .parent)))
+    let past : length (a .slots .parents) ≤ 64 = let f = stored s in omega arith in
+    let e = put-leaves (a .slots) (a .parent) 0 _ no past in
+    (put-none (a .slots) (a .parent) _ no, (e, λ x. ap tableOf (e x) ∙ put-stored (a .slots) (stored s) x (a .parent)))
 
 returns-2 : tie.Need-returns-2
 returns-2 c =
@@ -82,7 +75,7 @@ returns-2 c =
     let w = ap (bitOr (a .slots .taken)) (c .before .before .power .ensures ∙ power-small i (found f)) in
     let e = put-takes (a .slots) (a .parent) _ i _ (f .lowest-free .ensures) yes w (c .parent-byte .ensures) in (
       put-number (a .slots) (a .parent) i (f .lowest-free .ensures) yes,
-      (e, λ x. ap tableOf (e x) ∙ put-stored (a .slots) (bits s) (long s) (wide s) x (a .parent)),
+      (e, λ x. ap tableOf (e x) ∙ put-stored (a .slots) (stored s) x (a .parent)),
     )
 
 pub put-key-spec : {M : Type 1} → statement M
@@ -93,7 +86,7 @@ put-key-spec =
     enum-known-check
     enum-told
     lowest-free-requires
-    cast-place
+    cast-number
     power-requires
     parent-byte-requires
     returns
