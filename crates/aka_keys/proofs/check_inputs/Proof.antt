@@ -1,5 +1,6 @@
 -- `aka_keys::check_inputs` meets its contract.
 -- Assumes nothing.
+use mathlib.Core.Path.{refl}
 use borrow.Author.Needs.{needs}
 use Rattle.aka_keys.specs.Rfc5448.{inputCheck}
 use Rattle.aka_keys.proofs.check_inputs.Statement.{statement}
@@ -33,7 +34,7 @@ returns c =
     let user = first .before in
     let network = user .before .before in
     let lengths = network .before .before in
-    rw (c .then-check2 .ensures, first .then-check .ensures, user .unless3 .ensures, user .before .in-range2 .ensures, network .unless2 .ensures, network .before .in-range .ensures, lengths .unless .ensures)
+    rw (c .then-check2 .ensures, first .then-check .ensures, user .unless3 .ensures, user .before .in-range2 .ensures, network .unless2 .ensures, network .before .in-range .ensures, lengths .unless .ensures) refl
 
 pub check-inputs-spec : {M : Type 1} → statement M
 check-inputs-spec =

@@ -1,5 +1,6 @@
 -- `prf_plus::check_expand` meets its contract.
 -- Assumes nothing.
+use mathlib.Core.Path.{refl}
 use Rattle.prf_plus.specs.PrfPlus.{expandCheck}
 use borrow.Author.Needs.{needs}
 use Rattle.prf_plus.proofs.check_expand.Statement.{statement}
@@ -19,7 +20,7 @@ then-check-requires c κs = search needs
 
 returns : tie.Need-returns
 unfolding expandCheck
-returns c = rw (c .then-check .ensures, c .before .before .unless .ensures, c .before .check-room .ensures, c .before .before .before .in-range .ensures)
+returns c = rw (c .then-check .ensures, c .before .before .unless .ensures, c .before .check-room .ensures, c .before .before .before .in-range .ensures) refl
 
 pub check-expand-spec : {M : Type 1} → statement M
 check-expand-spec =
