@@ -12,7 +12,10 @@ least-requires : tie.Need-least-requires
 least-requires c κs = search needs
 
 returns : tie.Need-returns
-returns c = start-at _ (c .before .number-at .ensures .0) (c .least .ensures)
+returns c =
+    let file = now (c .before .before .before .args .file) in
+    let offset : c .before .number-at .result ≡ be16At file 18 = c .before .number-at .ensures .0 in
+    start-at file offset (c .least .ensures)
 
 pub first-offset-spec : {M : Type 1} → statement M
 first-offset-spec = tie.close (tie.spec number-at-requires least-requires returns)

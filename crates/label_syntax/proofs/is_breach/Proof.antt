@@ -13,7 +13,10 @@ in-range-requires : tie.Need-in-range-requires
 in-range-requires c κs = tt
 
 returns : tie.Need-returns
-returns c = no-syntax _ (sym (c .before .in-range .ensures) ∙ not-true _ (c .if1 .taken))
+returns c =
+    let label = now (c .before .before .before .args .label) in
+    let ranged : c .before .in-range .result ≡ within 1 255 (length label) = c .before .in-range .ensures in
+    no-syntax label (sym ranged ∙ not-true _ (c .if1 .taken))
 
 marks-in-requires : tie.Need-marks-in-requires
 marks-in-requires c κs = within-high _ _ _ (sym (c .before .in-range .ensures) ∙ not-false _ (c .if1 .left))
