@@ -1,5 +1,8 @@
 -- `bundle_reader::first_offset` meets its contract.
 -- Assumes nothing.
+use mathlib.Core.Path.{_≡_}
+use denote.Ref.{now}
+use Rattle.slices.specs.Numbers.{be16At}
 use borrow.Author.Needs.{needs}
 use Rattle.bundle_reader.proofs.Reading.{start-at}
 use Rattle.bundle_reader.proofs.first_offset.Statement.{statement}
