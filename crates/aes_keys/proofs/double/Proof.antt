@@ -1,9 +1,9 @@
 -- `aes_keys::double` meets its contract.
 -- Assumes nothing.
+use mathlib.Core.Path.{refl}
 use Prim.Native.Nat.{_/_}
 use native.Mathlib.Omega.{arith}
 use lib.Bits.{and-le-r}
-use borrow.Author.Needs.{needs}
 use Rattle.aes_keys.proofs.double.Statement.{statement}
 use Rattle.aes_keys.proofs.double.Tie as tie
 
@@ -14,7 +14,7 @@ mul-result-2 : tie.Need-mul-result-2
 mul-result-2 c = omega (arith, and-le-r (c .args .x / 128) 0x01010101)
 
 returns : tie.Need-returns
-returns c = search needs
+returns c = refl
 
 pub double-spec : {M : Type 1} → statement M
 double-spec = tie.close (tie.spec mul-result mul-result-2 returns)

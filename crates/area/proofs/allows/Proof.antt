@@ -1,5 +1,6 @@
 -- `area::allows` meets its contract.
 -- Assumes nothing.
+use mathlib.Core.Path.{refl}
 use borrow.Author.Needs.{needs}
 use Rattle.area.proofs.allows.Statement.{statement}
 use Rattle.area.proofs.allows.Tie as tie
@@ -11,10 +12,10 @@ enum-told-2 : tie.Need-enum-told-2
 enum-told-2 c = search needs
 
 returns : tie.Need-returns
-returns c = search needs
+returns c = rw (c .enum-told .given .1) refl
 
 returns-2 : tie.Need-returns-2
-returns-2 c = search needs
+returns-2 c = rw (c .enum-told2 .given .1) refl
 
 pub allows-spec : {M : Type 1} → statement M
 allows-spec = tie.close (tie.spec enum-told enum-told-2 returns returns-2)

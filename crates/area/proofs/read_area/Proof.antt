@@ -53,8 +53,20 @@ enum-known-count c = search needs
 is-own-name-requires : tie.Need-is-own-name-requires
 is-own-name-requires c κs = name-within _ (sym (read (c .before)))
 
+allows-requires : tie.Need-allows-requires
+allows-requires c κs = search needs
+
+returns-2 : tie.Need-returns-2
+returns-2 c =
+    let k = c .before .before .before .before in
+    let a = k .before .before .before .before .before .before .before .before .before .args in
+    differs-so (a .way) (now (a .area)) (now (a .own-name)) (now (a .out)) (k .before .before .before .before .before .if1 .left) _ _ _ (read k) (rw (c .before .before .is-own-name .ensures) at (sym (c .before .allows .ensures) ∙ was-false _ (c .if2 .taken)))
+
 array-share-prefix-kept : tie.Need-array-share-prefix-kept
 array-share-prefix-kept c = let k = c .before .before .before .before in omega (arith, few k, k .before .before .before .walk .kept .1 .0)
+
+slice-aggregate-copy-values : tie.Need-slice-aggregate-copy-values
+slice-aggregate-copy-values c = sym (counted (c .before .before .before .before .before))
 
 copy-values-requires : tie.Need-copy-values-requires
 copy-values-requires c κs = search needs
@@ -79,18 +91,6 @@ returns-4 c =
     let r = answered-so (a .way) (now (a .area)) (now (a .own-name)) (now (a .out)) room _ _ _ (read k) (rw (t .before .before .is-own-name .ensures) at (sym (t .before .allows .ensures) ∙ was-true _ (t .if2 .left))) in
     let copied : c .before .before .copy-values .last .1 .0 ≡ take (length (now (a .out))) offers ++ drop (length offers) (now (a .out)) = c .before .before .copy-values .ensures in
     (rw (t .before .before .is-own-name .ensures) (rw (counted k) at (r .0)), copied ∙ rw all (r .1))
-
-returns-2 : tie.Need-returns-2
-returns-2 c =
-    let k = c .before .before .before .before in
-    let a = k .before .before .before .before .before .before .before .before .before .args in
-    differs-so (a .way) (now (a .area)) (now (a .own-name)) (now (a .out)) (k .before .before .before .before .before .if1 .left) _ _ _ (read k) (rw (c .before .before .is-own-name .ensures) at (sym (c .before .allows .ensures) ∙ was-false _ (c .if2 .taken)))
-
-slice-aggregate-copy-values : tie.Need-slice-aggregate-copy-values
-slice-aggregate-copy-values c = sym (counted (c .before .before .before .before .before))
-
-allows-requires : tie.Need-allows-requires
-allows-requires c κs = search needs
 
 pub read-area-spec : {M : Type 1} → statement M
 read-area-spec =

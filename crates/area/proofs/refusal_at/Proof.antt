@@ -1,5 +1,6 @@
 -- `area::refusal_at` meets its contract: the fault that was matched says which clause of `faultAt` holds.
 -- Assumes nothing.
+use mathlib.Core.Path.{refl}
 use borrow.Author.Needs.{needs}
 use Rattle.area.proofs.refusal_at.Statement.{statement}
 use Rattle.area.proofs.refusal_at.Tie as tie
@@ -23,7 +24,7 @@ enum-told-6 : tie.Need-enum-told-6
 enum-told-6 c = search needs
 
 returns : tie.Need-returns
-returns c = rw (c .enum-told .given .1)
+returns c = rw (c .enum-told .given .1) refl
 
 returns-2 : tie.Need-returns-2
 returns-2 c = search needs

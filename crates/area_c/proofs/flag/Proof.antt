@@ -1,14 +1,15 @@
 -- `area_c::flag` meets its contract.
 -- Assumes nothing.
+use mathlib.Core.Path.{refl}
 use borrow.Author.Needs.{needs}
 use Rattle.area_c.proofs.flag.Statement.{statement}
 use Rattle.area_c.proofs.flag.Tie as tie
 
 returns : tie.Need-returns
-returns c = search needs
+returns c = rw (c .if1 .taken) refl
 
 returns-2 : tie.Need-returns-2
-returns-2 c = search needs
+returns-2 c = rw (c .if1 .left) refl
 
 pub flag-spec : {M : Type 1} → statement M
 flag-spec = tie.close (tie.spec returns returns-2)

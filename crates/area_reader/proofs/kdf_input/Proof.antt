@@ -62,7 +62,9 @@ returns-3 c =
     rw (name (k .before .before .before)) (input-read _ (agrees k) (padded (c .before) ∙ c .if3 .taken))
 
 returns-4 : tie.Need-returns-4
-returns-4 c = padding-refused _ (agrees (c .before .before)) (padded (c .before) ∙ c .if3 .left)
+returns-4 c =
+    let a = c .before .before .before .before .before .before .before .before .before .args in
+    padding-refused (now (a .bytes)) (agrees (c .before .before)) (padded (c .before) ∙ c .if3 .left)
 
 pub kdf-input-spec : {M : Type 1} → statement M
 kdf-input-spec =

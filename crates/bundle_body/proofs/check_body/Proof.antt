@@ -46,7 +46,9 @@ returns c = first-refuses _ _ (sym (c .before .before .before .check-frame .ensu
 
 returns-2 : tie.Need-returns-2
 unfolding keyIdIn fieldsIn
-returns-2 c = c .unless .ensures ∙ ap (λ (b : Bool). unless b (bare 50)) (c .before .same-id .ensures) ∙ second-decides _ _ (passes (c .before .before .before))
+returns-2 c =
+    let tested : checkedAs (c .unless .result) ≡ unless (c .before .same-id .result) (bare 50) = c .unless .ensures in
+    tested ∙ ap (λ (b : Bool). unless b (bare 50)) (c .before .same-id .ensures) ∙ second-decides _ _ (passes (c .before .before .before))
 
 pub check-body-spec : {M : Type 1} → statement M
 check-body-spec =

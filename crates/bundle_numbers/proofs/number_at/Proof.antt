@@ -38,7 +38,7 @@ cast-result-2 : tie.Need-cast-result-2
 cast-result-2 c = search needs
 
 returns-3 : tie.Need-returns-3
-returns-3 c = search needs
+returns-3 c = (c .from-be162 .ensures, omega arith)
 
 pub number-at-spec : {M : Type 1} → statement M
 number-at-spec =

@@ -1,5 +1,8 @@
 -- `bundle_reader::first_offset` meets its contract.
 -- Assumes nothing.
+use mathlib.Core.Path.{_≡_}
+use denote.Ref.{now}
+use Rattle.slices.specs.Numbers.{be16At}
 use borrow.Author.Needs.{needs}
 use Rattle.bundle_reader.proofs.Reading.{start-at}
 use Rattle.bundle_reader.proofs.first_offset.Statement.{statement}
@@ -12,7 +15,10 @@ least-requires : tie.Need-least-requires
 least-requires c κs = search needs
 
 returns : tie.Need-returns
-returns c = start-at _ (c .before .number-at .ensures .0) (c .least .ensures)
+returns c =
+    let file = now (c .before .before .before .args .file) in
+    let offset : c .before .number-at .result ≡ be16At file 18 = c .before .number-at .ensures .0 in
+    start-at file offset (c .least .ensures)
 
 pub first-offset-spec : {M : Type 1} → statement M
 first-offset-spec = tie.close (tie.spec number-at-requires least-requires returns)

@@ -1,5 +1,6 @@
 -- `charset::domain_byte` meets its contract.
 -- Assumes nothing.
+use mathlib.Core.Path.{refl}
 use Rattle.charset.specs.Bytes.{domainByte}
 use Rattle.charset.proofs.domain_byte.Statement.{statement}
 use Rattle.charset.proofs.domain_byte.Tie as tie
@@ -15,7 +16,7 @@ between-requires-3 c κs = tt
 
 returns : tie.Need-returns
 unfolding domainByte
-returns c = rw (c .before .before .between .ensures, c .before .between2 .ensures, c .between3 .ensures)
+returns c = rw (c .before .before .between .ensures, c .before .between2 .ensures, c .between3 .ensures) refl
 
 pub domain-byte-spec : {M : Type 1} → statement M
 domain-byte-spec =

@@ -1,6 +1,9 @@
 -- `charset::form_of` meets its contract.
 -- Assumes nothing.
-use mathlib.Core.Path.{sym, ap, _∙_}
+use mathlib.Core.Path.{_≡_, sym, ap, _∙_}
+use denote.Ref.{now}
+use lib.ListN.{length}
+use Rattle.refusal.specs.Checks.{within}
 use borrow.Author.Needs.{needs}
 use borrow.Author.Tests.{not-true, not-false}
 use Rattle.charset.specs.Forms.{scanForm}
@@ -12,7 +15,10 @@ in-range-requires : tie.Need-in-range-requires
 in-range-requires c κs = tt
 
 returns : tie.Need-returns
-returns c = wrong-length _ _ _ (sym (c .before .in-range .ensures) ∙ not-true _ (c .if1 .taken))
+returns c =
+    let a = c .before .before .before .args in
+    let ranged : c .before .in-range .result ≡ within 1 (a .longest) (length (now (a .s))) = c .before .in-range .ensures in
+    wrong-length _ _ _ (sym ranged ∙ not-true _ (c .if1 .taken))
 
 first-bad-requires : tie.Need-first-bad-requires
 first-bad-requires c κs = tt

@@ -1,5 +1,6 @@
 -- `compare_c::comparison_returned` meets its contract.
 -- Assumes nothing.
+use mathlib.Core.Path.{refl}
 use borrow.Author.Needs.{needs}
 use Rattle.compare_c.proofs.comparison_returned.Statement.{statement}
 use Rattle.compare_c.proofs.comparison_returned.Tie as tie
@@ -14,10 +15,10 @@ number-requires : tie.Need-number-requires
 number-requires c κs = search needs
 
 returns : tie.Need-returns
-returns c = simp (c .before .answer .given .1)
+returns c = simp (c .before .answer .given .1) refl
 
 returns-2 : tie.Need-returns-2
-returns-2 c = simp (c .before .before .answer2 .given .1, c .number .ensures)
+returns-2 c = simp (c .before .before .answer2 .given .1, c .number .ensures) refl
 
 pub comparison-returned-spec : {M : Type 1} → statement M
 comparison-returned-spec = tie.close (tie.spec enum-known-answer enum-known-answer-2 number-requires returns returns-2)

@@ -1,5 +1,6 @@
 -- `domain_keys::check_inputs` meets its contract.
 -- Assumes nothing.
+use mathlib.Core.Path.{refl}
 use Rattle.domain_keys.proofs.check_inputs.Statement.{statement}
 use Rattle.domain_keys.proofs.check_inputs.Tie as tie
 
@@ -13,7 +14,7 @@ then-check-requires : tie.Need-then-check-requires
 then-check-requires c κs = tt
 
 returns : tie.Need-returns
-returns c = rw (c .then-check .ensures, c .before .check-domain .ensures, c .before .before .check-root-key .ensures)
+returns c = rw (c .then-check .ensures, c .before .check-domain .ensures, c .before .before .check-root-key .ensures) refl
 
 pub check-inputs-spec : {M : Type 1} → statement M
 check-inputs-spec =

@@ -17,7 +17,7 @@ unless-requires c κs = tt
 
 returns : tie.Need-returns
 unfolding check31 dsrkLabel
-returns c = rw (c .unless .ensures, c .before .same-bytes .ensures)
+returns c = rw (c .unless .ensures, c .before .same-bytes .ensures) refl
 
 pub check-domain-label-spec : {M : Type 1} → statement M
 check-domain-label-spec = tie.close (tie.spec slice-aggregate-same-bytes same-bytes-requires unless-requires returns)

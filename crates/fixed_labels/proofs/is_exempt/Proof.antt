@@ -25,7 +25,7 @@ same-bytes-requires-3 c κs = tt
 
 returns : tie.Need-returns
 unfolding exempt vrkLabel visitedReauthLabel rrkLabel
-returns c = rw (c .before .before .before .before .same-bytes .ensures, c .before .before .same-bytes2 .ensures, c .same-bytes3 .ensures)
+returns c = rw (c .before .before .before .before .same-bytes .ensures, c .before .before .same-bytes2 .ensures, c .same-bytes3 .ensures) refl
 
 pub is-exempt-spec : {M : Type 1} → statement M
 is-exempt-spec =

@@ -1,6 +1,6 @@
 -- `hmac::mac` meets its contract: the inner and the outer hash from the key's two hash values (proofs/Laws.antt, `kept-values-give-mac`).
 -- Assumes nothing.
-use mathlib.Core.Path.{ap, _∙_}
+use mathlib.Core.Path.{_≡_, ap, _∙_}
 use mathlib.Core.List.{List}
 use Prim.Native.Nat.{ℕ}
 use denote.Ref.{now}
@@ -27,6 +27,13 @@ key-value-requires-2 c κs = search needs
 outer-hash-requires : tie.Need-outer-hash-requires
 outer-hash-requires c κs = search needs
 
+-- what was hashed under each value of the key
+hashed-in : (c : tie.After-hash-after) → c .hash-after .result ≡ hashAfter (c .before .key-value .result) (now (c .before .before .before .before .before .args .message))
+hashed-in c = c .hash-after .ensures
+
+hashed-out : (c : tie.After-outer-hash) → c .outer-hash .result ≡ hashAfter (c .before .key-value2 .result) (c .before .before .hash-after .result)
+hashed-out c = c .outer-hash .ensures
+
 returns : tie.Need-returns
 unfolding macByValuesBy
 returns c =
@@ -37,7 +44,7 @@ returns c =
     let block = keyed .before .key-block .ensures in
     let inner = key-value (now (a .key)) ipad block (keyed .key-value .ensures) in
     let outer = key-value (now (a .key)) opad block (c .before .key-value2 .ensures) in
-    c .outer-hash .ensures ∙ (λ i. hashAfter (outer i) ((hashed .hash-after .ensures ∙ ap (λ (v : List ℕ). hashAfter v message) inner) i))
+    hashed-out c ∙ (λ i. hashAfter (outer i) ((hashed-in hashed ∙ ap (λ (v : List ℕ). hashAfter v message) inner) i))
     ∙ kept-values-give-mac (now (a .key)) message
 
 pub mac-spec : {M : Type 1} → statement M

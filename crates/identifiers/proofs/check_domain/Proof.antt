@@ -1,5 +1,6 @@
 -- `identifiers::check_domain` meets its contract.
 -- Assumes nothing.
+use mathlib.Core.Path.{refl}
 use Rattle.identifiers.specs.Checks.{check8}
 use Rattle.charset.proofs.Forms.{well-formed}
 use Rattle.identifiers.proofs.check_domain.Statement.{statement}
@@ -13,7 +14,7 @@ unless-well-formed-requires c κs = tt
 
 returns : tie.Need-returns
 unfolding check8
-returns c = rw (c .unless-well-formed .ensures, c .before .form-of .ensures, well-formed)
+returns c = rw (c .unless-well-formed .ensures, c .before .form-of .ensures, well-formed) refl
 
 pub check-domain-spec : {M : Type 1} → statement M
 check-domain-spec = tie.close (tie.spec form-of-requires unless-well-formed-requires returns)

@@ -1,5 +1,6 @@
 -- `identifiers::check_server_id` meets its contract.
 -- Assumes nothing.
+use mathlib.Core.Path.{refl}
 use Rattle.identifiers.specs.Checks.{check7}
 use Rattle.charset.proofs.Forms.{well-formed}
 use Rattle.identifiers.proofs.check_server_id.Statement.{statement}
@@ -13,7 +14,7 @@ unless-well-formed-requires c κs = tt
 
 returns : tie.Need-returns
 unfolding check7
-returns c = rw (c .unless-well-formed .ensures, c .before .form-of .ensures, well-formed)
+returns c = rw (c .unless-well-formed .ensures, c .before .form-of .ensures, well-formed) refl
 
 pub check-server-id-spec : {M : Type 1} → statement M
 check-server-id-spec = tie.close (tie.spec form-of-requires unless-well-formed-requires returns)

@@ -1,5 +1,6 @@
 -- `identifiers::unless_well_formed` meets its contract.
 -- Assumes nothing.
+use mathlib.Core.Path.{refl}
 use borrow.Author.Needs.{needs}
 use Rattle.refusal.specs.Checks
 use Rattle.identifiers.proofs.unless_well_formed.Statement.{statement}
@@ -16,15 +17,15 @@ enum-told-3 c = search needs
 
 returns : tie.Need-returns
 unfolding Checks.unless
-returns c = simp (c .enum-told .given .1)
+returns c = simp (c .enum-told .given .1) refl
 
 returns-2 : tie.Need-returns-2
 unfolding Checks.unless
-returns-2 c = simp (c .enum-told2 .given .1)
+returns-2 c = simp (c .enum-told2 .given .1) refl
 
 returns-3 : tie.Need-returns-3
 unfolding Checks.unless
-returns-3 c = simp (c .enum-told3 .given .1)
+returns-3 c = simp (c .enum-told3 .given .1) refl
 
 pub unless-well-formed-spec : {M : Type 1} → statement M
 unless-well-formed-spec =

@@ -1,5 +1,6 @@
 -- `key_attribute_c::key_returned` meets its contract.
 -- Assumes nothing.
+use mathlib.Core.Path.{refl}
 use borrow.Author.Needs.{needs}
 use Rattle.key_attribute_c.proofs.key_returned.Statement.{statement}
 use Rattle.key_attribute_c.proofs.key_returned.Tie as tie
@@ -23,10 +24,10 @@ key-told-requires-2 : tie.Need-key-told-requires-2
 key-told-requires-2 c κs = search needs
 
 returns : tie.Need-returns
-returns c = simp (c .before .before .answer .given .1, c .key-told .ensures)
+returns c = simp (c .before .before .answer .given .1, c .key-told .ensures) refl
 
 returns-2 : tie.Need-returns-2
-returns-2 c = simp (c .before .before .before .answer2 .given .1, c .before .number .ensures, c .key-told2 .ensures)
+returns-2 c = simp (c .before .before .before .answer2 .given .1, c .before .number .ensures, c .key-told2 .ensures) refl
 
 pub key-returned-spec : {M : Type 1} → statement M
 key-returned-spec =

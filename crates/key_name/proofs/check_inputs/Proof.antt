@@ -1,5 +1,6 @@
 -- `key_name::check_inputs` meets its contract.
 -- Assumes nothing.
+use mathlib.Core.Path.{refl}
 use Rattle.key_name.proofs.check_inputs.Statement.{statement}
 use Rattle.key_name.proofs.check_inputs.Tie as tie
 
@@ -20,7 +21,7 @@ returns c =
     let p1 = c .before in
     let p2 = p1 .before in
     let p3 = p2 .before in
-    rw (c .then-check .ensures, p2 .unless .ensures, p1 .check-label .ensures, p3 .in-range .ensures)
+    rw (c .then-check .ensures, p2 .unless .ensures, p1 .check-label .ensures, p3 .in-range .ensures) refl
 
 pub check-inputs-spec : {M : Type 1} → statement M
 check-inputs-spec =

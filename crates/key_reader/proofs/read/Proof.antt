@@ -34,7 +34,9 @@ enum-told c = search needs
 
 -- what the tests before the unwrapping came to
 tests : (c : tie.After-then-check) → let x = c .before .before .before .before .before .before .args in checkedAs (c .then-check .result) ≡ (check22 (now (x .kek)) andThen frameCheck (now (x .attribute)))
-tests c = joined (c .then-check .ensures) (c .before .before .unless .ensures) (c .before .check-frame .ensures)
+tests c =
+    let ordered : (checkedAs (c .before .before .unless .result) andThen checkedAs (c .before .check-frame .result)) ≡ checkedAs (c .then-check .result) = sym (c .then-check .ensures) in
+    joined (sym ordered) (c .before .before .unless .ensures) (c .before .check-frame .ensures)
 
 ready-at : (c : tie.After-enum-told) → let x = c .before .before .before .before .before .before .before .before .args in Ready (now (x .kek)) (now (x .attribute))
 ready-at c = ready _ _ (passed (tests (c .before .before)) (c .enum-told .given .1))

@@ -1,6 +1,9 @@
 -- `label_syntax::is_breach` meets its contract.
 -- Assumes nothing.
-use mathlib.Core.Path.{sym, _∙_}
+use mathlib.Core.Path.{_≡_, sym, _∙_}
+use denote.Ref.{now}
+use lib.ListN.{length}
+use Rattle.refusal.specs.Checks.{within}
 use borrow.Author.Needs.{needs}
 use borrow.Author.Tests.{not-true, not-false}
 use native.Mathlib.Omega.{arith}
@@ -13,7 +16,10 @@ in-range-requires : tie.Need-in-range-requires
 in-range-requires c κs = tt
 
 returns : tie.Need-returns
-returns c = no-syntax _ (sym (c .before .in-range .ensures) ∙ not-true _ (c .if1 .taken))
+returns c =
+    let label = now (c .before .before .before .args .label) in
+    let ranged : c .before .in-range .result ≡ within 1 255 (length label) = c .before .in-range .ensures in
+    no-syntax label (sym ranged ∙ not-true _ (c .if1 .taken))
 
 marks-in-requires : tie.Need-marks-in-requires
 marks-in-requires c κs = within-high _ _ _ (sym (c .before .in-range .ensures) ∙ not-false _ (c .if1 .left))

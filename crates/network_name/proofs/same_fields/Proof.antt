@@ -2,7 +2,7 @@
 -- (`agreed`).
 -- Assumes nothing.
 use mathlib.Core.Path.{_≡_, sym, _∙_}
-use mathlib.Core.Bool.{true, false, _&&_}
+use mathlib.Core.Bool.{_&&_}
 use denote.Ref.{now}
 use lib.ListN.{drop}
 use Rattle.network_name.specs.Internal.{ends}
@@ -10,6 +10,17 @@ use Rattle.network_name.proofs.Fronts.{agreed}
 use borrow.Author.Needs.{needs}
 use Rattle.network_name.proofs.same_fields.Statement.{statement}
 use Rattle.network_name.proofs.same_fields.Tie as tie
+
+-- what was looked at: whether a field ends there in both
+ended : (c : tie.After-field-ends2)
+    → (c .before .field-ends .result && c .field-ends2 .result)
+    ≡ (ends (drop (c .before .before .least .result) (now (c .before .before .before .before .before .args .a)))
+    && ends (drop (c .before .before .least .result) (now (c .before .before .before .before .before .args .b))))
+ended c =
+    let a = c .before .before .before .before .before .args in
+    let one : c .before .field-ends .result ≡ ends (drop (c .before .before .least .result) (now (a .a))) = c .before .field-ends .ensures in
+    let two : c .field-ends2 .result ≡ ends (drop (c .before .before .least .result) (now (a .b))) = c .field-ends2 .ensures in
+    λ i. one i && two i
 
 least-requires : tie.Need-least-requires
 least-requires c κs = search needs
@@ -28,17 +39,13 @@ returns c =
     let k = c .before in
     let a = k .before .before .before .before .before .before .args in
     let n = k .before .before .before .least in
-    let both : (ends (drop (n .result) (now (a .a))) && ends (drop (n .result) (now (a .b)))) ≡ true =
-    rw (k .before .before .field-ends .ensures, k .before .field-ends2 .ensures) at (k .if1 .taken) in
-    c .same-start .ensures ∙ sym (agreed (now (a .a)) (now (a .b)) (n .result) (n .ensures) ∙ rw both)
+    c .same-start .ensures ∙ sym (agreed (now (a .a)) (now (a .b)) (n .result) (n .ensures) ∙ rw (← ended (k .before), k .if1 .taken))
 
 returns-2 : tie.Need-returns-2
 returns-2 c =
     let a = c .before .before .before .before .before .before .args in
     let n = c .before .before .before .least in
-    let not-both : (ends (drop (n .result) (now (a .a))) && ends (drop (n .result) (now (a .b)))) ≡ false =
-    rw (c .before .before .field-ends .ensures, c .before .field-ends2 .ensures) at (c .if1 .left) in
-    sym (agreed (now (a .a)) (now (a .b)) (n .result) (n .ensures) ∙ rw not-both)
+    sym (agreed (now (a .a)) (now (a .b)) (n .result) (n .ensures) ∙ rw (← ended (c .before), c .if1 .left))
 
 pub same-fields-spec : {M : Type 1} → statement M
 same-fields-spec =

@@ -23,10 +23,10 @@ same-bytes-requires : tie.Need-same-bytes-requires
 same-bytes-requires c κs = search needs
 
 returns : tie.Need-returns
-returns c = search needs
+returns c = c .same-front .ensures
 
 returns-2 : tie.Need-returns-2
-returns-2 c = search needs
+returns-2 c = c .same-bytes .ensures
 
 pub same-start-spec : {M : Type 1} → statement M
 same-start-spec =

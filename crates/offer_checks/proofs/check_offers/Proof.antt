@@ -1,6 +1,6 @@
 -- `offer_checks::check_offers` meets its contract.
 -- Assumes nothing.
-use mathlib.Core.Path.{_≡_, sym, ap, _∙_}
+use mathlib.Core.Path.{_≡_, refl, sym, ap, _∙_}
 use borrow.Author.Needs.{needs}
 use denote.Ref.{now}
 use Rattle.refusal.specs.Answers.{checkedAs}
@@ -12,7 +12,7 @@ use Rattle.offer_checks.proofs.check_offers.Tie as tie
 
 -- what test 10 came to
 counted : (c : tie.After-unless) → checkedAs (c .unless .result) ≡ check10 (now (c .before .before .before .args .offers))
-counted c = rw (c .unless .ensures, c .before .in-range .ensures)
+counted c = rw (c .unless .ensures, c .before .in-range .ensures) refl
 
 in-range-requires : tie.Need-in-range-requires
 in-range-requires c κs = search needs

@@ -1,5 +1,6 @@
 -- `offer_checks::check_reply` meets its contract.
 -- Assumes nothing.
+use mathlib.Core.Path.{refl}
 use borrow.Author.Needs.{needs}
 use Rattle.offer_checks.proofs.check_reply.Statement.{statement}
 use Rattle.offer_checks.proofs.check_reply.Tie as tie
@@ -36,7 +37,7 @@ returns c =
       p2 .before .unless .ensures,
       c .before .before .contains .ensures,
       p2 .before .before .is-first .ensures,
-    )
+    ) refl
 
 pub check-reply-spec : {M : Type 1} → statement M
 check-reply-spec =

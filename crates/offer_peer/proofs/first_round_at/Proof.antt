@@ -1,5 +1,6 @@
 -- `offer_peer::first_round_at` meets its contract.
 -- Assumes nothing.
+use mathlib.Core.Path.{refl}
 use borrow.Author.Tests.{le-ltb, lt-ltb}
 use borrow.Author.Needs.{needs}
 use denote.Ref.{now}
@@ -10,7 +11,7 @@ use Rattle.offer_peer.proofs.first_round_at.Tie as tie
 
 returns : tie.Need-returns
 unfolding Checks.unless
-returns c = simp (le-ltb _ _ (c .if1 .taken))
+returns c = simp (le-ltb _ _ (c .if1 .taken)) refl
 
 mul-offer : tie.Need-mul-offer
 mul-offer c = search needs

@@ -1,6 +1,6 @@
 -- `offer_peer::recheck` meets its contract.
 -- Assumes nothing.
-use mathlib.Core.Path.{_≡_}
+use mathlib.Core.Path.{_≡_, refl}
 use borrow.Author.Needs.{needs}
 use denote.Ref.{now}
 use Rattle.refusal.specs.Answers.{checkedAs}
@@ -12,7 +12,7 @@ use Rattle.offer_peer.proofs.recheck.Tie as tie
 -- what the tests came to
 checked : (c : tie.After-then-check) → let a = c .before .before .before .before .before .before .args in checkedAs (c .then-check .result) ≡ renewedCheck (now (a .original)) (a .choice) (now (a .renewed))
 unfolding renewedCheck
-checked c = rw (c .then-check .ensures, c .before .before .check-reply .ensures, c .before .unless .ensures, c .before .before .before .is-renewal .ensures)
+checked c = rw (c .then-check .ensures, c .before .before .check-reply .ensures, c .before .unless .ensures, c .before .before .before .is-renewal .ensures) refl
 
 is-renewal-requires : tie.Need-is-renewal-requires
 is-renewal-requires c κs = search needs
@@ -34,11 +34,11 @@ enum-told c = search needs
 
 returns : tie.Need-returns
 unfolding renewedAnswer
-returns c = rw (← checked (c .before .before .before), c .before .why .given .1)
+returns c = rw (← checked (c .before .before .before), c .before .why .given .1) refl
 
 returns-2 : tie.Need-returns-2
 unfolding renewedAnswer
-returns-2 c = rw (← checked (c .before .before), c .enum-told .given .1)
+returns-2 c = rw (← checked (c .before .before), c .enum-told .given .1) refl
 
 pub recheck-spec : {M : Type 1} → statement M
 recheck-spec =

@@ -1,7 +1,8 @@
 -- `offer_server::answer` meets its contract.
 -- Assumes nothing.
-use Prim.Native.Nat.{_+_, _≤_}
-use mathlib.Core.Path.{_≡_, sym, ap, _∙_}
+use Prim.Native.Nat.{ℕ, _+_, _≤_}
+use mathlib.Core.Path.{_≡_, refl, sym, ap, _∙_}
+use mathlib.Core.List.{List, _++_}
 use native.Mathlib.Omega.{arith}
 use borrow.Author.Tests.{leb-true}
 use borrow.Author.Needs.{needs}
@@ -19,7 +20,7 @@ use Rattle.offer_server.proofs.answer.Tie as tie
 -- what the tests came to
 checked : (c : tie.After-then-check) → let a = c .before .before .before .before .before .args in checkedAs (c .then-check .result) ≡ answerCheck (now (a .offers)) (a .reply) (length (now (a .out)))
 unfolding answerCheck
-checked c = rw (c .then-check .ensures, c .before .before .check-reply .ensures, c .before .check-room .ensures)
+checked c = rw (c .then-check .ensures, c .before .before .check-reply .ensures, c .before .check-room .ensures) refl
 
 -- where they passed, there is room
 room : (c : tie.After-enum-told) → let a = c .before .before .before .before .before .before .before .args in length (now (a .offers)) + 1 ≤ length (now (a .out))
@@ -72,7 +73,9 @@ returns-2 c =
     let p = k .before .before in
     let a = p .before .before .before .before .before .args in
     let n = length (now (a .offers)) + 1 in
-    written-so n (renewedList (now (a .offers)) (a .reply)) (now (a .out)) (checked p) (k .enum-told .given .1) (rw (c .before .before .put-list .ensures))
+    let copied = ap (λ (l : List ℕ). l ++ drop n (now (a .out))) (c .before .before .put-list .ensures) in
+    let r = written-so n (renewedList (now (a .offers)) (a .reply)) (now (a .out)) (checked p) (k .enum-told .given .1) copied in
+    (r .0, r .1)
 
 pub answer-spec : {M : Type 1} → statement M
 answer-spec =

@@ -1,5 +1,6 @@
 -- `offers_c::first_round_returned` meets its contract.
 -- Assumes nothing.
+use mathlib.Core.Path.{refl}
 use borrow.Author.Needs.{needs}
 use Rattle.offers_c.proofs.first_round_returned.Statement.{statement}
 use Rattle.offers_c.proofs.first_round_returned.Tie as tie
@@ -26,13 +27,13 @@ number-requires : tie.Need-number-requires
 number-requires c κs = search needs
 
 returns : tie.Need-returns
-returns c = simp (c .before .answer .given .1)
+returns c = simp (c .before .answer .given .1) refl
 
 returns-2 : tie.Need-returns-2
-returns-2 c = simp (c .before .answer2 .given .1)
+returns-2 c = simp (c .before .answer2 .given .1) refl
 
 returns-3 : tie.Need-returns-3
-returns-3 c = simp (c .before .before .answer3 .given .1, c .number .ensures)
+returns-3 c = simp (c .before .before .answer3 .given .1, c .number .ensures) refl
 
 pub first-round-returned-spec : {M : Type 1} → statement M
 first-round-returned-spec =

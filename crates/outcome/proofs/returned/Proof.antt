@@ -1,6 +1,6 @@
 -- `outcome::returned` meets its contract.
 -- Assumes nothing.
-use mathlib.Core.Path.{_∙_}
+use mathlib.Core.Path.{refl, _∙_}
 use borrow.Author.Needs.{needs}
 use Rattle.outcome.proofs.returned.Statement.{statement}
 use Rattle.outcome.proofs.returned.Tie as tie
@@ -15,7 +15,7 @@ refused-requires : tie.Need-refused-requires
 refused-requires c κs = search needs
 
 returns : tie.Need-returns
-returns c = rw (c .before .answer .given .1)
+returns c = rw (c .before .answer .given .1) refl
 
 returns-2 : tie.Need-returns-2
 returns-2 c = c .refused .ensures ∙ rw (c .before .before .answer2 .given .1)

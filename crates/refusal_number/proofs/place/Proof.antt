@@ -1,5 +1,6 @@
 -- `refusal_number::place` meets its contract.
 -- Assumes nothing.
+use mathlib.Core.Path.{refl}
 use borrow.Author.Needs.{needs}
 use Rattle.refusal_number.proofs.Places.{unplaced}
 use Rattle.refusal_number.proofs.place.Statement.{statement}
@@ -12,10 +13,10 @@ enum-known-why-2 : tie.Need-enum-known-why-2
 enum-known-why-2 c = search needs
 
 returns : tie.Need-returns
-returns c = simp (c .before .why .given .1)
+returns c = simp (c .before .why .given .1) refl
 
 returns-2 : tie.Need-returns-2
-returns-2 c = simp (c .before .why2 .given .1)
+returns-2 c = simp (c .before .why2 .given .1) refl
 
 returns-3 : tie.Need-returns-3
 returns-3 c = unplaced (c .before .args .why) (c .match .keys3)

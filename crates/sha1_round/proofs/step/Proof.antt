@@ -1,5 +1,8 @@
 -- `sha1_round::step` meets its contract.
 -- Assumes nothing.
+use mathlib.Core.Path.{_≡_}
+use lib.ListN.{getD}
+use Rattle.fips180.specs.Words.{ROTL}
 use Rattle.sha1_round.proofs.Functions.{stepped}
 use borrow.Author.Needs.{needs}
 use Rattle.sha1_round.proofs.step.Statement.{statement}
@@ -44,10 +47,11 @@ array-read-t13 c = search needs
 returns : tie.Need-returns
 returns c =
     let a = c .before .before .before .before .before .before .args in
-    stepped _ (a .v) (a .k) (a .w)
-    (c .before .before .before .before .before .rotl .ensures)
+    let first : c .before .before .before .before .before .rotl .result ≡ ROTL 5 (getD (a .t1) 0 0) = c .before .before .before .before .before .rotl .ensures in
+    let last : c .before .before .before .rotl2 .result ≡ ROTL 30 (getD (a .t1) 4 0) = c .before .before .before .rotl2 .ensures in
+    stepped (a .t1) (a .v) (a .k) (a .w) first
     (c .before .before .before .before .add .ensures)
-    (c .before .before .before .rotl2 .ensures)
+    last
     (c .before .before .add2 .ensures)
     (c .before .add3 .ensures)
     (c .add4 .ensures)

@@ -1,6 +1,6 @@
 -- `sha1_round::unrotated` meets its contract.
 -- Assumes nothing.
-use mathlib.Core.Path.{ap, _∙_}
+use mathlib.Core.Path.{_≡_, ap, _∙_}
 use Prim.Native.Nat.{ℕ}
 use Rattle.fips180.specs.Words.{ROTL}
 use Rattle.fips180.proofs.Rotations.{turned-back}
@@ -14,7 +14,8 @@ rotl-requires c κs = search needs
 returns : tie.Need-returns
 returns c =
     let x = c .before .args .x in
-    ap (λ (n : ℕ). ROTL 30 n) (c .rotl .ensures) ∙ turned-back x (search needs)
+    let turned : c .rotl .result ≡ ROTL 2 x = c .rotl .ensures in
+    ap (λ (n : ℕ). ROTL 30 n) turned ∙ turned-back x (search needs)
 
 pub unrotated-spec : {M : Type 1} → statement M
 unrotated-spec = tie.close (tie.spec rotl-requires returns)

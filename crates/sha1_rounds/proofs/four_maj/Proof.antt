@@ -1,5 +1,10 @@
 -- `sha1_rounds::four_maj` meets its contract: one round after another.
 -- Assumes nothing.
+use Prim.Native.Nat.{_+_}
+use mathlib.Core.Path.{_≡_}
+use denote.Ref.{now}
+use lib.ListN.{getD}
+use Rattle.sha1_round.specs.Variables.{variables, stepBy}
 use Rattle.fips180.specs.Words.{Maj}
 use Rattle.sha1_rounds.proofs.Rounds.{four}
 use borrow.Author.Needs.{needs}
@@ -54,11 +59,12 @@ round-maj-requires-4 c κs = search needs
 returns : tie.Need-returns
 returns c =
     let a = c .before .before .before .before .before .before .before .before .args in
-    four Maj 0x8f1bbcdc _ (a .j) _
-    (c .before .before .before .before .before .before .round-maj .ensures)
-    (c .before .before .before .before .round-maj2 .ensures)
-    (c .before .before .round-maj3 .ensures)
-    (c .round-maj4 .ensures)
+    let w = now (a .w) in
+    let one : variables (c .before .before .before .before .before .before .round-maj .result) ≡ stepBy Maj 0x8f1bbcdc (getD w (a .j) 0) (variables (a .s)) = c .before .before .before .before .before .before .round-maj .ensures in
+    let two : variables (c .before .before .before .before .round-maj2 .result) ≡ stepBy Maj 0x8f1bbcdc (getD w (a .j + 1) 0) (variables (c .before .before .before .before .before .before .round-maj .result)) = c .before .before .before .before .round-maj2 .ensures in
+    let three : variables (c .before .before .round-maj3 .result) ≡ stepBy Maj 0x8f1bbcdc (getD w (a .j + 2) 0) (variables (c .before .before .before .before .round-maj2 .result)) = c .before .before .round-maj3 .ensures in
+    let last : variables (c .round-maj4 .result) ≡ stepBy Maj 0x8f1bbcdc (getD w (a .j + 3) 0) (variables (c .before .before .round-maj3 .result)) = c .round-maj4 .ensures in
+    four Maj 0x8f1bbcdc w (a .j) (variables (a .s)) one two three last
 
 pub four-maj-spec : {M : Type 1} → statement M
 four-maj-spec =

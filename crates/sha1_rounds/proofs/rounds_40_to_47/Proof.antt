@@ -1,5 +1,7 @@
 -- `sha1_rounds::rounds_40_to_47` meets its contract: four rounds after four.
 -- Assumes nothing.
+use mathlib.Core.Path.{_≡_}
+use Rattle.sha1_round.specs.Variables.{variables}
 use denote.Ref.{now}
 use Rattle.fips180.specs.Words.{Maj}
 use Rattle.sha1_rounds.specs.Rounds.{runs}
@@ -14,11 +16,16 @@ four-maj-requires c κs = search needs
 four-maj-requires-2 : tie.Need-four-maj-requires-2
 four-maj-requires-2 c κs = search needs
 
+-- what each four rounds come to
+one : (c : tie.After-four-maj) → variables (c .four-maj .result) ≡ runs Maj 0x8f1bbcdc (now (c .before .args .w)) 8 (variables (c .before .args .s)) 4
+one c = c .four-maj .ensures
+
+two : (c : tie.After-four-maj2) → variables (c .four-maj2 .result) ≡ runs Maj 0x8f1bbcdc (now (c .before .before .args .w)) 12 (variables (c .before .four-maj .result)) 4
+two c = c .four-maj2 .ensures
+
 returns : tie.Need-returns
 unfolding runs
-returns c =
-    let w = now (c .before .before .args .w) in
-    more Maj 0x8f1bbcdc w 12 (c .four-maj2 .ensures) (c .before .four-maj .ensures)
+returns c = let w = now (c .before .before .args .w) in more Maj 0x8f1bbcdc w 12 (two c) (one (c .before))
 
 pub rounds-40-to-47-spec : {M : Type 1} → statement M
 rounds-40-to-47-spec = tie.close (tie.spec four-maj-requires four-maj-requires-2 returns)

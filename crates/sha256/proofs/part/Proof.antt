@@ -1,5 +1,6 @@
 -- `sha256::part` meets its contract.
 -- Assumes nothing.
+use mathlib.Core.Path.{refl}
 use denote.Ref.{now}
 use Rattle.sha256.proofs.Parts.{last-part}
 use borrow.Author.Needs.{needs}
@@ -7,19 +8,19 @@ use Rattle.sha256.proofs.part.Statement.{statement}
 use Rattle.sha256.proofs.part.Tie as tie
 
 returns : tie.Need-returns
-returns c = search needs
+returns c = rw (c .match .keys1) refl
 
 returns-2 : tie.Need-returns-2
-returns-2 c = search needs
+returns-2 c = rw (c .match .keys2) refl
 
 returns-3 : tie.Need-returns-3
-returns-3 c = search needs
+returns-3 c = rw (c .match .keys3) refl
 
 returns-4 : tie.Need-returns-4
-returns-4 c = search needs
+returns-4 c = rw (c .match .keys4) refl
 
 returns-5 : tie.Need-returns-5
-returns-5 c = search needs
+returns-5 c = rw (c .match .keys5) refl
 
 returns-6 : tie.Need-returns-6
 returns-6 c =

@@ -1,8 +1,9 @@
 -- `sha256_value::of_block` meets its contract: one block compressed.
 -- Assumes nothing.
+use Prim.Native.Nat.{_/_}
 use mathlib.Core.Path.{_≡_, _∙_}
 use lib.ListN.{length}
-use Rattle.sha256_block.specs.Fips180.{H0, compress}
+use Rattle.sha256_block.specs.Fips180.{H0, compress, blocks}
 use Rattle.fips180.proofs.Blocks.{one-block}
 use borrow.Author.Needs.{needs}
 use Rattle.sha256_value.proofs.of_block.Statement.{statement}
@@ -19,7 +20,8 @@ unfolding H0
 returns c =
     let b = c .before .before .args .t1 in
     let l : length b ≡ 64 = search needs in
-    c .compress-blocks .ensures ∙ one-block compress H0 b l
+    let done : c .compress-blocks .result ≡ blocks (length b / 64) H0 b = c .compress-blocks .ensures in
+    done ∙ one-block compress H0 b l
 
 pub of-block-spec : {M : Type 1} → statement M
 of-block-spec =

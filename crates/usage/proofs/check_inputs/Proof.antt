@@ -1,5 +1,6 @@
 -- `usage::check_inputs` meets its contract.
 -- Assumes nothing.
+use mathlib.Core.Path.{refl}
 use Rattle.usage.proofs.check_inputs.Statement.{statement}
 use Rattle.usage.proofs.check_inputs.Tie as tie
 
@@ -40,7 +41,7 @@ returns c =
       p4 .check-domain-label .ensures,
       p5 .check-label .ensures,
       p6 .check-root-key .ensures,
-    )
+    ) refl
 
 pub check-inputs-spec : {M : Type 1} → statement M
 check-inputs-spec =
