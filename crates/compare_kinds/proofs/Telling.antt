@@ -24,7 +24,6 @@ line-inside f i line e h l =
     (t, omega (arith, k .inside))
 
 pub line-id-is : (f : List ℕ) (i line : ℕ) → line ≡ 20 * i → take (2 + line + 16 - (2 + line)) (drop (2 + line) f) ≡ lineAt f i .id
-unfolding lineAt
 line-id-is f i line l = rw l (line-id f i)
 
 module _ (own other : List ℕ) (i line place n : ℕ) (e : bundleCheck own ≡ pass) (h : i < countIn own) (l : line ≡ 20 * (i % 65536))

@@ -1,15 +1,14 @@
 -- `compare_kinds::place_of` meets its contract.
 -- Assumes nothing.
 use Prim.Native.Nat.{_≤_, _-_}
-use mathlib.Core.Path.{_≡_, sym, _∙_}
+use mathlib.Core.Path.{_≡_, sym}
 use native.Mathlib.Nat.{sub-zero}
 use native.Mathlib.Omega.{arith}
 use borrow.Author.Needs.{needs}
 use Rattle.bundle_rules.specs.Bundle.{linesFrom}
 use Rattle.bundle_rules.proofs.Reading.{contents}
-use Rattle.bundle_contents.proofs.Walking.{line-id}
 use Rattle.compare_rules.specs.Places.{placeOf, placeIn}
-use Rattle.compare_kinds.proofs.Lines.{place-here, place-on, place-end}
+use Rattle.compare_kinds.proofs.Lines.{place-on, place-end}
 use Rattle.compare_kinds.proofs.place_of.Statement.{statement}
 use Rattle.compare_kinds.proofs.place_of.Tie as tie
 
@@ -51,7 +50,7 @@ same-id-requires c κs = search needs
 returns : tie.Need-returns Inv-loop μ-loop
 returns c =
     let l = c .before .before .before .before .loop in
-    place-here _ _ _ (l .j) _ (omega arith) (line-id _ (l .j)) (sym (c .before .same-id .ensures) ∙ c .if1 .taken) (l .inv .1)
+    sym (place-on _ _ (l .j) _ (omega arith) (c .before .same-id .ensures) (c .if1 .taken) (l .inv .1))
 
 add-j : tie.Need-add-j Inv-loop μ-loop
 add-j c = omega arith
@@ -62,7 +61,7 @@ loop-less c = omega arith
 loop-again : tie.Need-loop-again Inv-loop μ-loop
 loop-again c =
     let l = c .before .before .before .before .loop in
-    (omega arith, place-on _ _ _ (l .j) _ (omega arith) (line-id _ (l .j)) (sym (c .before .same-id .ensures) ∙ c .if1 .left) (l .inv .1))
+    (omega arith, place-on _ _ (l .j) _ (omega arith) (c .before .same-id .ensures) (c .if1 .left) (l .inv .1))
 
 returns-2 : tie.Need-returns-2 Inv-loop μ-loop
 returns-2 c = let l = c .before .loop in place-end _ _ (l .j) _ (omega arith) (l .inv .1)
