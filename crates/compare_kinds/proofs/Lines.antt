@@ -15,16 +15,24 @@ use Rattle.bundle_rules.specs.Bundle.{lineAt, linesFrom, countIn, bodyOf, bundl
 use Rattle.bundle_rules.proofs.Packing.{sized}
 use Rattle.bundle_rules.proofs.Reading.{contents, Whole, laid}
 use Rattle.bundle_rules.proofs.Once.{whole-at}
-use Rattle.bundle_numbers.proofs.Numbers.{number-of-line}
+use Rattle.bundle_numbers.proofs.Numbers.{lines-told, number-of-line}
 use Rattle.bundle_contents.proofs.Walking.{lines-next, lines-done, idPart, line-id}
 use Rattle.bundle_contents.proofs.Bodies.{body-part}
 use Rattle.compare_rules.specs.Places.{placeOf}
 
+-- the Key ID of line i is the part that the code names, and is within the file
+pub line-told : (f : List ℕ) (i line : ℕ) → bundleCheck f ≡ pass → i < countIn f → line ≡ 20 * (i % 65536)
+    → (line + 22 ≤ length f) × (take (2 + line + 16 - (2 + line)) (drop (2 + line) f) ≡ lineAt f i .id)
+line-told f i line e h l =
+    let k = contents f e in
+    let t = lines-told i line (omega (arith, k .high)) l in
+    (omega (arith, k .inside), rw t (line-id f i))
+
 -- a test of line j that came to b: the loop has found the Key ID, or goes on
-pub place-on : (f id : List ℕ) (j n : ℕ) {whole : ℕ} {r b : Bool} → j < n → r ≡ sameList (idPart f j) id → r ≡ b → whole ≡ placeOf id j (linesFrom f j (n - j))
-    → whole ≡ cond b j (placeOf id (j + 1) (linesFrom f (j + 1) (n - (j + 1))))
+pub place-on : (f id part : List ℕ) (j n : ℕ) {whole : ℕ} {r b : Bool} → part ≡ id → j < n → r ≡ sameList (idPart f j) part → r ≡ b
+    → whole ≡ placeOf id j (linesFrom f j (n - j)) → whole ≡ cond b j (placeOf id (j + 1) (linesFrom f (j + 1) (n - (j + 1))))
 unfolding placeOf
-place-on f id j n h t e inv = inv ∙ rw (lines-next f j n h, ← line-id f j, ← t, e, add-one j)
+place-on f id part j n p h t e inv = inv ∙ rw (lines-next f j n h, ← line-id f j, ← p, ← t, e, add-one j)
 
 pub place-end : (f id : List ℕ) (j n : ℕ) {whole : ℕ} → n ≤ j → whole ≡ placeOf id j (linesFrom f j (n - j)) → j ≡ whole
 unfolding placeOf
