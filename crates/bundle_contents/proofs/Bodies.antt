@@ -71,4 +71,5 @@ body-part f offset size =
 pub body-told : (f : List ℕ) (i line offset size : ℕ) {c : Check} → i < 65536 → line ≡ 20 * (i % 65536)
     → c ≡ bodyCheck (take (2 + line + 16 - (2 + line)) (drop (2 + line) f)) (take (offset + size - offset) (drop offset f))
     → bodyCheck (take 16 (drop (2 + 20 * i) f)) (take size (drop offset f)) ≡ c
+unfolding lineAt
 body-told f i line offset size h l e = sym (rw (lines-told i line h l, line-id f i, body-part f offset size) at e)

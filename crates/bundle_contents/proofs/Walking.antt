@@ -2,7 +2,7 @@
 -- Assumes nothing.
 use Prim.Native.Nat.{ℕ, zero, suc, _+_, _*_, _-_, _%_, _≤_, _<_}
 use mathlib.Core.Path.{_≡_, sym, _∙_}
-use mathlib.Core.Bool.{Bool, true, false}
+use mathlib.Core.Bool.{Bool, true, false, _||_}
 use mathlib.Core.List.{List, [], _∷_}
 use native.Mathlib.Nat.{add-zero, zero-add, sub-zero}
 use native.Mathlib.Numerals.{add-one}
@@ -63,36 +63,31 @@ last-is f n end offset size h o s =
 
 -- ---- a Key ID among those of the lines, and one twice
 
-pub stands-here : (f id here : List ℕ) (j n : ℕ) {whole : Bool} → j < n → here ≡ take 16 (drop (2 + 20 * j) f) → sameList here id ≡ true
-    → whole ≡ idStands id (idsOf (linesFrom f j (n - j))) → true ≡ whole
-unfolding idStands lineAt
-stands-here f id here j n h o e inv = sym (inv ∙ rw (lines-next f j n h, ← o, e))
+-- the part of the file that holds the Key ID of line j
+abbrev pub idPart : List ℕ → ℕ → List ℕ
+idPart f j = take (2 + 20 * j + 16 - (2 + 20 * j)) (drop (2 + 20 * j) f)
 
-pub stands-on : (f id here : List ℕ) (j n : ℕ) {whole : Bool} → j < n → here ≡ take 16 (drop (2 + 20 * j) f) → sameList here id ≡ false
-    → whole ≡ idStands id (idsOf (linesFrom f j (n - j))) → whole ≡ idStands id (idsOf (linesFrom f (j + 1) (n - (j + 1))))
-unfolding idStands lineAt
-stands-on f id here j n h o e inv = inv ∙ rw (lines-next f j n h, ← o, e)
+pub line-id : (f : List ℕ) (j : ℕ) → idPart f j ≡ lineAt f j .id
+unfolding lineAt
+line-id f j =
+    let m : 2 + 20 * j + 16 - (2 + 20 * j) ≡ 16 = omega arith in
+    rw m
+
+-- a test of it that came to b: the loop has found it, or goes on
+pub stands-on : (f id : List ℕ) (j n : ℕ) {whole r b : Bool} → j < n → r ≡ sameList (idPart f j) id → r ≡ b → whole ≡ idStands id (idsOf (linesFrom f j (n - j)))
+    → whole ≡ (b || idStands id (idsOf (linesFrom f (j + 1) (n - (j + 1)))))
+unfolding idStands
+stands-on f id j n h t e inv = inv ∙ rw (lines-next f j n h, ← line-id f j, ← t, e)
 
 pub stands-not : (f id : List ℕ) (j n : ℕ) {whole : Bool} → n ≤ j → whole ≡ idStands id (idsOf (linesFrom f j (n - j))) → false ≡ whole
 unfolding idStands
 stands-not f id j n h inv = sym (inv ∙ rw (lines-done f j n h))
 
-pub repeats-here : (f here : List ℕ) (i n : ℕ) {whole : Bool} → i < n → here ≡ take 16 (drop (2 + 20 * i) f) → idStands here (idsOf (linesFrom f (i + 1) (n - (i + 1)))) ≡ true
-    → whole ≡ idRepeats (idsOf (linesFrom f i (n - i))) → true ≡ whole
-unfolding idRepeats lineAt
-repeats-here f here i n h o e inv = sym (inv ∙ rw (lines-next f i n h, ← o, e))
-
-pub repeats-on : (f here : List ℕ) (i n : ℕ) {whole : Bool} → i < n → here ≡ take 16 (drop (2 + 20 * i) f) → idStands here (idsOf (linesFrom f (i + 1) (n - (i + 1)))) ≡ false
-    → whole ≡ idRepeats (idsOf (linesFrom f i (n - i))) → whole ≡ idRepeats (idsOf (linesFrom f (i + 1) (n - (i + 1))))
-unfolding idRepeats lineAt
-repeats-on f here i n h o e inv = inv ∙ rw (lines-next f i n h, ← o, e)
+pub repeats-on : (f : List ℕ) (i n : ℕ) {whole r b : Bool} → i < n → r ≡ idStands (idPart f i) (idsOf (linesFrom f (i + 1) (n - (i + 1)))) → r ≡ b
+    → whole ≡ idRepeats (idsOf (linesFrom f i (n - i))) → whole ≡ (b || idRepeats (idsOf (linesFrom f (i + 1) (n - (i + 1)))))
+unfolding idRepeats
+repeats-on f i n h t e inv = inv ∙ rw (lines-next f i n h, ← line-id f i, ← t, e)
 
 pub repeats-not : (f : List ℕ) (i n : ℕ) {whole : Bool} → n ≤ i → whole ≡ idRepeats (idsOf (linesFrom f i (n - i))) → false ≡ whole
 unfolding idRepeats
 repeats-not f i n h inv = sym (inv ∙ rw (lines-done f i n h))
-
--- the part of the file that holds the Key ID of line j
-pub line-id : (f : List ℕ) (j : ℕ) → take (2 + 20 * j + 16 - (2 + 20 * j)) (drop (2 + 20 * j) f) ≡ take 16 (drop (2 + 20 * j) f)
-line-id f j =
-    let m : 2 + 20 * j + 16 - (2 + 20 * j) ≡ 16 = omega arith in
-    rw m

@@ -1,8 +1,8 @@
--- The lines of an accepted file: a Key ID searched in them, one law for each way on in the loop, and the body of each.
+-- The lines of an accepted file: a Key ID searched in them, and the body of each.
 -- Assumes nothing.
 use Prim.Native.Nat.{ℕ, _+_, _*_, _-_, _%_, _≤_, _<_}
 use mathlib.Core.Path.{_≡_, sym, _∙_}
-use mathlib.Core.Bool.{true, false}
+use mathlib.Core.Bool.{Bool, cond}
 use mathlib.Core.List.{List}
 use native.Mathlib.Nat.{zero-add, min-le-right}
 use native.Mathlib.Numerals.{add-one}
@@ -15,20 +15,24 @@ use Rattle.bundle_rules.specs.Bundle.{lineAt, linesFrom, countIn, bodyOf, bundl
 use Rattle.bundle_rules.proofs.Packing.{sized}
 use Rattle.bundle_rules.proofs.Reading.{contents, Whole, laid}
 use Rattle.bundle_rules.proofs.Once.{whole-at}
-use Rattle.bundle_numbers.proofs.Numbers.{number-of-line}
-use Rattle.bundle_contents.proofs.Walking.{lines-next, lines-done}
+use Rattle.bundle_numbers.proofs.Numbers.{lines-told, number-of-line}
+use Rattle.bundle_contents.proofs.Walking.{lines-next, lines-done, idPart, line-id}
 use Rattle.bundle_contents.proofs.Bodies.{body-part}
 use Rattle.compare_rules.specs.Places.{placeOf}
 
-pub place-here : (f id here : List ℕ) (j n : ℕ) {whole : ℕ} → j < n → here ≡ take 16 (drop (2 + 20 * j) f) → sameList here id ≡ true
-    → whole ≡ placeOf id j (linesFrom f j (n - j)) → j ≡ whole
-unfolding placeOf lineAt
-place-here f id here j n h o e inv = sym (inv ∙ rw (lines-next f j n h, ← o, e))
+-- the Key ID of line i is the part that the code names, and is within the file
+pub line-told : (f : List ℕ) (i line : ℕ) → bundleCheck f ≡ pass → i < countIn f → line ≡ 20 * (i % 65536)
+    → (line + 22 ≤ length f) × (take (2 + line + 16 - (2 + line)) (drop (2 + line) f) ≡ lineAt f i .id)
+line-told f i line e h l =
+    let k = contents f e in
+    let t = lines-told i line (omega (arith, k .high)) l in
+    (omega (arith, k .inside), rw t (line-id f i))
 
-pub place-on : (f id here : List ℕ) (j n : ℕ) {whole : ℕ} → j < n → here ≡ take 16 (drop (2 + 20 * j) f) → sameList here id ≡ false
-    → whole ≡ placeOf id j (linesFrom f j (n - j)) → whole ≡ placeOf id (j + 1) (linesFrom f (j + 1) (n - (j + 1)))
-unfolding placeOf lineAt
-place-on f id here j n h o e inv = inv ∙ rw (lines-next f j n h, ← o, e, add-one j)
+-- a test of line j that came to b: the loop has found the Key ID, or goes on
+pub place-on : (f id part : List ℕ) (j n : ℕ) {whole : ℕ} {r b : Bool} → part ≡ id → j < n → r ≡ sameList (idPart f j) part → r ≡ b
+    → whole ≡ placeOf id j (linesFrom f j (n - j)) → whole ≡ cond b j (placeOf id (j + 1) (linesFrom f (j + 1) (n - (j + 1))))
+unfolding placeOf
+place-on f id part j n p h t e inv = inv ∙ rw (lines-next f j n h, ← line-id f j, ← p, ← t, e, add-one j)
 
 pub place-end : (f id : List ℕ) (j n : ℕ) {whole : ℕ} → n ≤ j → whole ≡ placeOf id j (linesFrom f j (n - j)) → j ≡ whole
 unfolding placeOf

@@ -16,11 +16,15 @@ use refusal::Checked;
 use slices::least;
 use slices::same_bytes;
 
-// The place of the line that has a Key ID; where none has it, the place after the last.
-fn place_of(file: &[u8], id: &[u8]) -> usize
-    requires { ⌜ bundleCheck (now file) ≡ pass ⌝ }
-    ensures { λ r. ⌜ r ≡ placeIn (now (id .entry)) (now (file .entry)) ⌝ }
+// The place of the line that has the Key ID of line i of another file; where none has it, the place after the last.
+fn place_of(file: &[u8], other: &[u8], i: usize) -> usize
+    requires { ⌜ (bundleCheck (now file) ≡ pass) × (bundleCheck (now other) ≡ pass) ⌝ }
+    requires { ⌜ i < countIn (now other) ⌝ }
+    ensures { λ r. ⌜ r ≡ placeIn (lineAt (now (other .entry)) i .id) (now (file .entry)) ⌝ }
 {
+    let start = 2 + lines_length(i);
+    let stop = start + 16;
+    let id = &other[start..stop];
     let n = number_at(file, 0);
     let mut j = 0;
     while j < n {
@@ -57,9 +61,7 @@ fn first_kind(first: &[u8], second: &[u8], i: usize) -> u8
     requires { ⌜ i < countIn (now first) ⌝ }
     ensures { λ r. ⌜ r ≡ firstKind (now (first .entry)) (now (second .entry)) i ⌝ }
 {
-    let at = 2 + lines_length(i);
-    let end = at + 16;
-    let place = place_of(second, &first[at..end]);
+    let place = place_of(second, first, i);
     if number_at(second, 0) <= place {
         return 1;
     }
@@ -76,9 +78,7 @@ fn second_kind(first: &[u8], second: &[u8], i: usize) -> u8
     requires { ⌜ i < countIn (now second) ⌝ }
     ensures { λ r. ⌜ r ≡ secondKind (now (first .entry)) (now (second .entry)) i ⌝ }
 {
-    let at = 2 + lines_length(i);
-    let end = at + 16;
-    let place = place_of(first, &second[at..end]);
+    let place = place_of(first, second, i);
     if number_at(first, 0) <= place { 3 } else { 0 }
 }
 

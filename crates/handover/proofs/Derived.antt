@@ -5,7 +5,9 @@ use mathlib.Core.Path.{_≡_, refl, sym, ap, _∙_}
 use mathlib.Core.List.{List, [], _∷_, _++_}
 use native.Mathlib.Omega.{arith}
 use lib.ListN.{length, take, drop, set, replicate, length-set, length-append}
-use lib.Seq.{paste, take-all, take-at, drop-at, take-add, drop-drop}
+use borrow.Rule.Slice.PartMut.{putMid}
+use lib.Seq.{paste, length-take-le, take-all, take-at, drop-at, take-add, drop-drop}
+use Rattle.slices.proofs.Copies.{copied-part}
 use Rattle.rfc2104.specs.Rfc2104.{masked, ipad, opad}
 use Rattle.fips180.specs.Hash.{padding}
 use Rattle.fips180.specs.Sha1.{compress, blocks, H0, digest}
@@ -16,19 +18,22 @@ use Rattle.handover_rules.specs.Kdf.{kdfInput}
 use Rattle.handover_rules.specs.Handover.{r0Label, r1Label, r0Input, r1Input, r0Key, r1Key}
 use Rattle.handover_rules.proofs.Keys.{r0-of-blocks, r1-of-blocks}
 use Rattle.handover.specs.Internal.{IsText}
+use Rattle.handover.proofs.Answers.{front-of}
 
--- the first of two lists of 20, and 12 of the second, put at the start of a buffer
-two-parts : (f s out : List ℕ) → length f ≡ 20 → paste (paste out 0 f 20) 20 s 12 ≡ take 32 (f ++ s) ++ drop 32 out
-two-parts f s out lf =
-    let all : length f ≤ 20 = omega arith in
-    let one : paste out 0 f 20 ≡ f ++ drop 20 out = ap (λ (l : List ℕ). l ++ drop 20 out) (take-all 20 f all) in
-    let front : take 20 (f ++ drop 20 out) ≡ f = take-at f (drop 20 out) 20 lf in
-    let back : drop 32 (f ++ drop 20 out) ≡ drop 32 out
-    = sym (drop-drop 12 20 (f ++ drop 20 out)) ∙ ap (drop 12) (drop-at f (drop 20 out) 20 lf) ∙ drop-drop 12 20 out in
+-- two lists of 20 copied to a buffer one after the other, the second cut to 12: z is what its copy leaves of the part that begins at 20
+two-parts : (f s out : List ℕ) {one z : List ℕ} → length f ≡ 20 → length s ≡ 20 → one ≡ take (length f) f ++ drop (length f) out
+    → z ≡ take (length (take 12 s)) (take 12 s) ++ drop (length (take 12 s)) (take (length one - 20) (drop 20 one))
+    → putMid 20 (length one - 20) one z ≡ take 32 (f ++ s) ++ drop 32 out
+two-parts f s out {one} lf ls e₁ e₂ =
+    let n : length (take 12 s) ≡ 12 = length-take-le 12 s (omega arith) in
+    let all : length (take 12 s) ≤ 12 = omega arith in
+    let front : one ≡ f ++ drop 20 out = front-of 20 f out lf e₁ in
+    let back : drop 32 one ≡ drop 32 out
+    = sym (drop-drop 12 20 one) ∙ ap (λ (l : List ℕ). drop 12 (drop 20 l)) front ∙ ap (drop 12) (drop-at f (drop 20 out) 20 lf) ∙ drop-drop 12 20 out in
     let head : take 32 (f ++ s) ≡ f ++ take 12 s
     = take-add 20 12 (f ++ s) ∙ (λ i. take-at f s 20 lf i ++ take 12 (drop-at f s 20 lf i)) in
-    ap (λ (b : List ℕ). paste b 20 s 12) one
-    ∙ (λ i. (front i ++ take 12 s) ++ back i)
+    copied-part one (take 12 s) 20 e₂ ∙ ap (paste one 20 (take 12 s)) n
+    ∙ (λ i. ((ap (take 20) front ∙ take-at f (drop 20 out) 20 lf) i ++ take-all 12 (take 12 s) all i) ++ back i)
     ∙ ap (λ (l : List ℕ). l ++ drop 32 out) (sym head)
 
 -- a text with its padding, of which only the first byte is another
@@ -45,10 +50,11 @@ module _ (key : List ℕ) (short : length key ≤ 64) {block inner outer : List 
       let small : 64 + length m < 2 ^ 64 = omega arith in
       mac-of-padded key m small et (key-value-short key ipad short eb ei) (key-value-short key opad short eb eo) refl ed
 
-  pub derived : (m text out : List ℕ) {f s one two : List ℕ} → IsText m → text ≡ m ++ padding (64 + length m)
-      → f ≡ hashAfter outer (digest (blocks (length text / 64) inner text)) → one ≡ paste out 0 f 20
-      → s ≡ hashAfter outer (digest (blocks (length (set text 0 2) / 64) inner (set text 0 2))) → two ≡ paste one 20 s 12
-      → two ≡ take 32 (hmacSha1 key m ++ hmacSha1 key (set m 0 2)) ++ drop 32 out
+  pub derived : (m text out : List ℕ) {f s one z : List ℕ} → IsText m → text ≡ m ++ padding (64 + length m)
+      → f ≡ hashAfter outer (digest (blocks (length text / 64) inner text)) → one ≡ take (length f) f ++ drop (length f) out
+      → s ≡ hashAfter outer (digest (blocks (length (set text 0 2) / 64) inner (set text 0 2)))
+      → z ≡ take (length (take 12 s)) (take 12 s) ++ drop (length (take 12 s)) (take (length one - 20) (drop 20 one))
+      → putMid 20 (length one - 20) one z ≡ take 32 (hmacSha1 key m ++ hmacSha1 key (set m 0 2)) ++ drop 32 out
   derived m text out {f} {s} is et ef e₁ es e₂ =
       let a : f ≡ hmacSha1 key m = text-mac m (is .1) et ef in
       let l : length (set m 0 2) ≡ length m = length-set m 0 2 in
@@ -56,8 +62,7 @@ module _ (key : List ℕ) (short : length key ≤ 64) {block inner outer : List 
       = ap (λ (t : List ℕ). set t 0 2) et ∙ set-first m (padding (64 + length m)) (is .0) ∙ ap (λ (k : ℕ). set m 0 2 ++ padding (64 + k)) (sym l) in
       let few : length (set m 0 2) ≤ 1000 = omega (arith, l, is .1) in
       let b : s ≡ hmacSha1 key (set m 0 2) = text-mac (set m 0 2) few second es in
-      e₂ ∙ ap (λ (t : List ℕ). paste t 20 s 12) e₁
-      ∙ two-parts f s out (ap length a ∙ hmacSha1-length key m)
+      two-parts f s out (ap length a ∙ hmacSha1-length key m) (ap length b ∙ hmacSha1-length key (set m 0 2)) e₁ e₂
       ∙ (λ i. take 32 (a i ++ b i) ++ drop 32 out)
 
 -- the text of the second iteration: only the number at its start is another

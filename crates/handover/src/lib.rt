@@ -4,7 +4,6 @@ ghost use mathlib.Core.Path.{_≡_};
 ghost use mathlib.Core.List.{List, _++_};
 ghost use Prim.Native.Nat.{ℕ, _+_, _/_, _≤_};
 ghost use lib.ListN.{length, take, drop, set};
-ghost use lib.Seq.{paste};
 ghost use Rattle.refusal.specs.Checks as Checks;
 ghost use Rattle.refusal.specs.Checks.{bare, _andThen_, check6};
 ghost use Rattle.refusal.specs.Answers.{checkedAs, answerOf, answerTo, bufferAfter};
@@ -52,17 +51,6 @@ fn check_call(key: bool, identifiers: bool, n: usize, room: usize) -> Checked
     refusal::then_check(c34, refusal::check_room(n, room))
 }
 
-// Writes the first n bytes of `part` into `bytes`, from index `at` on.
-fn put(bytes: &mut [u8], at: usize, part: &[u8], n: usize)
-    requires { ⌜ n ≤ length (now part) ⌝ }
-    requires { ⌜ at + n ≤ length (now bytes) ⌝ }
-    ensures { λ _. ⌜ now (bytes .exit) ≡ paste (now (bytes .entry)) at (now (part .entry)) n ⌝ }
-{
-    for j in 0..n {
-        bytes[at + j] = part[j];
-    }
-}
-
 // An AD-ID or AN-ID, and an SPA, whose length was tested.
 fn id(s: &[u8]) -> [u8; ID]
     requires { ⌜ length (now s) ≡ 16 ⌝ }
@@ -100,10 +88,10 @@ fn derive(key: &[u8], text: &mut [u8], out: &mut [u8])
 {
     let keyed = Keyed::of_block(hmac_block::filled(key));
     let first = iteration(keyed, text);
-    put(out, 0, &first, 20);
+    bytes::copy(&first, out);
     text[0] = 2;
     let second = iteration(keyed, text);
-    put(out, 20, &second, 12);
+    bytes::copy(&second[..12], &mut out[20..]);
 }
 
 // Writes the R0-Key of an access domain and a handheld under an rRK: 32 bytes at the start of out.

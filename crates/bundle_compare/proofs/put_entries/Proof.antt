@@ -8,7 +8,7 @@ use denote.Ref.{now}
 use lib.ListN.{length}
 use Rattle.bundle_rules.specs.Bundle.{countIn}
 use Rattle.bundle_rules.proofs.Reading.{contents}
-use Rattle.compare_kinds.proofs.Telling.{line-id-is}
+use Rattle.bundle_contents.proofs.Walking.{line-id}
 use Rattle.bundle_compare.proofs.Entries.{Listed, listed-start, listed-room, listed-on, listed-end}
 use Rattle.bundle_compare.proofs.put_entries.Statement.{statement}
 use Rattle.bundle_compare.proofs.put_entries.Tie as tie
@@ -57,7 +57,7 @@ put-entry-requires : tie.Need-put-entry-requires Inv-loop μ-loop
 put-entry-requires c κs =
     let k = c .before .before .before in
     let l = k .before .loop in
-    listed-room _ _ _ _ _ _ (l .i) _ _ (small k .0) (line-id-is _ (l .i) (20 * l .i) refl) (k .before .before .before .before .before .before .pre .1 .1) (l .inv .1)
+    listed-room _ _ _ _ _ _ (l .i) _ _ (small k .0) (line-id _ (l .i)) (k .before .before .before .before .before .before .pre .1 .1) (l .inv .1)
 
 add-i : tie.Need-add-i Inv-loop μ-loop
 add-i c = omega arith
@@ -70,7 +70,7 @@ loop-again c =
     let k = c .before .before .before .before .before .before in
     let l = k .before .loop in
     let e = c .before .before .put-entry .ensures in
-    (omega arith, listed-on _ _ _ _ _ _ _ (l .i) _ _ _ (small k .0) (line-id-is _ (l .i) (20 * l .i) refl) (k .before .before .before .before .before .before .pre .1 .1) (l .inv .1) (e .0) (e .1))
+    (omega arith, listed-on _ _ _ _ _ _ _ (l .i) _ _ _ (small k .0) (line-id _ (l .i)) (k .before .before .before .before .before .before .pre .1 .1) (l .inv .1) (e .0) (e .1))
 
 same-length : tie.Need-same-length Inv-loop μ-loop
 same-length c = c .before .loop .inv .1 .size

@@ -1,11 +1,11 @@
 -- `bundle_contents::id_repeats` meets its contract.
 -- Assumes nothing.
 use Prim.Native.Nat.{_≤_, _-_}
-use mathlib.Core.Path.{_≡_, sym, _∙_}
+use mathlib.Core.Path.{_≡_, sym}
 use native.Mathlib.Nat.{sub-zero}
 use native.Mathlib.Omega.{arith}
 use Rattle.bundle_rules.specs.Bundle.{idRepeats, idsOf, linesFrom}
-use Rattle.bundle_contents.proofs.Walking.{repeats-here, repeats-on, repeats-not, line-id}
+use Rattle.bundle_contents.proofs.Walking.{repeats-on, repeats-not}
 use Rattle.bundle_contents.proofs.id_repeats.Statement.{statement}
 use Rattle.bundle_contents.proofs.id_repeats.Tie as tie
 
@@ -45,7 +45,7 @@ id-stands-requires c κs = omega arith
 returns : tie.Need-returns Inv-loop μ-loop
 returns c =
     let l = c .before .before .before .before .loop in
-    repeats-here _ _ (l .i) _ (omega arith) (line-id _ (l .i)) (sym (c .before .id-stands .ensures) ∙ c .if1 .taken) (l .inv .1)
+    sym (repeats-on _ (l .i) _ (omega arith) (c .before .id-stands .ensures) (c .if1 .taken) (l .inv .1))
 
 add-i : tie.Need-add-i Inv-loop μ-loop
 add-i c = omega arith
@@ -56,7 +56,7 @@ loop-less c = omega arith
 loop-again : tie.Need-loop-again Inv-loop μ-loop
 loop-again c =
     let l = c .before .before .before .before .loop in
-    (omega arith, repeats-on _ _ (l .i) _ (omega arith) (line-id _ (l .i)) (sym (c .before .id-stands .ensures) ∙ c .if1 .left) (l .inv .1))
+    (omega arith, repeats-on _ (l .i) _ (omega arith) (c .before .id-stands .ensures) (c .if1 .left) (l .inv .1))
 
 returns-2 : tie.Need-returns-2 Inv-loop μ-loop
 returns-2 c = let l = c .before .loop in repeats-not _ (l .i) _ (omega arith) (l .inv .1)

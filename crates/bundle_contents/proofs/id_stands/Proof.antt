@@ -1,10 +1,10 @@
 -- `bundle_contents::id_stands` meets its contract.
 -- Assumes nothing.
 use Prim.Native.Nat.{_≤_, _-_}
-use mathlib.Core.Path.{_≡_, refl, sym, _∙_}
+use mathlib.Core.Path.{_≡_, refl, sym}
 use native.Mathlib.Omega.{arith}
 use Rattle.bundle_rules.specs.Bundle.{idStands, idsOf, linesFrom}
-use Rattle.bundle_contents.proofs.Walking.{stands-here, stands-on, stands-not, line-id}
+use Rattle.bundle_contents.proofs.Walking.{stands-on, stands-not}
 use Rattle.bundle_contents.proofs.id_stands.Statement.{statement}
 use Rattle.bundle_contents.proofs.id_stands.Tie as tie
 
@@ -41,7 +41,7 @@ same-id-requires c κs = omega arith
 returns : tie.Need-returns Inv-loop μ-loop
 returns c =
     let l = c .before .before .before .before .loop in
-    stands-here _ _ _ (l .j) _ (omega arith) (line-id _ (l .j)) (sym (c .before .same-id .ensures) ∙ c .if1 .taken) (l .inv .1)
+    sym (stands-on _ _ (l .j) _ (omega arith) (c .before .same-id .ensures) (c .if1 .taken) (l .inv .1))
 
 add-j : tie.Need-add-j Inv-loop μ-loop
 add-j c = omega arith
@@ -52,7 +52,7 @@ loop-less c = omega arith
 loop-again : tie.Need-loop-again Inv-loop μ-loop
 loop-again c =
     let l = c .before .before .before .before .loop in
-    (omega arith, stands-on _ _ _ (l .j) _ (omega arith) (line-id _ (l .j)) (sym (c .before .same-id .ensures) ∙ c .if1 .left) (l .inv .1))
+    (omega arith, stands-on _ _ (l .j) _ (omega arith) (c .before .same-id .ensures) (c .if1 .left) (l .inv .1))
 
 returns-2 : tie.Need-returns-2 Inv-loop μ-loop
 returns-2 c = let l = c .before .loop in stands-not _ _ (l .j) _ (omega arith) (l .inv .1)

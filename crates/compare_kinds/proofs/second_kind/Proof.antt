@@ -1,28 +1,9 @@
 -- `compare_kinds::second_kind` meets its contract.
 -- Assumes nothing.
-use native.Mathlib.Omega.{arith}
-use Rattle.compare_kinds.proofs.Telling.{line-inside, second-missing, second-found}
+use Rattle.compare_kinds.proofs.Telling.{second-missing, second-found}
 use borrow.Author.Needs.{needs}
 use Rattle.compare_kinds.proofs.second_kind.Statement.{statement}
 use Rattle.compare_kinds.proofs.second_kind.Tie as tie
-
-lines-length-requires : tie.Need-lines-length-requires
-lines-length-requires c κs = search needs
-
-add-at : tie.Need-add-at
-add-at c = search needs
-
-add-end : tie.Need-add-end
-add-end c = search needs
-
-sub-place-of : tie.Need-sub-place-of
-sub-place-of c = search needs
-
-part-place-of-start : tie.Need-part-place-of-start
-part-place-of-start c = search needs
-
-part-place-of-end : tie.Need-part-place-of-end
-part-place-of-end c = omega (arith, line-inside _ _ _ (c .before .before .before .pre .0 .1) (c .before .before .before .pre .1) (c .lines-length .ensures) .1)
 
 place-of-requires : tie.Need-place-of-requires
 place-of-requires c κs = search needs
@@ -31,22 +12,11 @@ number-at-requires : tie.Need-number-at-requires
 number-at-requires c κs = search needs
 
 returns : tie.Need-returns
-returns c = let k = c .before in second-missing _ _ _ _ _ _ (k .before .before .before .before .before .before .pre .0 .1) (k .before .before .before .before .before .before .pre .1) (k .before .before .before .lines-length .ensures) (k .before .place-of .ensures) (k .number-at .ensures .0) (c .if1 .taken)
+returns c = let k = c .before in second-missing _ _ _ _ _ (k .before .place-of .ensures) (k .number-at .ensures .0) (c .if1 .taken)
 
 returns-2 : tie.Need-returns-2
-returns-2 c = let k = c .before in second-found _ _ _ _ _ _ (k .before .before .before .before .before .before .pre .0 .1) (k .before .before .before .before .before .before .pre .1) (k .before .before .before .lines-length .ensures) (k .before .place-of .ensures) (k .number-at .ensures .0) (c .if1 .left)
+returns-2 c = let k = c .before in second-found _ _ _ _ _ (k .before .place-of .ensures) (k .number-at .ensures .0) (c .if1 .left)
 
 pub second-kind-spec : {M : Type 1} → statement M
 second-kind-spec =
-    tie.close
-    (tie.spec
-    lines-length-requires
-    add-at
-    add-end
-    sub-place-of
-    part-place-of-start
-    part-place-of-end
-    place-of-requires
-    number-at-requires
-    returns
-    returns-2)
+    tie.close (tie.spec place-of-requires number-at-requires returns returns-2)

@@ -3,7 +3,7 @@
 use native.Mathlib.Omega.{arith}
 use lib.ListN.{length}
 use mathlib.Core.Path.{_≡_}
-use Rattle.handover_texts.proofs.Texts.{name-size, name-laid}
+use Rattle.handover_texts.proofs.Texts.{name-spa, name-laid}
 use borrow.Author.Needs.{needs}
 use Rattle.handover_texts.proofs.name_text.Statement.{statement}
 use Rattle.handover_texts.proofs.name_text.Tie as tie
@@ -50,7 +50,7 @@ part-text-end-2 c =
     let s = c .before .before in
     let h = s .before .before .before .before in
     let k = h .before .before .before in
-    omega (arith, name-size (k .args .t2) (sizes k .1) (h .copy .ensures .1) (s .copy2 .ensures .1))
+    omega (arith, name-spa (k .args .t2) (sizes k .1) (h .copy .ensures .1) (s .copy2 .ensures .1) .1)
 
 copy-requires-3 : tie.Need-copy-requires-3
 copy-requires-3 c κs = search needs

@@ -4,7 +4,7 @@ use native.Mathlib.Omega.{arith}
 use lib.ListN.{length, length-set}
 use mathlib.Core.Path.{_≡_, ap}
 use Rattle.handover_rules.specs.Handover.{r0Label}
-use Rattle.handover_texts.proofs.Texts.{r0-size, r0-laid}
+use Rattle.handover_texts.proofs.Texts.{r0-spa, r0-laid}
 use borrow.Author.Needs.{needs}
 use Rattle.handover_texts.proofs.r0_text.Statement.{statement}
 use Rattle.handover_texts.proofs.r0_text.Tie as tie
@@ -65,7 +65,7 @@ part-text-end-2 c =
     let s = c .before .before in
     let h = s .before .before .before .before in
     let k = h .before .before .before in
-    omega (arith, r0-size (k .args .t2) (sizes k .1) (h .copy .ensures .1) (s .copy2 .ensures .1))
+    omega (arith, r0-spa (k .args .t2) (sizes k .1) (h .copy .ensures .1) (s .copy2 .ensures .1) .1)
 
 copy-requires-3 : tie.Need-copy-requires-3
 copy-requires-3 c κs = search needs

@@ -4,7 +4,7 @@ use native.Mathlib.Omega.{arith}
 use lib.ListN.{length, length-set}
 use mathlib.Core.Path.{_≡_, ap}
 use Rattle.handover_rules.specs.Handover.{r1Label}
-use Rattle.handover_texts.proofs.Texts.{r1-spa-size, r1-size, r1-laid}
+use Rattle.handover_texts.proofs.Texts.{r1-spa, r1-an, r1-laid}
 use borrow.Author.Needs.{needs}
 use Rattle.handover_texts.proofs.r1_text.Statement.{statement}
 use Rattle.handover_texts.proofs.r1_text.Tie as tie
@@ -65,7 +65,7 @@ part-text-end-2 c =
     let s = c .before .before in
     let h = s .before .before .before .before in
     let k = h .before .before .before in
-    omega (arith, r1-spa-size (k .args .t3) (sizes k .2) (h .copy .ensures .1) (s .copy2 .ensures .1))
+    omega (arith, r1-spa (k .args .t3) (sizes k .2) (h .copy .ensures .1) (s .copy2 .ensures .1) .1)
 
 copy-requires-3 : tie.Need-copy-requires-3
 copy-requires-3 c κs = search needs
@@ -87,7 +87,7 @@ part-text-end-3 c =
     let h = s .before .before .before .before in
     let k = h .before .before .before in
     let l = sizes k in
-    omega (arith, r1-size (k .args .t3) (l .2) (h .copy .ensures .1) (s .copy2 .ensures .1) (k .args .t2) (l .1) (n .copy3 .ensures .1))
+    omega (arith, r1-an (k .args .t3) (l .2) (h .copy .ensures .1) (s .copy2 .ensures .1) (k .args .t2) (l .1) (n .copy3 .ensures .1) .1)
 
 copy-requires-4 : tie.Need-copy-requires-4
 copy-requires-4 c κs = search needs
