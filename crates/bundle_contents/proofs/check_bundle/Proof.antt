@@ -51,7 +51,9 @@ last-end-requires : tie.Need-last-end-requires
 last-end-requires c κs = search needs
 
 returns-6 : tie.Need-returns-6
-returns-6 c = let k = c .before .before .before .before .before .before .before .before in bundle-end (now (k .before .before .before .args .file)) (k .number-at .result) (c .before .before .before .before .before .before .before .before .number-at .ensures .0) (c .before .before .before .before .before .before .before .before .before .if1 .left) (c .before .before .before .before .before .before .before .if2 .left) (c .before .before .before .before .before .before .if3 .left) (omega (arith, c .before .before .before .before .if4 .left, c .before .before .before .before .before .lines-length .ensures, c .before .before .before .before .before .before .if3 .left)) (followed (c .before .before)) (λ p. c .if6 .taken (c .before .last-end .ensures ∙ p))
+returns-6 c =
+    let told = c .before .before .before .before .before .before .before .before in
+    bundle-end (now (told .before .before .before .args .file)) (told .number-at .result) (told .number-at .ensures .0) (told .before .if1 .left) (c .before .before .before .before .before .before .before .if2 .left) (c .before .before .before .before .before .before .if3 .left) (omega (arith, c .before .before .before .before .if4 .left, c .before .before .before .before .before .lines-length .ensures, c .before .before .before .before .before .before .if3 .left)) (followed (c .before .before)) (λ p. c .if6 .taken (c .before .last-end .ensures ∙ p))
 
 id-repeats-requires : tie.Need-id-repeats-requires
 id-repeats-requires c κs =
