@@ -1,12 +1,12 @@
-// The exported functions of the C interface, which include/ketvaulo.h declares for C. Each is one line: kv_NAME calls NAME of its family's
-// crate, and has the contract of that function. A slice is a pointer and a length in C.
+// The exported functions of the C interface, which include/ketvaulo.h declares for C. Each calls the function of the crate that does the
+// work, and returns its answer as a struct of the crate `outcome`. A slice is a pointer and a length in C.
 ghost use mathlib.Core.Path.{_≡_};
 ghost use lib.ListN.{length};
 ghost use Rattle.refusal.specs.Checks.{check6};
 ghost use Rattle.refusal.specs.Answers.{answerTo, bufferAfter};
 ghost use Rattle.sha256_block.specs.Fips180.{sha256};
 ghost use Rattle.hmac.specs.Rfc2104.{hmacSha256};
-ghost use Rattle.outcome.specs.Outcomes.{outcomeOf};
+ghost use Rattle.outcome.specs.Outcomes.{outcomeOf, checkOutcome};
 ghost use Rattle.requests.specs.Requests.{forUsage, forVrk, forDomain, requestAnswer, requestBuffer};
 ghost use Rattle.visited.specs.Visited.{vmskCheck, vmskKey, reauthCheck, reauthKey};
 ghost use Rattle.domain_keys.specs.Rfc5296.{rrkCheck, rrkKey};
@@ -14,34 +14,42 @@ ghost use Rattle.aka_keys.specs.Rfc5448.{akaCheck, keyMaterial};
 ghost use Rattle.key_name.specs.Ndf64.{nameCheck, nameOf};
 ghost use Rattle.handover_rules.specs.Handover.{r0Check, r1Check, r0NameCheck, r0Key, r1Key, r0Name};
 ghost use Rattle.offer_peer.specs.Answers.{firstRound, serverAnswer, serverBuffer, renewedAnswer};
-ghost use Rattle.offers_c.specs.Outcomes.{firstRoundOutcome, renewedOutcome};
+ghost use Rattle.outcome.specs.Offers.{firstRoundOutcome, renewedOutcome};
 ghost use Rattle.area.specs.Area.{areaAnswer, areaBuffer};
 ghost use Rattle.area_format.specs.declared.Way.the-variants.{Strict, Lenient};
-ghost use Rattle.area_c.specs.Outcomes.{areaOutcome};
+ghost use Rattle.outcome.specs.Areas.{areaOutcome};
 ghost use Rattle.key_frame.specs.KeyFrame.{fieldsOf};
 ghost use Rattle.key_writer.specs.KeyWriter.{writeAnswer, writeBuffer};
 ghost use Rattle.key_reader.specs.KeyReader.{reading, readBuffer};
-ghost use Rattle.key_attribute_c.specs.Outcomes.{keyOutcome};
+ghost use Rattle.outcome.specs.KeyAttributes.{keyOutcome};
 ghost use Rattle.packet_rules.specs.Mac.{signAnswer, signBuffer, checkCheck};
-ghost use Rattle.packet_c.specs.Outcomes.{checkOutcome};
 ghost use Rattle.bundle_rules.specs.Bundle as Bundle;
 ghost use Rattle.compare_rules.specs.Compare.{compareAnswer, compareBuffer, compareCounts};
-ghost use Rattle.compare_c.specs.Outcomes.{comparisonOutcome};
+ghost use Rattle.outcome.specs.Comparisons.{comparisonOutcome};
 ghost use Rattle.slot_rules.specs.Table.{liveCount};
 ghost use Rattle.slot_rules.specs.Calls.{putAnswer, putTable, dropAnswer, dropTable};
 ghost use Rattle.slot_rules.specs.Stored.{tableOf, putStored, dropStored};
-ghost use Rattle.slots_c.specs.Outcomes.{parentFor, slotsOutcome};
-use area_c::AreaOutcome;
+ghost use Rattle.outcome.specs.SlotTables.{parentFor, slotsOutcome};
 use area_format::Way;
-use compare_c::Comparison;
-use key_attribute_c::KeyAttributeOutcome;
-use offers_c::FirstRoundOutcome;
 use outcome::Outcome;
+use outcome::areas::AreaOutcome;
+use outcome::comparisons::Comparison;
+use outcome::key_attributes::KeyAttributeOutcome;
+use outcome::offers::FirstRoundOutcome;
+use outcome::slot_tables::SlotsOutcome;
+use refusal::Checked;
 use slot_rules::Name;
 use slot_rules::Slots;
-use slots_c::SlotsOutcome;
 
 // ---- SHA-256 and HMAC-SHA-256
+
+// Puts a digest at the start of a buffer that has room for it.
+fn put_digest(digest: [u8; 32], out: &mut [u8]) -> Outcome
+    ensures answer { λ r. ⌜ r ≡ outcomeOf (answerTo (check6 32 (length (now (out .entry)))) 32) ⌝ }
+    ensures buffer { λ _. ⌜ now (out .exit) ≡ bufferAfter (check6 32 (length (now (out .entry)))) 32 digest (now (out .entry)) ⌝ }
+{
+    outcome::returned(refusal::put(Checked::Passed, &digest, out))
+}
 
 // FIPS 180-4: the SHA-256 digest of a message, 32 bytes.
 #[no_mangle]
@@ -49,7 +57,7 @@ pub extern "C" fn kv_sha256(message: &[u8], out: &mut [u8]) -> Outcome
     ensures answer { λ r. ⌜ r ≡ outcomeOf (answerTo (check6 32 (length (now (out .entry)))) 32) ⌝ }
     ensures buffer { λ _. ⌜ now (out .exit) ≡ bufferAfter (check6 32 (length (now (out .entry)))) 32 (sha256 (now (message .entry))) (now (out .entry)) ⌝ }
 {
-    hash_c::sha256(message, out)
+    put_digest(sha256::digest(message), out)
 }
 
 // RFC 2104: the HMAC-SHA-256 of a message under a key, 32 bytes.
@@ -58,7 +66,7 @@ pub extern "C" fn kv_hmac_sha256(key: &[u8], message: &[u8], out: &mut [u8]) -> 
     ensures answer { λ r. ⌜ r ≡ outcomeOf (answerTo (check6 32 (length (now (out .entry)))) 32) ⌝ }
     ensures buffer { λ _. ⌜ now (out .exit) ≡ bufferAfter (check6 32 (length (now (out .entry)))) 32 (hmacSha256 (now (key .entry)) (now (message .entry))) (now (out .entry)) ⌝ }
 {
-    hash_c::hmac_sha256(key, message, out)
+    put_digest(hmac::mac(key, message), out)
 }
 
 // ---- usage keys, the keys of the visited domain, the keys of a domain, the keys of EAP-AKA', key names
@@ -75,7 +83,7 @@ pub extern "C" fn kv_usage_key<'a>(
     ensures answer { λ r. ⌜ r ≡ outcomeOf (requestAnswer (now (emsk .entry)) (forUsage (now (label .entry)) (now («data» .entry)) n (length (now (out .entry))))) ⌝ }
     ensures buffer { λ _. ⌜ now (out .exit) ≡ requestBuffer (now (emsk .entry)) (forUsage (now (label .entry)) (now («data» .entry)) n (length (now (out .entry)))) (now (out .entry)) ⌝ }
 {
-    keys_c::usage_key(emsk, label, data, n, out)
+    outcome::returned(usage::usage_key(emsk, label, data, n as usize, out))
 }
 
 // Source document 001: the VRK under an EMSK, 64 bytes.
@@ -84,7 +92,7 @@ pub extern "C" fn kv_visited_root_key(emsk: &[u8], out: &mut [u8]) -> Outcome
     ensures answer { λ r. ⌜ r ≡ outcomeOf (requestAnswer (now (emsk .entry)) (forVrk (length (now (out .entry))))) ⌝ }
     ensures buffer { λ _. ⌜ now (out .exit) ≡ requestBuffer (now (emsk .entry)) (forVrk (length (now (out .entry)))) (now (out .entry)) ⌝ }
 {
-    visited_c::visited_root_key(emsk, out)
+    outcome::returned(visited::visited_root_key(emsk, out))
 }
 
 // Source document 001: the VMSK of a server and a domain under a VRK, 64 bytes.
@@ -98,7 +106,7 @@ pub extern "C" fn kv_visited_master_key<'a>(
     ensures answer { λ r. ⌜ r ≡ outcomeOf (answerTo (vmskCheck (now (vrk .entry)) (now («server_id» .entry)) (now (domain .entry)) (length (now (out .entry)))) 64) ⌝ }
     ensures buffer { λ _. ⌜ now (out .exit) ≡ bufferAfter (vmskCheck (now (vrk .entry)) (now («server_id» .entry)) (now (domain .entry)) (length (now (out .entry)))) 64 (vmskKey (now (vrk .entry)) (now («server_id» .entry)) (now (domain .entry))) (now (out .entry)) ⌝ }
 {
-    visited_c::visited_master_key(vrk, server_id, domain, out)
+    outcome::returned(visited::visited_master_key(vrk, server_id, domain, out))
 }
 
 // Source document 001: the V-rRK under a VMSK, 64 bytes.
@@ -107,7 +115,7 @@ pub extern "C" fn kv_visited_reauth_key(vmsk: &[u8], out: &mut [u8]) -> Outcome
     ensures answer { λ r. ⌜ r ≡ outcomeOf (answerTo (reauthCheck (now (vmsk .entry)) (length (now (out .entry)))) 64) ⌝ }
     ensures buffer { λ _. ⌜ now (out .exit) ≡ bufferAfter (reauthCheck (now (vmsk .entry)) (length (now (out .entry)))) 64 (reauthKey (now (vmsk .entry))) (now (out .entry)) ⌝ }
 {
-    visited_c::visited_reauth_key(vmsk, out)
+    outcome::returned(visited::visited_reauth_key(vmsk, out))
 }
 
 // RFC 5295: the root key of a domain under an EMSK, 64 bytes.
@@ -116,7 +124,7 @@ pub extern "C" fn kv_domain_root_key<'a>(emsk: &[u8], domain: &'a [u8], out: &mu
     ensures answer { λ r. ⌜ r ≡ outcomeOf (requestAnswer (now (emsk .entry)) (forDomain (now (domain .entry)) (length (now (out .entry))))) ⌝ }
     ensures buffer { λ _. ⌜ now (out .exit) ≡ requestBuffer (now (emsk .entry)) (forDomain (now (domain .entry)) (length (now (out .entry)))) (now (out .entry)) ⌝ }
 {
-    domain_keys_c::domain_root_key(emsk, domain, out)
+    outcome::returned(domain_keys::domain_root_key(emsk, domain, out))
 }
 
 // RFC 5296: the re-authentication root key under the root key of a domain, 64 bytes.
@@ -125,7 +133,7 @@ pub extern "C" fn kv_domain_reauth_key(dsrk: &[u8], out: &mut [u8]) -> Outcome
     ensures answer { λ r. ⌜ r ≡ outcomeOf (answerTo (rrkCheck (now (dsrk .entry)) (length (now (out .entry)))) 64) ⌝ }
     ensures buffer { λ _. ⌜ now (out .exit) ≡ bufferAfter (rrkCheck (now (dsrk .entry)) (length (now (out .entry)))) 64 (rrkKey (now (dsrk .entry))) (now (out .entry)) ⌝ }
 {
-    domain_keys_c::domain_reauth_key(dsrk, out)
+    outcome::returned(domain_keys::domain_reauth_key(dsrk, out))
 }
 
 // RFC 5448: K_encr, K_aut, K_re, MSK and EMSK of EAP-AKA' from CK and IK, 208 bytes.
@@ -141,7 +149,7 @@ pub extern "C" fn kv_aka_keys<'a>(
     ensures answer { λ r. ⌜ r ≡ outcomeOf (answerTo (akaCheck (now (ck .entry)) (now (ik .entry)) (now (name .entry)) (now («sqn_xor_ak» .entry)) (now (identity .entry)) (length (now (out .entry)))) 208) ⌝ }
     ensures buffer { λ _. ⌜ now (out .exit) ≡ bufferAfter (akaCheck (now (ck .entry)) (now (ik .entry)) (now (name .entry)) (now («sqn_xor_ak» .entry)) (now (identity .entry)) (length (now (out .entry)))) 208 (keyMaterial (now (ck .entry)) (now (ik .entry)) (now (name .entry)) (now («sqn_xor_ak» .entry)) (now (identity .entry))) (now (out .entry)) ⌝ }
 {
-    keys_c::aka_keys(ck, ik, name, sqn_xor_ak, identity, out)
+    outcome::returned(aka_keys::aka_keys(ck, ik, name, sqn_xor_ak, identity, out))
 }
 
 // Source document 001: the name of a Session-ID and a label, 8 bytes.
@@ -150,7 +158,7 @@ pub extern "C" fn kv_key_name(session_id: &[u8], label: &[u8], out: &mut [u8]) -
     ensures answer { λ r. ⌜ r ≡ outcomeOf (answerTo (nameCheck (now («session_id» .entry)) (now (label .entry)) (length (now (out .entry)))) 8) ⌝ }
     ensures buffer { λ _. ⌜ now (out .exit) ≡ bufferAfter (nameCheck (now («session_id» .entry)) (now (label .entry)) (length (now (out .entry)))) 8 (nameOf (now («session_id» .entry)) (now (label .entry))) (now (out .entry)) ⌝ }
 {
-    keys_c::key_name(session_id, label, out)
+    outcome::returned(key_name::key_name(session_id, label, out))
 }
 
 // ---- the keys of a handover
@@ -161,7 +169,7 @@ pub extern "C" fn kv_r0_key(rrk: &[u8], ad_id: &[u8], spa: &[u8], out: &mut [u8]
     ensures answer { λ r. ⌜ r ≡ outcomeOf (answerTo (r0Check (now (rrk .entry)) (now («ad_id» .entry)) (now (spa .entry)) (length (now (out .entry)))) 32) ⌝ }
     ensures buffer { λ _. ⌜ now (out .exit) ≡ bufferAfter (r0Check (now (rrk .entry)) (now («ad_id» .entry)) (now (spa .entry)) (length (now (out .entry)))) 32 (r0Key (now (rrk .entry)) (now («ad_id» .entry)) (now (spa .entry))) (now (out .entry)) ⌝ }
 {
-    handover_c::r0_key(rrk, ad_id, spa, out)
+    outcome::returned(handover::r0_key(rrk, ad_id, spa, out))
 }
 
 // Source document 003: the R1-Key of an access node and a handheld under an R0-Key, 32 bytes.
@@ -176,7 +184,7 @@ pub extern "C" fn kv_r1_key(
     ensures answer { λ r. ⌜ r ≡ outcomeOf (answerTo (r1Check (now («r0_key» .entry)) (now («ad_id» .entry)) (now («an_id» .entry)) (now (spa .entry)) (length (now (out .entry)))) 32) ⌝ }
     ensures buffer { λ _. ⌜ now (out .exit) ≡ bufferAfter (r1Check (now («r0_key» .entry)) (now («ad_id» .entry)) (now («an_id» .entry)) (now (spa .entry)) (length (now (out .entry)))) 32 (r1Key (now («r0_key» .entry)) (now («ad_id» .entry)) (now («an_id» .entry)) (now (spa .entry))) (now (out .entry)) ⌝ }
 {
-    handover_c::r1_key(r0_key, ad_id, an_id, spa, out)
+    outcome::returned(handover::r1_key(r0_key, ad_id, an_id, spa, out))
 }
 
 // Source document 003: the R0Name of an R0-Key, 16 bytes.
@@ -190,7 +198,7 @@ pub extern "C" fn kv_r0_name<'a>(
     ensures answer { λ r. ⌜ r ≡ outcomeOf (answerTo (r0NameCheck (now («r0_key» .entry)) (now («ad_id» .entry)) (now (spa .entry)) (length (now (out .entry)))) 16) ⌝ }
     ensures buffer { λ _. ⌜ now (out .exit) ≡ bufferAfter (r0NameCheck (now («r0_key» .entry)) (now («ad_id» .entry)) (now (spa .entry)) (length (now (out .entry)))) 16 (r0Name (now («r0_key» .entry)) (now («ad_id» .entry)) (now (spa .entry))) (now (out .entry)) ⌝ }
 {
-    handover_c::r0_name(r0_key, ad_id, spa, out)
+    outcome::returned(handover::r0_name(r0_key, ad_id, spa, out))
 }
 
 // ---- AT_KDF offers
@@ -200,7 +208,7 @@ pub extern "C" fn kv_r0_name<'a>(
 pub extern "C" fn kv_choose_offer(offers: &[u16], supported: &[u16]) -> FirstRoundOutcome
     ensures { λ r. ⌜ r ≡ firstRoundOutcome (firstRound (now (offers .entry)) (now (supported .entry))) ⌝ }
 {
-    offers_c::choose_offer(offers, supported)
+    outcome::offers::first_round(offer_peer::choose(offers, supported))
 }
 
 // RFC 5448, section 3.2: the server, on the peer's reply.
@@ -209,7 +217,7 @@ pub extern "C" fn kv_answer_offer(offers: &[u16], reply: u16, out: &mut [u16]) -
     ensures answer { λ r. ⌜ r ≡ outcomeOf (serverAnswer (now (offers .entry)) reply (now (out .entry))) ⌝ }
     ensures buffer { λ _. ⌜ now (out .exit) ≡ serverBuffer (now (offers .entry)) reply (now (out .entry)) ⌝ }
 {
-    offers_c::answer_offer(offers, reply, out)
+    outcome::returned(offer_server::answer(offers, reply, out))
 }
 
 // RFC 5448, section 3.2: the peer, on the renewed list.
@@ -217,7 +225,7 @@ pub extern "C" fn kv_answer_offer(offers: &[u16], reply: u16, out: &mut [u16]) -
 pub extern "C" fn kv_check_renewed(original: &[u16], choice: u16, renewed: &[u16]) -> Outcome
     ensures { λ r. ⌜ r ≡ renewedOutcome (renewedAnswer (now (original .entry)) choice (now (renewed .entry))) ⌝ }
 {
-    offers_c::check_renewed(original, choice, renewed)
+    outcome::offers::renewed(offer_peer::recheck(original, choice, renewed))
 }
 
 // ---- the attribute area
@@ -228,7 +236,7 @@ pub extern "C" fn kv_read_area(area: &[u8], own_name: &[u8], out: &mut [u16]) ->
     ensures answer { λ r. ⌜ r ≡ areaOutcome (areaAnswer Strict (now (area .entry)) (now («own_name» .entry)) (length (now (out .entry)))) ⌝ }
     ensures buffer { λ _. ⌜ now (out .exit) ≡ areaBuffer Strict (now (area .entry)) (now («own_name» .entry)) (now (out .entry)) ⌝ }
 {
-    area_c::read_area(area, own_name, Way::Strict, out)
+    outcome::areas::returned(area::read_area(area, own_name, Way::Strict, out))
 }
 
 // The same, by the lenient way: a name that differs is reported.
@@ -237,7 +245,7 @@ pub extern "C" fn kv_read_area_lenient(area: &[u8], own_name: &[u8], out: &mut [
     ensures answer { λ r. ⌜ r ≡ areaOutcome (areaAnswer Lenient (now (area .entry)) (now («own_name» .entry)) (length (now (out .entry)))) ⌝ }
     ensures buffer { λ _. ⌜ now (out .exit) ≡ areaBuffer Lenient (now (area .entry)) (now («own_name» .entry)) (now (out .entry)) ⌝ }
 {
-    area_c::read_area(area, own_name, Way::Lenient, out)
+    outcome::areas::returned(area::read_area(area, own_name, Way::Lenient, out))
 }
 
 // ---- Key attributes
@@ -257,7 +265,7 @@ pub extern "C" fn kv_write_key_attribute(
     ensures answer { λ r. ⌜ r ≡ outcomeOf (writeAnswer (fieldsOf «attribute_type» «app_id» (now («kek_id» .entry)) (now («key_id» .entry)) lifetime) (now (kek .entry)) (now (key .entry)) (length (now (out .entry)))) ⌝ }
     ensures buffer { λ _. ⌜ now (out .exit) ≡ writeBuffer (fieldsOf «attribute_type» «app_id» (now («kek_id» .entry)) (now («key_id» .entry)) lifetime) (now (kek .entry)) (now (key .entry)) (now (out .entry)) ⌝ }
 {
-    key_attribute_c::write_key_attribute(
+    outcome::returned(key_writer::write(
         attribute_type,
         app_id,
         kek_id,
@@ -266,7 +274,7 @@ pub extern "C" fn kv_write_key_attribute(
         kek,
         key,
         out,
-    )
+    ))
 }
 
 // Source document 004, section 3.1: the fields and the key of a Key attribute.
@@ -279,7 +287,7 @@ pub extern "C" fn kv_read_key_attribute(
     ensures answer { λ r. ⌜ r ≡ keyOutcome (reading (now (kek .entry)) (now (attribute .entry)) (length (now (out .entry)))) ⌝ }
     ensures buffer { λ _. ⌜ now (out .exit) ≡ readBuffer (now (kek .entry)) (now (attribute .entry)) (now (out .entry)) ⌝ }
 {
-    key_attribute_c::read_key_attribute(kek, attribute, out)
+    outcome::key_attributes::returned(key_reader::read(kek, attribute, out))
 }
 
 // ---- RADIUS packets
@@ -290,7 +298,7 @@ pub extern "C" fn kv_sign_packet(mac_key: &[u8], attribute_type: u8, packet: &mu
     ensures answer { λ r. ⌜ r ≡ outcomeOf (signAnswer (now («mac_key» .entry)) «attribute_type» (now (packet .entry))) ⌝ }
     ensures buffer { λ _. ⌜ now (packet .exit) ≡ signBuffer hmacSha256 (now («mac_key» .entry)) «attribute_type» (now (packet .entry)) ⌝ }
 {
-    packet_c::sign_packet(mac_key, attribute_type, packet)
+    outcome::returned(packet_mac::sign(mac_key, attribute_type, packet))
 }
 
 // Source document 004, section 3.3: the MAC in a packet's attribute of the type is checked; 0.
@@ -298,7 +306,7 @@ pub extern "C" fn kv_sign_packet(mac_key: &[u8], attribute_type: u8, packet: &mu
 pub extern "C" fn kv_check_packet(mac_key: &[u8], attribute_type: u8, packet: &[u8]) -> Outcome
     ensures { λ r. ⌜ r ≡ checkOutcome (checkCheck hmacSha256 (now («mac_key» .entry)) «attribute_type» (now (packet .entry))) ⌝ }
 {
-    packet_c::check_packet(mac_key, attribute_type, packet)
+    outcome::checked(packet_mac::check(mac_key, attribute_type, packet))
 }
 
 // ---- bundles of Key attributes
@@ -309,7 +317,7 @@ pub extern "C" fn kv_write_bundle(attributes: &[u8], out: &mut [u8]) -> Outcome
     ensures answer { λ r. ⌜ r ≡ outcomeOf (Bundle.writeAnswer (now (attributes .entry)) (length (now (out .entry)))) ⌝ }
     ensures buffer { λ _. ⌜ now (out .exit) ≡ Bundle.writeBuffer (now (attributes .entry)) (now (out .entry)) ⌝ }
 {
-    bundle_c::write_bundle(attributes, out)
+    outcome::returned(bundle_writer::write(attributes, out))
 }
 
 // Document 02, request 9: the Key attributes of a file, packed end to end.
@@ -318,7 +326,7 @@ pub extern "C" fn kv_read_bundle(file: &[u8], out: &mut [u8]) -> Outcome
     ensures answer { λ r. ⌜ r ≡ outcomeOf (Bundle.readAnswer (now (file .entry)) (length (now (out .entry)))) ⌝ }
     ensures buffer { λ _. ⌜ now (out .exit) ≡ Bundle.readBuffer (now (file .entry)) (now (out .entry)) ⌝ }
 {
-    bundle_c::read_bundle(file, out)
+    outcome::returned(bundle_reader::read(file, out))
 }
 
 // Document 02, request 10: what changed between two bundles.
@@ -327,7 +335,7 @@ pub extern "C" fn kv_compare_bundles(first: &[u8], second: &[u8], out: &mut [u8]
     ensures answer { λ r. ⌜ r ≡ comparisonOutcome (compareAnswer (now (first .entry)) (now (second .entry)) (length (now (out .entry)))) (compareCounts (now (first .entry)) (now (second .entry)) (length (now (out .entry)))) ⌝ }
     ensures buffer { λ _. ⌜ now (out .exit) ≡ compareBuffer (now (first .entry)) (now (second .entry)) (now (out .entry)) ⌝ }
 {
-    compare_c::compare_bundles(first, second, out)
+    outcome::comparisons::returned(bundle_compare::compare_bundles(first, second, out))
 }
 
 // ---- slots
@@ -338,7 +346,9 @@ pub extern "C" fn kv_put_slot(slots: Slots, name: Name, parent: u64) -> SlotsOut
     ensures stored { λ r. ⌜ r ≡ slotsOutcome (outcomeOf (putAnswer (tableOf slots) (parentFor parent))) (putStored slots name (parentFor parent)) ⌝ }
     ensures table { λ r. ⌜ tableOf (r .slots) ≡ putTable (tableOf slots) name (parentFor parent) ⌝ }
 {
-    slots_c::put_slot(slots, name, parent)
+    let put = slots::put_key(slots, outcome::slot_tables::parent_for(parent));
+    let said = put.answer;
+    outcome::slot_tables::returned(said, slots::after_put(slots, put, name))
 }
 
 // Document 02, requests 12 and 13: a slot and all that descend from it are freed.
@@ -347,7 +357,11 @@ pub extern "C" fn kv_drop_slot(slots: Slots, number: u64) -> SlotsOutcome
     ensures stored { λ r. ⌜ r ≡ slotsOutcome (outcomeOf (dropAnswer (tableOf slots) number)) (dropStored slots number) ⌝ }
     ensures table { λ r. ⌜ tableOf (r .slots) ≡ dropTable (tableOf slots) number ⌝ }
 {
-    slots_c::drop_slot(slots, number)
+    let dropped = slots::drop_key(slots, number);
+    let said = dropped.answer;
+    let mut next = slots;
+    next.taken = dropped.taken;
+    outcome::slot_tables::returned(said, next)
 }
 
 // Document 02, request 12: the live slots are counted.
@@ -355,5 +369,5 @@ pub extern "C" fn kv_drop_slot(slots: Slots, number: u64) -> SlotsOutcome
 pub extern "C" fn kv_live_slots(slots: Slots) -> u32
     ensures { λ r. ⌜ r ≡ liveCount (tableOf slots) ⌝ }
 {
-    slots_c::live_slots(slots)
+    slots::live(slots)
 }
