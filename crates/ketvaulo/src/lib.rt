@@ -8,10 +8,10 @@ ghost use Rattle.sha256_block.specs.Fips180.{sha256};
 ghost use Rattle.hmac.specs.Rfc2104.{hmacSha256};
 ghost use Rattle.outcome.specs.Outcomes.{outcomeOf, checkOutcome};
 ghost use Rattle.requests.specs.Requests.{forUsage, forVrk, forDomain, requestAnswer, requestBuffer};
-ghost use Rattle.visited.specs.Visited.{vmskCheck, vmskKey, reauthCheck, reauthKey};
-ghost use Rattle.domain_keys.specs.Rfc5296.{rrkCheck, rrkKey};
-ghost use Rattle.aka_keys.specs.Rfc5448.{akaCheck, keyMaterial};
-ghost use Rattle.key_name.specs.Ndf64.{nameCheck, nameOf};
+ghost use Rattle.visited.specs.Visited.{vmskAnswer, vmskBuffer, reauthAnswer, reauthBuffer};
+ghost use Rattle.domain_keys.specs.Rfc5296.{rrkAnswer, rrkBuffer};
+ghost use Rattle.aka_keys.specs.Rfc5448.{akaAnswer, akaBuffer};
+ghost use Rattle.key_name.specs.Ndf64.{nameAnswer, nameBuffer};
 ghost use Rattle.handover_rules.specs.Handover.{r0Check, r1Check, r0NameCheck, r0Key, r1Key, r0Name};
 ghost use Rattle.offer_peer.specs.Answers.{firstRound, serverAnswer, serverBuffer, renewedAnswer};
 ghost use Rattle.outcome.specs.Offers.{firstRoundOutcome, renewedOutcome};
@@ -103,8 +103,8 @@ pub extern "C" fn kv_visited_master_key<'a>(
     domain: &'a [u8],
     out: &mut [u8],
 ) -> Outcome
-    ensures answer { λ r. ⌜ r ≡ outcomeOf (answerTo (vmskCheck (now (vrk .entry)) (now («server_id» .entry)) (now (domain .entry)) (length (now (out .entry)))) 64) ⌝ }
-    ensures buffer { λ _. ⌜ now (out .exit) ≡ bufferAfter (vmskCheck (now (vrk .entry)) (now («server_id» .entry)) (now (domain .entry)) (length (now (out .entry)))) 64 (vmskKey (now (vrk .entry)) (now («server_id» .entry)) (now (domain .entry))) (now (out .entry)) ⌝ }
+    ensures answer { λ r. ⌜ r ≡ outcomeOf (vmskAnswer (now (vrk .entry)) (now («server_id» .entry)) (now (domain .entry)) (length (now (out .entry)))) ⌝ }
+    ensures buffer { λ _. ⌜ now (out .exit) ≡ vmskBuffer (now (vrk .entry)) (now («server_id» .entry)) (now (domain .entry)) (now (out .entry)) ⌝ }
 {
     outcome::returned(visited::visited_master_key(vrk, server_id, domain, out))
 }
@@ -112,8 +112,8 @@ pub extern "C" fn kv_visited_master_key<'a>(
 // Source document 001: the V-rRK under a VMSK, 64 bytes.
 #[no_mangle]
 pub extern "C" fn kv_visited_reauth_key(vmsk: &[u8], out: &mut [u8]) -> Outcome
-    ensures answer { λ r. ⌜ r ≡ outcomeOf (answerTo (reauthCheck (now (vmsk .entry)) (length (now (out .entry)))) 64) ⌝ }
-    ensures buffer { λ _. ⌜ now (out .exit) ≡ bufferAfter (reauthCheck (now (vmsk .entry)) (length (now (out .entry)))) 64 (reauthKey (now (vmsk .entry))) (now (out .entry)) ⌝ }
+    ensures answer { λ r. ⌜ r ≡ outcomeOf (reauthAnswer (now (vmsk .entry)) (length (now (out .entry)))) ⌝ }
+    ensures buffer { λ _. ⌜ now (out .exit) ≡ reauthBuffer (now (vmsk .entry)) (now (out .entry)) ⌝ }
 {
     outcome::returned(visited::visited_reauth_key(vmsk, out))
 }
@@ -130,8 +130,8 @@ pub extern "C" fn kv_domain_root_key<'a>(emsk: &[u8], domain: &'a [u8], out: &mu
 // RFC 5296: the re-authentication root key under the root key of a domain, 64 bytes.
 #[no_mangle]
 pub extern "C" fn kv_domain_reauth_key(dsrk: &[u8], out: &mut [u8]) -> Outcome
-    ensures answer { λ r. ⌜ r ≡ outcomeOf (answerTo (rrkCheck (now (dsrk .entry)) (length (now (out .entry)))) 64) ⌝ }
-    ensures buffer { λ _. ⌜ now (out .exit) ≡ bufferAfter (rrkCheck (now (dsrk .entry)) (length (now (out .entry)))) 64 (rrkKey (now (dsrk .entry))) (now (out .entry)) ⌝ }
+    ensures answer { λ r. ⌜ r ≡ outcomeOf (rrkAnswer (now (dsrk .entry)) (length (now (out .entry)))) ⌝ }
+    ensures buffer { λ _. ⌜ now (out .exit) ≡ rrkBuffer (now (dsrk .entry)) (now (out .entry)) ⌝ }
 {
     outcome::returned(domain_keys::domain_reauth_key(dsrk, out))
 }
@@ -146,8 +146,8 @@ pub extern "C" fn kv_aka_keys<'a>(
     identity: &'a [u8],
     out: &mut [u8],
 ) -> Outcome
-    ensures answer { λ r. ⌜ r ≡ outcomeOf (answerTo (akaCheck (now (ck .entry)) (now (ik .entry)) (now (name .entry)) (now («sqn_xor_ak» .entry)) (now (identity .entry)) (length (now (out .entry)))) 208) ⌝ }
-    ensures buffer { λ _. ⌜ now (out .exit) ≡ bufferAfter (akaCheck (now (ck .entry)) (now (ik .entry)) (now (name .entry)) (now («sqn_xor_ak» .entry)) (now (identity .entry)) (length (now (out .entry)))) 208 (keyMaterial (now (ck .entry)) (now (ik .entry)) (now (name .entry)) (now («sqn_xor_ak» .entry)) (now (identity .entry))) (now (out .entry)) ⌝ }
+    ensures answer { λ r. ⌜ r ≡ outcomeOf (akaAnswer (now (ck .entry)) (now (ik .entry)) (now (name .entry)) (now («sqn_xor_ak» .entry)) (now (identity .entry)) (length (now (out .entry)))) ⌝ }
+    ensures buffer { λ _. ⌜ now (out .exit) ≡ akaBuffer (now (ck .entry)) (now (ik .entry)) (now (name .entry)) (now («sqn_xor_ak» .entry)) (now (identity .entry)) (now (out .entry)) ⌝ }
 {
     outcome::returned(aka_keys::aka_keys(ck, ik, name, sqn_xor_ak, identity, out))
 }
@@ -155,8 +155,8 @@ pub extern "C" fn kv_aka_keys<'a>(
 // Source document 001: the name of a Session-ID and a label, 8 bytes.
 #[no_mangle]
 pub extern "C" fn kv_key_name(session_id: &[u8], label: &[u8], out: &mut [u8]) -> Outcome
-    ensures answer { λ r. ⌜ r ≡ outcomeOf (answerTo (nameCheck (now («session_id» .entry)) (now (label .entry)) (length (now (out .entry)))) 8) ⌝ }
-    ensures buffer { λ _. ⌜ now (out .exit) ≡ bufferAfter (nameCheck (now («session_id» .entry)) (now (label .entry)) (length (now (out .entry)))) 8 (nameOf (now («session_id» .entry)) (now (label .entry))) (now (out .entry)) ⌝ }
+    ensures answer { λ r. ⌜ r ≡ outcomeOf (nameAnswer (now («session_id» .entry)) (now (label .entry)) (length (now (out .entry)))) ⌝ }
+    ensures buffer { λ _. ⌜ now (out .exit) ≡ nameBuffer (now («session_id» .entry)) (now (label .entry)) (now (out .entry)) ⌝ }
 {
     outcome::returned(key_name::key_name(session_id, label, out))
 }

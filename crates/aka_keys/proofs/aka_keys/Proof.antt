@@ -5,7 +5,7 @@ use denote.Ref.{now}
 use lib.ListN.{length}
 use Rattle.refusal.specs.Answers.{checkedAs}
 use Rattle.refusal.proofs.Answering.{passed, refused-so, answer-by}
-use Rattle.aka_keys.specs.Rfc5448.{akaCheck}
+use Rattle.aka_keys.specs.Rfc5448.{akaCheck, akaAnswer, akaBuffer}
 use Rattle.aka_keys.proofs.Deriving.{all-checks, key-lengths, tests-again, material-buffer}
 use borrow.Author.Needs.{needs}
 use Rattle.aka_keys.proofs.aka_keys.Statement.{statement}
@@ -47,12 +47,14 @@ expanded-requires : tie.Need-expanded-requires
 expanded-requires c κs = search needs
 
 returns : tie.Need-returns
+unfolding akaAnswer akaBuffer
 returns c = refused-so _ _ _ (all-tests (c .before .before .before)) (c .before .check .given .1)
 
 same-length : tie.Need-same-length
 same-length c = search needs
 
 returns-2 : tie.Need-returns-2
+unfolding akaAnswer akaBuffer
 returns-2 c =
     let e = c .before .before in
     let key = c .before .before .before .before .before .before in

@@ -7,7 +7,7 @@ use lib.ListN.{length}
 use Rattle.refusal.proofs.Answering.{answer-by, buffer-by}
 use Rattle.fixed_labels.specs.FixedLabels.{rrkLabel}
 use Rattle.requests.proofs.Rooms.{then-room}
-use Rattle.domain_keys.specs.Rfc5296.{rrkText, rrkCheck, rrkKey}
+use Rattle.domain_keys.specs.Rfc5296.{rrkText, rrkCheck, rrkKey, rrkAnswer, rrkBuffer}
 use Rattle.domain_keys.proofs.domain_reauth_key.Statement.{statement}
 use Rattle.domain_keys.proofs.domain_reauth_key.Tie as tie
 
@@ -30,7 +30,7 @@ same-length : tie.Need-same-length
 same-length c = search needs
 
 returns : tie.Need-returns
-unfolding rrkCheck rrkKey rrkText rrkLabel
+unfolding rrkAnswer rrkBuffer rrkCheck rrkKey rrkText rrkLabel
 returns c =
     let e = c .before .before in
     let k = e .before .before .before .before .before .before .before in

@@ -4,6 +4,7 @@ use mathlib.Core.Path.{refl, sym, ap, _∙_}
 use borrow.Author.Needs.{needs}
 use denote.Ref.{now}
 use Rattle.refusal.specs.Answers.{checkedAs}
+use Rattle.key_name.specs.Ndf64.{nameAnswer, nameBuffer}
 use Rattle.key_name.proofs.Names.{name-size, refused-first, name-put}
 use Rattle.key_name.proofs.key_name.Statement.{statement}
 use Rattle.key_name.proofs.key_name.Tie as tie
@@ -30,6 +31,7 @@ put-requires : tie.Need-put-requires
 put-requires c κs = tt
 
 returns : tie.Need-returns
+unfolding nameAnswer nameBuffer
 returns c =
     let k = c .before .before .before in
     let s = k .before .before .before .before .args in
@@ -39,6 +41,7 @@ same-length : tie.Need-same-length
 same-length c = search needs
 
 returns-2 : tie.Need-returns-2
+unfolding nameAnswer nameBuffer
 returns-2 c =
     let p = c .before .before in
     let h = p .before .before .before in

@@ -5,7 +5,7 @@ use borrow.Author.Needs.{needs}
 use denote.Ref.{now}
 use lib.ListN.{length}
 use Rattle.refusal.proofs.Answering.{answer-by}
-use Rattle.visited.specs.Visited.{vmskCheck}
+use Rattle.visited.specs.Visited.{vmskCheck, vmskAnswer, vmskBuffer}
 use Rattle.requests.proofs.Rooms.{then-room}
 use Rattle.visited.proofs.Tests.{master-buffer}
 use Rattle.visited.proofs.visited_master_key.Statement.{statement}
@@ -27,7 +27,7 @@ same-length : tie.Need-same-length
 same-length c = search needs
 
 returns : tie.Need-returns
-unfolding vmskCheck
+unfolding vmskCheck vmskAnswer vmskBuffer
 returns c =
     let e = c .before .before in
     let k = e .before .before .before .before in

@@ -6,7 +6,7 @@ use denote.Ref.{now}
 use lib.ListN.{length}
 use Rattle.refusal.proofs.Answering.{answer-by, buffer-by}
 use Rattle.fixed_labels.specs.FixedLabels.{visitedReauthLabel}
-use Rattle.visited.specs.Visited.{reauthText, reauthCheck, reauthKey}
+use Rattle.visited.specs.Visited.{reauthText, reauthCheck, reauthKey, reauthAnswer, reauthBuffer}
 use Rattle.requests.proofs.Rooms.{then-room}
 use Rattle.visited.proofs.visited_reauth_key.Statement.{statement}
 use Rattle.visited.proofs.visited_reauth_key.Tie as tie
@@ -30,7 +30,7 @@ same-length : tie.Need-same-length
 same-length c = search needs
 
 returns : tie.Need-returns
-unfolding reauthCheck reauthKey reauthText visitedReauthLabel
+unfolding reauthAnswer reauthBuffer reauthCheck reauthKey reauthText visitedReauthLabel
 returns c =
     let e = c .before .before in
     let k = e .before .before .before .before .before .before .before in
