@@ -15,9 +15,15 @@ pub extern "C" fn kv_put_slot(slots: Slots, name: Name, parent: u64) -> SlotsOut
     ensures stored { λ r. ⌜ r ≡ slotsOutcome (outcomeOf (putAnswer (tableOf slots) (parentFor parent))) (putStored slots name (parentFor parent)) ⌝ }
     ensures table { λ r. ⌜ tableOf (r .slots) ≡ putTable (tableOf slots) name (parentFor parent) ⌝ }
 {
-    let put = slots::put_key(slots, outcome::slot_tables::parent_for(parent));
+    let put = slots::put(slots, name, outcome::slot_tables::parent_for(parent));
     let said = put.answer;
-    outcome::slot_tables::returned(said, slots::after_put(slots, put, name))
+    let answer = outcome::slot_tables::returned(said);
+    let next = put.slots;
+    SlotsOutcome {
+        refusal: answer.refusal,
+        value: answer.value,
+        slots: next,
+    }
 }
 
 // Document 02, requests 12 and 13: a slot and all that descend from it are freed.
@@ -26,11 +32,15 @@ pub extern "C" fn kv_drop_slot(slots: Slots, number: u64) -> SlotsOutcome
     ensures stored { λ r. ⌜ r ≡ slotsOutcome (outcomeOf (dropAnswer (tableOf slots) number)) (dropStored slots number) ⌝ }
     ensures table { λ r. ⌜ tableOf (r .slots) ≡ dropTable (tableOf slots) number ⌝ }
 {
-    let dropped = slots::drop_key(slots, number);
+    let dropped = slots::drop(slots, number);
     let said = dropped.answer;
-    let mut next = slots;
-    next.taken = dropped.taken;
-    outcome::slot_tables::returned(said, next)
+    let answer = outcome::slot_tables::returned(said);
+    let left = dropped.slots;
+    SlotsOutcome {
+        refusal: answer.refusal,
+        value: answer.value,
+        slots: left,
+    }
 }
 
 // Document 02, request 12: the live slots are counted.

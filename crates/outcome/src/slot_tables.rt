@@ -2,7 +2,7 @@
 ghost use mathlib.Core.Path.{_≡_};
 ghost use Rattle.slots.specs.Answers.{answerOf};
 ghost use Rattle.outcome.specs.Outcomes.{outcomeOf};
-ghost use Rattle.outcome.specs.SlotTables.{parentFor, slotsOutcome};
+ghost use Rattle.outcome.specs.SlotTables.{parentFor};
 use crate::Outcome;
 use slot_rules::Parent;
 use slot_rules::Slots;
@@ -17,7 +17,7 @@ pub struct SlotsOutcome {
 }
 
 // The answer of a call on slots, for C.
-fn said(answer: SlotAnswer) -> Outcome
+pub fn returned(answer: SlotAnswer) -> Outcome
     ensures { λ r. ⌜ r ≡ outcomeOf (answerOf answer) ⌝ }
 {
     match answer {
@@ -37,17 +37,5 @@ pub fn parent_for(number: u64) -> Parent
         Parent::Root
     } else {
         Parent::Below(number)
-    }
-}
-
-// The answer, and the slots after the call, for C.
-pub fn returned(answer: SlotAnswer, slots: Slots) -> SlotsOutcome
-    ensures { λ r. ⌜ r ≡ slotsOutcome (outcomeOf (answerOf answer)) slots ⌝ }
-{
-    let outcome = said(answer);
-    SlotsOutcome {
-        refusal: outcome.refusal,
-        value: outcome.value,
-        slots,
     }
 }

@@ -7,8 +7,7 @@ use Rattle.slot_rules.proofs.Digits.{length-mapped}
 use lib.Dec.{ltb}
 use Rattle.refusal.specs.Checks.{bare, unless, _andThen_}
 use Rattle.slot_rules.specs.Calls.{putCheck}
-use Rattle.slot_rules.proofs.Rows.{Fits}
-use Rattle.slot_rules.proofs.Stored.{full}
+use Rattle.slot_rules.proofs.Stored.{Fits, full}
 use Rattle.slots.proofs.check_put.Statement.{statement}
 use Rattle.slots.proofs.check_put.Tie as tie
 
