@@ -1,4 +1,4 @@
--- `sha256_value::of_block` meets its contract: one block compressed.
+-- `sha256::value::of_block` meets its contract: one block compressed.
 -- Assumes nothing.
 use Prim.Native.Nat.{_/_}
 use mathlib.Core.Path.{_≡_, _∙_}
@@ -6,8 +6,8 @@ use lib.ListN.{length}
 use Rattle.sha256_block.specs.Fips180.{H0, compress, blocks}
 use Rattle.fips180.proofs.Blocks.{one-block}
 use borrow.Author.Needs.{needs}
-use Rattle.sha256_value.proofs.of_block.Statement.{statement}
-use Rattle.sha256_value.proofs.of_block.Tie as tie
+use Rattle.sha256.proofs.value.of_block.Statement.{statement}
+use Rattle.sha256.proofs.value.of_block.Tie as tie
 
 slice-aggregate-compress-blocks : tie.Need-slice-aggregate-compress-blocks
 slice-aggregate-compress-blocks c = search needs

@@ -18,7 +18,7 @@ pub const H0: [u32; 8] = [
 ];
 
 // The hash value after the message's whole blocks.
-pub fn of_blocks(message: &[u8]) -> [u32; 8]
+pub(crate) fn of_blocks(message: &[u8]) -> [u32; 8]
     ensures { λ r. ⌜ r ≡ Fips180.blocks (length (now (message .entry)) / 64) Fips180.H0 (now (message .entry)) ⌝ }
 {
     compress_blocks(H0, message)
@@ -32,7 +32,7 @@ pub fn of_block(block: [u8; 64]) -> [u32; 8]
 }
 
 // The digest, from the last hash value (6.2.2).
-pub fn to_bytes(h: [u32; 8]) -> [u8; 32]
+pub(crate) fn to_bytes(h: [u32; 8]) -> [u8; 32]
     ensures { λ r. ⌜ r ≡ Fips180.digest h ⌝ }
 {
     let mut r: [u8; 32] = [0; 32];

@@ -1,9 +1,9 @@
--- `sha256_value::of_blocks` meets its contract: its table is the first hash value.
+-- `sha256::value::of_blocks` meets its contract: its table is the first hash value.
 -- Assumes nothing.
 use Rattle.sha256_block.specs.Fips180.{H0}
 use borrow.Author.Needs.{needs}
-use Rattle.sha256_value.proofs.of_blocks.Statement.{statement}
-use Rattle.sha256_value.proofs.of_blocks.Tie as tie
+use Rattle.sha256.proofs.value.of_blocks.Statement.{statement}
+use Rattle.sha256.proofs.value.of_blocks.Tie as tie
 
 compress-blocks-requires : tie.Need-compress-blocks-requires
 compress-blocks-requires c κs = search needs

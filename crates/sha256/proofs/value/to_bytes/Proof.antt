@@ -1,13 +1,13 @@
--- `sha256_value::to_bytes` meets its contract. The loop's invariant: the first j words are written (proofs/Digests.antt, `next-word`).
+-- `sha256::value::to_bytes` meets its contract. The loop's invariant: the first j words are written (proofs/Digests.antt, `next-word`).
 -- Assumes nothing.
 use mathlib.Core.Path.{_≡_, refl, sym, ap, _∙_}
 use Prim.Native.Nat.{ℕ, _+_, _-_, _*_, _≤_}
 use native.Mathlib.Omega.{arith}
 use borrow.Author.Needs.{needs}
 use lib.ListN.{length, length-take, length-drop}
-use Rattle.sha256_value.proofs.Digests.{written, written-length, next-word, none-written, all-written}
-use Rattle.sha256_value.proofs.to_bytes.Statement.{statement}
-use Rattle.sha256_value.proofs.to_bytes.Tie as tie
+use Rattle.sha256.proofs.value.Digests.{written, written-length, next-word, none-written, all-written}
+use Rattle.sha256.proofs.value.to_bytes.Statement.{statement}
+use Rattle.sha256.proofs.value.to_bytes.Tie as tie
 
 abbrev Inv-loop : tie.InvT-loop
 Inv-loop h r₀ j₀ r j = (j ≤ 8) × (length r ≡ 32) × (r ≡ written h j)
