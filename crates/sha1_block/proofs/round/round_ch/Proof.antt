@@ -1,0 +1,36 @@
+-- `sha1_block::round::round_ch` meets its contract.
+-- Assumes nothing.
+use Prim.Native.Nat.{ℕ}
+use mathlib.Core.Path.{_≡_, ap, _∙_}
+use Rattle.fips180.specs.Sha1.{step}
+use Rattle.sha1_block.specs.Variables.{variables, stepBy}
+use borrow.Author.Needs.{needs}
+use Rattle.sha1_block.proofs.round.round_ch.Statement.{statement}
+use Rattle.sha1_block.proofs.round.round_ch.Tie as tie
+
+array-read-ch : tie.Need-array-read-ch
+array-read-ch c = search needs
+
+array-read-ch-2 : tie.Need-array-read-ch-2
+array-read-ch-2 c = search needs
+
+array-read-ch-3 : tie.Need-array-read-ch-3
+array-read-ch-3 c = search needs
+
+ch-requires : tie.Need-ch-requires
+ch-requires c κs = search needs
+
+step-requires : tie.Need-step-requires
+step-requires c κs = search needs
+
+returns : tie.Need-returns
+unfolding variables stepBy
+returns c =
+    let a = c .before .before .args in
+    let stepped : variables (c .step .result) ≡ step (c .before .ch .result) 0x5a827999 (a .w) (variables (a .t1)) = c .step .ensures in
+    stepped ∙ ap (λ (v : ℕ). step v 0x5a827999 (a .w) (variables (a .t1))) (c .before .ch .ensures)
+
+pub round-ch-spec : {M : Type 1} → statement M
+round-ch-spec =
+    tie.close
+    (tie.spec array-read-ch array-read-ch-2 array-read-ch-3 ch-requires step-requires returns)
