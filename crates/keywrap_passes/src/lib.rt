@@ -1,7 +1,7 @@
 // The six passes of the key wrap of RFC 3394 over the blocks of a key, in place, and those of the unwrapping. A, and a block, are held as two columns
 // of the cipher's state, so that the compiler keeps each column as a word and takes no word apart between two steps.
-use aes_keys::expand_key;
-use aes_keys::invert_keys;
+use aes128::expand_key;
+use aes128::invert_keys;
 use keywrap_step::unwrap_step;
 use keywrap_step::wrap_step;
 ghost use mathlib.Core.Path.{_≡_};

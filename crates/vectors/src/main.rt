@@ -250,10 +250,10 @@ fn bytes(s: [[u8; 4]; 4]) -> [u8; 16] {
 // Encrypts a block, and decrypts the result.
 fn cipher(name: &[u8], key: [u8; 16], block: [u8; 16]) {
     let mut schedule = [[[0u8; 4]; 4]; 11];
-    aes_keys::expand_key(columns(key), &mut schedule);
+    aes128::expand_key(columns(key), &mut schedule);
     let hidden = aes128::encrypt(&schedule, columns(block));
     line(name, &bytes(hidden));
-    aes_keys::invert_keys(&mut schedule);
+    aes128::invert_keys(&mut schedule);
     let shown = aes128::decrypt(&schedule, hidden);
     line(name, &bytes(shown));
 }

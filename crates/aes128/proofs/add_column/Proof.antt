@@ -1,7 +1,7 @@
 -- `aes128::add_column` meets its contract.
 -- Assumes nothing.
 use mathlib.Core.Path.{_∙_}
-use Rattle.aes_word.proofs.Words.{added-columns}
+use Rattle.aes128.proofs.columns.Words.{added-columns}
 use borrow.Author.Needs.{needs}
 use Rattle.aes128.proofs.add_column.Statement.{statement}
 use Rattle.aes128.proofs.add_column.Tie as tie
