@@ -8,7 +8,7 @@ use lib.ListN.{length}
 use Rattle.slices.specs.Numbers.{be16}
 use Rattle.refusal.specs.Checks.{Check, bare, unless, _andThen_, check6}
 use Rattle.refusal.specs.Answers.{Answer, answerTo, bufferAfter}
-use Rattle.fixed_labels.specs.FixedLabels.{rrkLabel}
+use Rattle.labels.specs.FixedLabels.{rrkLabel}
 use Rattle.hmac.specs.Rfc2104.{hmacSha256}
 use Rattle.prf_plus.specs.PrfPlus.{prfPlus}
 

@@ -4,7 +4,7 @@ ghost use mathlib.Core.Path.{_≡_};
 ghost use lib.ListN.{length};
 ghost use Rattle.refusal.specs.Checks.{_andThen_, check1};
 ghost use Rattle.refusal.specs.Answers.{checkedAs, answerOf};
-ghost use Rattle.identifiers.specs.Checks.{check8};
+ghost use Rattle.labels.specs.IdentifiersChecks.{check8};
 ghost use Rattle.requests.specs.Requests.{forDomain, requestAnswer, requestBuffer};
 ghost use Rattle.domain_keys.specs.Rfc5296.{rrkAnswer, rrkBuffer};
 use refusal::Checked;
@@ -16,7 +16,7 @@ fn check_inputs(emsk: &[u8], domain: &[u8]) -> Checked
     ensures { λ r. ⌜ checkedAs r ≡ (check1 (now (emsk .entry)) andThen check8 (now (domain .entry))) ⌝ }
 {
     let key = refusal::check_root_key(emsk);
-    let realm = identifiers::check_domain(domain);
+    let realm = labels::check_domain(domain);
     refusal::then_check(key, realm)
 }
 

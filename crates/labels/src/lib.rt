@@ -5,10 +5,19 @@ ghost use lib.ListN.{length};
 ghost use Rattle.labels.specs.Checks.{labelCheck, check32};
 ghost use Rattle.refusal.specs.Answers.{checkedAs};
 ghost use Rattle.refusal.specs.Checks.{within};
-use charset::ByteSet;
-use charset::Form;
-use fixed_labels::is_exempt;
-use label_syntax::is_breach;
+
+mod charset;
+mod fixed;
+mod identifiers;
+mod syntax;
+
+use crate::charset::ByteSet;
+use crate::charset::Form;
+use crate::fixed::is_exempt;
+use crate::syntax::is_breach;
+pub use fixed::check_domain_label;
+pub use identifiers::check_domain;
+pub use identifiers::check_server_id;
 use refusal::Checked;
 use refusal::Refusal;
 
@@ -27,7 +36,7 @@ fn check_syntax(label: &[u8]) -> Checked
 pub fn check_label(label: &[u8]) -> Checked
     ensures { λ r. ⌜ checkedAs r ≡ labelCheck (now (label .entry)) ⌝ }
 {
-    match charset::form_of(label, ByteSet::Label, 255) {
+    match crate::charset::form_of(label, ByteSet::Label, 255) {
         Form::WellFormed => check_syntax(label),
         Form::WrongLength => Checked::Failed(Refusal::LabelLength),
         Form::BadByte(i) => Checked::Failed(Refusal::LabelByte(i)),

@@ -4,7 +4,7 @@ ghost use mathlib.Core.Path.{_≡_};
 ghost use lib.ListN.{length};
 ghost use Rattle.refusal.specs.Checks.{_andThen_, check1};
 ghost use Rattle.refusal.specs.Answers.{checkedAs, answerOf};
-ghost use Rattle.identifiers.specs.Checks.{check7, check8};
+ghost use Rattle.labels.specs.IdentifiersChecks.{check7, check8};
 ghost use Rattle.requests.specs.Requests.{forVrk, requestAnswer, requestBuffer};
 ghost use Rattle.visited.specs.Visited.{vmskAnswer, vmskBuffer, reauthAnswer, reauthBuffer};
 use refusal::Checked;
@@ -25,8 +25,8 @@ fn check_visited(vrk: &[u8], server: &[u8], domain: &[u8]) -> Checked
     ensures { λ r. ⌜ checkedAs r ≡ (check1 (now (vrk .entry)) andThen check7 (now (server .entry)) andThen check8 (now (domain .entry))) ⌝ }
 {
     let key = refusal::check_root_key(vrk);
-    let id = identifiers::check_server_id(server);
-    let realm = identifiers::check_domain(domain);
+    let id = labels::check_server_id(server);
+    let realm = labels::check_domain(domain);
     refusal::then_check(refusal::then_check(key, id), realm)
 }
 

@@ -5,7 +5,7 @@ use borrow.Author.Needs.{needs}
 use denote.Ref.{now}
 use lib.ListN.{length}
 use Rattle.refusal.proofs.Answering.{answer-by, buffer-by}
-use Rattle.fixed_labels.specs.FixedLabels.{rrkLabel}
+use Rattle.labels.specs.FixedLabels.{rrkLabel}
 use Rattle.requests.proofs.Rooms.{then-room}
 use Rattle.domain_keys.specs.Rfc5296.{rrkText, rrkCheck, rrkKey, rrkAnswer, rrkBuffer}
 use Rattle.domain_keys.proofs.domain_reauth_key.Statement.{statement}

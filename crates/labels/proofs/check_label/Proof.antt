@@ -2,7 +2,7 @@
 -- Assumes nothing.
 use mathlib.Core.Path.{sym, _∙_}
 use borrow.Author.Needs.{needs}
-use Rattle.charset.proofs.Forms.{form-length}
+use Rattle.labels.proofs.charset.Forms.{form-length}
 use Rattle.labels.proofs.Labels.{left-to-syntax, length-refused, byte-refused}
 use Rattle.labels.proofs.check_label.Statement.{statement}
 use Rattle.labels.proofs.check_label.Tie as tie

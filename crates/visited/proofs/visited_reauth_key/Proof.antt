@@ -5,7 +5,7 @@ use borrow.Author.Needs.{needs}
 use denote.Ref.{now}
 use lib.ListN.{length}
 use Rattle.refusal.proofs.Answering.{answer-by, buffer-by}
-use Rattle.fixed_labels.specs.FixedLabels.{visitedReauthLabel}
+use Rattle.labels.specs.FixedLabels.{visitedReauthLabel}
 use Rattle.visited.specs.Visited.{reauthText, reauthCheck, reauthKey, reauthAnswer, reauthBuffer}
 use Rattle.requests.proofs.Rooms.{then-room}
 use Rattle.visited.proofs.visited_reauth_key.Statement.{statement}

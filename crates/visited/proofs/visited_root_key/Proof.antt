@@ -5,7 +5,7 @@ use borrow.Author.Needs.{needs}
 use denote.Ref.{now}
 use lib.ListN.{length}
 use Rattle.refusal.proofs.Answering.{answer-by, buffer-by}
-use Rattle.fixed_labels.specs.FixedLabels.{vrkLabel}
+use Rattle.labels.specs.FixedLabels.{vrkLabel}
 use Rattle.requests.specs.Rfc5295.{usageText}
 use Rattle.requests.specs.Requests.{Request, forVrk, checkOf, textOf, keyOf, requestAnswer, requestBuffer}
 use Rattle.requests.proofs.Rooms.{then-room}
