@@ -6,6 +6,6 @@ mod handovers;
 mod hashes;
 mod key_attributes;
 mod keys;
-mod offers;
+mod negotiations;
 mod packets;
 mod slot_tables;

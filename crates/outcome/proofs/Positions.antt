@@ -11,7 +11,7 @@ use Rattle.refusal.specs.Checks.{Check, pass, refuse}
 use Rattle.refusal.proofs.Passing.{before-passed, last-passed, test-passed, within-high}
 use Rattle.offer_rules.specs.Rfc5448.{firstSupported, chooseCheck}
 use Rattle.offer_rules.specs.Answers.{firstRoundAt, firstRoundTo, firstRound}
-use Rattle.outcome.specs.Offers.{positionIn}
+use Rattle.outcome.specs.Negotiations.{positionIn}
 
 -- whatever the tests came to, the position is that of the offer taken, or 0
 position-at : (offers : List ℕ) (i : ℕ) → positionIn (firstRoundAt offers i) ≡ i

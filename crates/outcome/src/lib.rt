@@ -3,7 +3,7 @@
 pub mod areas;
 pub mod comparisons;
 pub mod key_attributes;
-pub mod offers;
+pub mod negotiations;
 pub mod slot_tables;
 
 ghost use mathlib.Core.Path.{_≡_};

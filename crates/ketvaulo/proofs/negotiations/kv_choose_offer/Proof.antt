@@ -1,11 +1,11 @@
--- `ketvaulo::offers::kv_choose_offer` meets its contract.
+-- `ketvaulo::negotiations::kv_choose_offer` meets its contract.
 -- Assumes nothing.
 use mathlib.Core.Path.{ap, _∙_}
 use borrow.Author.Needs.{needs}
-use Rattle.outcome.specs.Offers.{firstRoundOutcome}
+use Rattle.outcome.specs.Negotiations.{firstRoundOutcome}
 use Rattle.outcome.proofs.Positions.{position-small}
-use Rattle.ketvaulo.proofs.offers.kv_choose_offer.Statement.{statement}
-use Rattle.ketvaulo.proofs.offers.kv_choose_offer.Tie as tie
+use Rattle.ketvaulo.proofs.negotiations.kv_choose_offer.Statement.{statement}
+use Rattle.ketvaulo.proofs.negotiations.kv_choose_offer.Tie as tie
 
 first-round-requires : tie.Need-first-round-requires
 first-round-requires c κs = rw (c .choose .ensures) (position-small _ _)

@@ -2,16 +2,16 @@
 ghost use mathlib.Core.Path.{_≡_};
 ghost use Rattle.outcome.specs.Outcomes.{outcomeOf};
 ghost use Rattle.offer_peer.specs.Answers.{firstRound, serverAnswer, serverBuffer, renewedAnswer};
-ghost use Rattle.outcome.specs.Offers.{firstRoundOutcome, renewedOutcome};
+ghost use Rattle.outcome.specs.Negotiations.{firstRoundOutcome, renewedOutcome};
 use outcome::Outcome;
-use outcome::offers::FirstRoundOutcome;
+use outcome::negotiations::FirstRoundOutcome;
 
 // RFC 5448, section 3.2: the peer's first round.
 #[no_mangle]
 pub extern "C" fn kv_choose_offer(offers: &[u16], supported: &[u16]) -> FirstRoundOutcome
     ensures { λ r. ⌜ r ≡ firstRoundOutcome (firstRound (now (offers .entry)) (now (supported .entry))) ⌝ }
 {
-    outcome::offers::first_round(offer_peer::choose(offers, supported))
+    outcome::negotiations::first_round(offer_peer::choose(offers, supported))
 }
 
 // RFC 5448, section 3.2: the server, on the peer's reply.
@@ -28,5 +28,5 @@ pub extern "C" fn kv_answer_offer(offers: &[u16], reply: u16, out: &mut [u16]) -
 pub extern "C" fn kv_check_renewed(original: &[u16], choice: u16, renewed: &[u16]) -> Outcome
     ensures { λ r. ⌜ r ≡ renewedOutcome (renewedAnswer (now (original .entry)) choice (now (renewed .entry))) ⌝ }
 {
-    outcome::offers::renewed(offer_peer::recheck(original, choice, renewed))
+    outcome::negotiations::renewed(offer_peer::recheck(original, choice, renewed))
 }

@@ -4,7 +4,7 @@ use Prim.Native.Nat.{ℕ}
 use Rattle.offer_peer.specs.Answers.{FirstAnswer, carryOn, ask, RenewedAnswer, accepted}
 use Rattle.outcome.specs.Outcomes.{numberIn, acceptedOutcome, refusedOutcome}
 use Rattle.outcome.specs.declared.Outcome.{Outcome}
-use Rattle.outcome.specs.declared.offers.FirstRoundOutcome.{FirstRoundOutcome}
+use Rattle.outcome.specs.declared.negotiations.FirstRoundOutcome.{FirstRoundOutcome}
 
 -- kv_first_round: Carry On with the value, Ask with value and position, or the number and zeros
 abbrev pub firstRoundOutcome : FirstAnswer → FirstRoundOutcome

@@ -1,9 +1,9 @@
--- `outcome::offers::first_round` meets its contract.
+-- `outcome::negotiations::first_round` meets its contract.
 -- Assumes nothing.
 use mathlib.Core.Path.{refl}
 use borrow.Author.Needs.{needs}
-use Rattle.outcome.proofs.offers.first_round.Statement.{statement}
-use Rattle.outcome.proofs.offers.first_round.Tie as tie
+use Rattle.outcome.proofs.negotiations.first_round.Statement.{statement}
+use Rattle.outcome.proofs.negotiations.first_round.Tie as tie
 
 enum-known-answer : tie.Need-enum-known-answer
 enum-known-answer c = search needs

@@ -1,9 +1,9 @@
--- `ketvaulo::offers::kv_answer_offer` meets its contract.
+-- `ketvaulo::negotiations::kv_answer_offer` meets its contract.
 -- Assumes nothing.
 use Rattle.outcome.proofs.Handing.{handed}
 use borrow.Author.Needs.{needs}
-use Rattle.ketvaulo.proofs.offers.kv_answer_offer.Statement.{statement}
-use Rattle.ketvaulo.proofs.offers.kv_answer_offer.Tie as tie
+use Rattle.ketvaulo.proofs.negotiations.kv_answer_offer.Statement.{statement}
+use Rattle.ketvaulo.proofs.negotiations.kv_answer_offer.Tie as tie
 
 returns : tie.Need-returns
 returns c = let p = c .before .before .before in (handed (p .answer .result) (c .returned .ensures) (p .answer .ensures .0), p .answer .ensures .1)

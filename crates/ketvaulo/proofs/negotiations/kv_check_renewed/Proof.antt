@@ -1,10 +1,10 @@
--- `ketvaulo::offers::kv_check_renewed` meets its contract.
+-- `ketvaulo::negotiations::kv_check_renewed` meets its contract.
 -- Assumes nothing.
 use mathlib.Core.Path.{ap, _∙_}
-use Rattle.outcome.specs.Offers.{renewedOutcome}
+use Rattle.outcome.specs.Negotiations.{renewedOutcome}
 use borrow.Author.Needs.{needs}
-use Rattle.ketvaulo.proofs.offers.kv_check_renewed.Statement.{statement}
-use Rattle.ketvaulo.proofs.offers.kv_check_renewed.Tie as tie
+use Rattle.ketvaulo.proofs.negotiations.kv_check_renewed.Statement.{statement}
+use Rattle.ketvaulo.proofs.negotiations.kv_check_renewed.Tie as tie
 
 returns : tie.Need-returns
 returns c = c .renewed .ensures ∙ ap renewedOutcome (c .before .recheck .ensures)

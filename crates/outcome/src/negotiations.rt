@@ -2,7 +2,7 @@
 ghost use mathlib.Core.Path.{_≡_};
 ghost use Prim.Native.Nat.{_<_, _^_};
 ghost use Rattle.offer_peer.specs.Answers.{firstRoundOf, renewedOf};
-ghost use Rattle.outcome.specs.Offers.{firstRoundOutcome, renewedOutcome, positionIn};
+ghost use Rattle.outcome.specs.Negotiations.{firstRoundOutcome, renewedOutcome, positionIn};
 use crate::Outcome;
 use offer_peer::FirstRound;
 use offer_peer::Renewed;

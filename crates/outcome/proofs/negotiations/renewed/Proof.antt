@@ -1,8 +1,8 @@
--- `outcome::offers::renewed` meets its contract.
+-- `outcome::negotiations::renewed` meets its contract.
 -- Assumes nothing.
 use borrow.Author.Needs.{needs}
-use Rattle.outcome.proofs.offers.renewed.Statement.{statement}
-use Rattle.outcome.proofs.offers.renewed.Tie as tie
+use Rattle.outcome.proofs.negotiations.renewed.Statement.{statement}
+use Rattle.outcome.proofs.negotiations.renewed.Tie as tie
 
 enum-known-answer : tie.Need-enum-known-answer
 enum-known-answer c = search needs
