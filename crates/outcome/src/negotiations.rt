@@ -1,11 +1,11 @@
 // What the calls on AT_KDF offers return to C.
 ghost use mathlib.Core.Path.{_≡_};
 ghost use Prim.Native.Nat.{_<_, _^_};
-ghost use Rattle.offer_peer.specs.Answers.{firstRoundOf, renewedOf};
+ghost use Rattle.offers.specs.Answers.{firstRoundOf, renewedOf};
 ghost use Rattle.outcome.specs.Negotiations.{firstRoundOutcome, renewedOutcome, positionIn};
 use crate::Outcome;
-use offer_peer::FirstRound;
-use offer_peer::Renewed;
+use offers::FirstRound;
+use offers::Renewed;
 
 // What the peer's first round returns to C. `ask` is 0 for Carry On and 1 for Ask; every field but the number is 0 on a refusal.
 #[repr(C)]

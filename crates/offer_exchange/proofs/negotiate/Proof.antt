@@ -10,7 +10,7 @@ use lib.Seq.{length-take-le}
 use Rattle.refusal.specs.Answers.{answerOf}
 use Rattle.offer_rules.specs.Answers.{ask, firstRound}
 use Rattle.offer_rules.proofs.Rounds.{wrote-fits}
-use Rattle.offer_peer.specs.Answers.{firstRoundOf}
+use Rattle.offers.specs.Answers.{firstRoundOf}
 use Rattle.offer_rules.specs.Negotiation.{negotiated, negotiatedBuffer}
 use Rattle.offer_exchange.proofs.Steps.{unasked, server-refused, server-wrote}
 use Rattle.offer_exchange.proofs.negotiate.Statement.{statement}
