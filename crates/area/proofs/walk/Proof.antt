@@ -11,7 +11,7 @@ use lib.ListN.{length, take, drop, set, length-set}
 use Rattle.refusal.specs.Checks.{located}
 use Rattle.area_format.specs.Area.{standing, refusal, readOn, attributes, attributesFrom}
 use Rattle.area_format.specs.declared.Name.the-variants.{Missing}
-use Rattle.area_reader.proofs.Onward.{Met-next, next}
+use Rattle.area.proofs.reader.Onward.{Met-next, next}
 use Rattle.area.proofs.Keeping.{offer-kept, offer-refused}
 use Rattle.area.proofs.Walking.{ReadTo, starts, ends, goes-past, goes-on}
 use Rattle.area.proofs.walk.Statement.{statement}
