@@ -1,4 +1,4 @@
--- `packet::length_holds` meets its contract: outside the limits no byte is read.
+-- `packet_mac::attributes::length_holds` meets its contract: outside the limits no byte is read.
 -- Assumes nothing.
 use mathlib.Core.Path.{_≡_, sym, _∙_}
 use mathlib.Core.Bool.{true, false}
@@ -9,9 +9,9 @@ use borrow.Author.Tests.{not-true, not-false}
 use lib.ListN.{length}
 use Rattle.refusal.specs.Checks.{within}
 use Rattle.refusal.proofs.Passing.{within-low}
-use Rattle.packet.proofs.Fields.{length-out, length-in}
-use Rattle.packet.proofs.length_holds.Statement.{statement}
-use Rattle.packet.proofs.length_holds.Tie as tie
+use Rattle.packet_mac.proofs.attributes.Fields.{length-out, length-in}
+use Rattle.packet_mac.proofs.attributes.length_holds.Statement.{statement}
+use Rattle.packet_mac.proofs.attributes.length_holds.Tie as tie
 
 in-range-requires : tie.Need-in-range-requires
 in-range-requires c κs = search needs

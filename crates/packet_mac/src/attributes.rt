@@ -10,7 +10,7 @@ ghost use Rattle.refusal.specs.Checks;
 ghost use Rattle.refusal.specs.Checks.{bare, _andThen_, check20};
 ghost use Rattle.packet_rules.specs.Packet.{lengthHolds, check35, isMac, macAt};
 ghost use Rattle.packet_rules.specs.Mac.{packetCheck};
-ghost use Rattle.packet.specs.Steps.{sizeIn, foundIn, placeAs, placeTo};
+ghost use Rattle.packet_mac.specs.Steps.{sizeIn, foundIn, placeAs, placeTo};
 use refusal::Checked;
 use refusal::Refusal;
 
@@ -117,7 +117,7 @@ fn judge(found: Found, packet: &[u8]) -> Checked
 }
 
 // The tests 1, 20, 35, 36 and 37, in this order: where the MAC's attribute stands, or the first refusal.
-pub fn mac_place(mac_key: &[u8], attribute_type: u8, packet: &[u8]) -> Place
+pub(crate) fn mac_place(mac_key: &[u8], attribute_type: u8, packet: &[u8]) -> Place
     ensures { λ r. ⌜ placeAs r ≡ placeTo (packetCheck (now («mac_key» .entry)) «attribute_type» (now (packet .entry))) (macAt «attribute_type» (now (packet .entry))) ⌝ }
 {
     let found = find(attribute_type, packet);

@@ -8,9 +8,9 @@ use lib.ListN.{length, getD}
 use Rattle.refusal.specs.Checks.{Reason, Check, pass, refuse}
 use Rattle.refusal.specs.Answers.{reasonOf}
 use Rattle.packet_rules.specs.Packet.{Met, attribute, cut, inBounds, attributes, allWhole, places, macAt}
-use Rattle.packet.specs.declared.Found.{Found}
-use Rattle.packet.specs.declared.Place.{Place}
-use Rattle.packet.specs.declared.Place.the-variants.{At, Refused}
+use Rattle.packet_mac.specs.declared.attributes.Found.{Found}
+use Rattle.packet_mac.specs.declared.attributes.Place.{Place}
+use Rattle.packet_mac.specs.declared.attributes.Place.the-variants.{At, Refused}
 
 -- the length of the attribute at the start of the bytes; 0 where it is shorter than 2 or past their end
 unfoldable pub sizeIn : List ℕ → ℕ

@@ -12,8 +12,8 @@ use lib.Dec.{eqb, eqb·suc-zero}
 use lib.ListN.{length, getD, drop, length-drop, drop-of-length-le}
 use lib.Seq.{drop-drop, getD-drop}
 use Rattle.packet_rules.specs.Packet.{Met, attribute, cut, inBounds, attributesFrom, attributes, allWhole, placesIn, places, macAt}
-use Rattle.packet.specs.Steps.{sizeIn, foundIn, foundOn}
-use Rattle.packet.specs.declared.Found.{Found}
+use Rattle.packet_mac.specs.Steps.{sizeIn, foundIn, foundOn}
+use Rattle.packet_mac.specs.declared.attributes.Found.{Found}
 use Rattle.packet_rules.proofs.Walking.{bounds-low, bounds-high, Stands, stands}
 
 -- passing what is left of an attribute

@@ -14,10 +14,10 @@ use Rattle.refusal.specs.declared.Checked.the-variants.{Passed, Failed}
 use Rattle.refusal.proofs.Passing.{then-assoc}
 use Rattle.packet_rules.specs.Packet.{check35, check36, check37, isMac, oneMac, macAt}
 use Rattle.packet_rules.specs.Mac.{packetCheck}
-use Rattle.packet.specs.Steps.{foundIn, placeAs, placeTo}
-use Rattle.packet.specs.declared.Found.{Found}
-use Rattle.packet.specs.declared.Place.the-variants.{At, Refused}
-use Rattle.packet.proofs.Finding.{at-within}
+use Rattle.packet_mac.specs.Steps.{foundIn, placeAs, placeTo}
+use Rattle.packet_mac.specs.declared.attributes.Found.{Found}
+use Rattle.packet_mac.specs.declared.attributes.Place.the-variants.{At, Refused}
+use Rattle.packet_mac.proofs.attributes.Finding.{at-within}
 
 -- the tests 35 to 37 by what the walk found
 abbrev pub judged : Found → List ℕ → Check

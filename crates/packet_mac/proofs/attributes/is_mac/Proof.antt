@@ -1,11 +1,11 @@
--- `packet::is_mac` meets its contract: fewer than four bytes have no MAC Type.
+-- `packet_mac::attributes::is_mac` meets its contract: fewer than four bytes have no MAC Type.
 -- Assumes nothing.
 use mathlib.Core.Path.{refl}
 use Rattle.packet_rules.specs.Packet.{isMac}
-use Rattle.packet.proofs.Fields.{mac-short}
+use Rattle.packet_mac.proofs.attributes.Fields.{mac-short}
 use borrow.Author.Needs.{needs}
-use Rattle.packet.proofs.is_mac.Statement.{statement}
-use Rattle.packet.proofs.is_mac.Tie as tie
+use Rattle.packet_mac.proofs.attributes.is_mac.Statement.{statement}
+use Rattle.packet_mac.proofs.attributes.is_mac.Tie as tie
 
 returns : tie.Need-returns
 returns c = mac-short _ (c .if1 .taken)

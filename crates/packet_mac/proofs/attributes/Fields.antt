@@ -10,7 +10,7 @@ use lib.Dec.{leb, eqb}
 use lib.ListN.{length, getD, List·getD-eq-default}
 use Rattle.refusal.specs.Checks.{within}
 use Rattle.packet_rules.specs.Packet.{headerLength, lengthHolds, inBounds, isMac}
-use Rattle.packet.specs.Steps.{sizeIn}
+use Rattle.packet_mac.specs.Steps.{sizeIn}
 
 and-false : (a : Bool) → (a && false) ≡ false
 and-false true = refl

@@ -1,13 +1,13 @@
--- `packet::mac_place` meets its contract: by what its tests came to.
+-- `packet_mac::attributes::mac_place` meets its contract: by what its tests came to.
 -- Assumes nothing.
 use mathlib.Core.Path.{_≡_, _∙_}
 use denote.Ref.{now}
 use borrow.Author.Needs.{needs}
 use Rattle.refusal.specs.Answers.{checkedAs}
 use Rattle.packet_rules.specs.Mac.{packetCheck}
-use Rattle.packet.proofs.Answering.{all-tests, found-at, found-within, place-given, place-refused}
-use Rattle.packet.proofs.mac_place.Statement.{statement}
-use Rattle.packet.proofs.mac_place.Tie as tie
+use Rattle.packet_mac.proofs.attributes.Answering.{all-tests, found-at, found-within, place-given, place-refused}
+use Rattle.packet_mac.proofs.attributes.mac_place.Statement.{statement}
+use Rattle.packet_mac.proofs.attributes.mac_place.Tie as tie
 
 find-requires : tie.Need-find-requires
 find-requires c κs = search needs

@@ -1,8 +1,8 @@
--- `packet::check_type` meets its contract.
+-- `packet_mac::attributes::check_type` meets its contract.
 -- Assumes nothing.
 use borrow.Author.Needs.{needs}
-use Rattle.packet.proofs.check_type.Statement.{statement}
-use Rattle.packet.proofs.check_type.Tie as tie
+use Rattle.packet_mac.proofs.attributes.check_type.Statement.{statement}
+use Rattle.packet_mac.proofs.attributes.check_type.Tie as tie
 
 unless-requires : tie.Need-unless-requires
 unless-requires c κs = search needs
