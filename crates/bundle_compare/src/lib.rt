@@ -10,7 +10,7 @@ ghost use Rattle.bundle_rules.specs.Bundle.{countIn, bundleCheck};
 ghost use Rattle.compare_rules.specs.Compare.{listed, written, compareAnswer, compareBuffer, compareCounts};
 ghost use Rattle.bundle_compare.specs.Answers.{answerIn, countsIn};
 ghost use Rattle.bundle_compare.specs.Internal.{countTo, entriesTo};
-use bundle_numbers::number_at;
+use bundle_contents::number_at;
 use compare_kinds::find_kinds;
 use refusal::Checked;
 use refusal::Refusal;

@@ -6,7 +6,7 @@ ghost use lib.ListN.{length, drop};
 ghost use Rattle.refusal.specs.Checks.{pass};
 ghost use Rattle.refusal.specs.Answers.{answerOf, answerTo};
 ghost use Rattle.bundle_rules.specs.Bundle.{keyIdIn, idStands, idRepeats, bodyLength, packed, framesCheck, packedCheck};
-use bundle_ids::same_id;
+use bundle_contents::same_id;
 use key_frame::check_frame;
 use refusal::Checked;
 use refusal::Refusal;

@@ -15,7 +15,7 @@ use Rattle.bundle_rules.specs.Bundle.{lineAt, linesFrom, countIn, bodyOf, bundl
 use Rattle.bundle_rules.proofs.Packing.{sized}
 use Rattle.bundle_rules.proofs.Reading.{contents, Whole, laid}
 use Rattle.bundle_rules.proofs.Once.{whole-at}
-use Rattle.bundle_numbers.proofs.Numbers.{lines-told, number-of-line}
+use Rattle.bundle_contents.proofs.Numbers.{lines-told, number-of-line}
 use Rattle.bundle_contents.proofs.Walking.{lines-next, lines-done, idPart, line-id}
 use Rattle.bundle_contents.proofs.Bodies.{body-part}
 use Rattle.compare_rules.specs.Places.{placeOf}

@@ -9,7 +9,7 @@ use borrow.Author.Needs.{needs}
 use Rattle.refusal.specs.Answers.{checkedAs}
 use Rattle.bundle_rules.specs.Bundle.{linesFrom, bodiesCheck}
 use Rattle.bundle_contents.specs.Internal.{Inside}
-use Rattle.bundle_numbers.proofs.Numbers.{number-of-line}
+use Rattle.bundle_contents.proofs.Numbers.{number-of-line}
 use Rattle.bundle_contents.proofs.Bodies.{inside-here, inside-on, bodies-stop, bodies-on, bodies-done, body-told}
 use Rattle.bundle_contents.proofs.check_bodies.Statement.{statement}
 use Rattle.bundle_contents.proofs.check_bodies.Tie as tie

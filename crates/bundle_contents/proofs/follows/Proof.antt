@@ -6,7 +6,7 @@ use native.Mathlib.Omega.{arith}
 use denote.Ref.{now}
 use borrow.Author.Needs.{needs}
 use Rattle.bundle_rules.specs.Bundle.{contentsEnd, linesFrom, follow}
-use Rattle.bundle_numbers.proofs.Numbers.{number-of-line}
+use Rattle.bundle_contents.proofs.Numbers.{number-of-line}
 use Rattle.bundle_contents.proofs.Walking.{follow-start, follow-on, follow-not, follow-all}
 use Rattle.bundle_contents.proofs.follows.Statement.{statement}
 use Rattle.bundle_contents.proofs.follows.Tie as tie

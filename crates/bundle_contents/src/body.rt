@@ -6,14 +6,14 @@ ghost use Rattle.refusal.specs.Answers.{checkedAs};
 ghost use Rattle.slices.specs.Same.{sameList};
 ghost use Rattle.key_frame.specs.KeyFrame.{frameCheck};
 ghost use Rattle.bundle_rules.specs.Bundle.{keyIdIn};
-use bundle_ids::same_id;
+use crate::ids::same_id;
 use key_frame::check_frame;
 use refusal::Checked;
 use refusal::Refusal;
 use refusal::unless;
 
 // A body: its own number, then 50 for a Key ID unlike its line's.
-pub fn check_body(id: &[u8], body: &[u8]) -> Checked
+pub(crate) fn check_body(id: &[u8], body: &[u8]) -> Checked
     ensures { λ r. ⌜ checkedAs r ≡ (frameCheck (now (body .entry)) andThen Checks.unless (sameList (keyIdIn (now (body .entry))) (now (id .entry))) (bare 50)) ⌝ }
 {
     match check_frame(body) {

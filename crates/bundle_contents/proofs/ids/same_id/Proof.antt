@@ -1,4 +1,4 @@
--- `bundle_ids::same_id` meets its contract.
+-- `bundle_contents::ids::same_id` meets its contract.
 -- Assumes nothing.
 use mathlib.Core.Path.{_≡_, refl}
 use mathlib.Core.Bool.{true}
@@ -7,9 +7,9 @@ use denote.Ref.{now}
 use lib.ListN.{drop}
 use borrow.Author.Needs.{needs}
 use Rattle.slices.specs.Same.{sameList}
-use Rattle.bundle_ids.proofs.Words.{words-on, words-differ, words-last, word-ends}
-use Rattle.bundle_ids.proofs.same_id.Statement.{statement}
-use Rattle.bundle_ids.proofs.same_id.Tie as tie
+use Rattle.bundle_contents.proofs.ids.Words.{words-on, words-differ, words-last, word-ends}
+use Rattle.bundle_contents.proofs.ids.same_id.Statement.{statement}
+use Rattle.bundle_contents.proofs.ids.same_id.Tie as tie
 
 same-bytes-requires : tie.Need-same-bytes-requires
 same-bytes-requires c κs = search needs

@@ -3,7 +3,7 @@ ghost use mathlib.Core.Path.{_≡_};
 ghost use Prim.Native.Nat.{_+_, _≤_};
 ghost use lib.ListN.{length};
 ghost use Rattle.slices.specs.Same.{sameList};
-ghost use Rattle.bundle_ids.specs.Internal.{wordAt, BytesAt};
+ghost use Rattle.bundle_contents.specs.IdsInternal.{wordAt, BytesAt};
 use slices::from_be32;
 use slices::same_bytes;
 

@@ -1,4 +1,4 @@
--- `bundle_body::check_body` meets its contract.
+-- `bundle_contents::body::check_body` meets its contract.
 -- Assumes nothing.
 use Rattle.bundle_rules.proofs.Packing.{sized}
 use Rattle.bundle_rules.specs.Bundle.{keyIdIn}
@@ -11,8 +11,8 @@ use native.Mathlib.Omega.{arith}
 use mathlib.Core.Bool.{Bool}
 use mathlib.Core.Path.{_≡_, sym, ap, _∙_}
 use borrow.Author.Needs.{needs}
-use Rattle.bundle_body.proofs.check_body.Statement.{statement}
-use Rattle.bundle_body.proofs.check_body.Tie as tie
+use Rattle.bundle_contents.proofs.body.check_body.Statement.{statement}
+use Rattle.bundle_contents.proofs.body.check_body.Tie as tie
 
 check-frame-requires : tie.Need-check-frame-requires
 check-frame-requires c κs = search needs

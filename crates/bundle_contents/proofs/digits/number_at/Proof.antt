@@ -1,11 +1,11 @@
--- `bundle_numbers::number_at` meets its contract.
+-- `bundle_contents::digits::number_at` meets its contract.
 -- Assumes nothing.
 use denote.Ref.{now}
 use native.Mathlib.Omega.{arith}
 use borrow.Author.Needs.{needs}
-use Rattle.bundle_numbers.proofs.Numbers.{number-past, number-half}
-use Rattle.bundle_numbers.proofs.number_at.Statement.{statement}
-use Rattle.bundle_numbers.proofs.number_at.Tie as tie
+use Rattle.bundle_contents.proofs.Numbers.{number-past, number-half}
+use Rattle.bundle_contents.proofs.digits.number_at.Statement.{statement}
+use Rattle.bundle_contents.proofs.digits.number_at.Tie as tie
 
 returns : tie.Need-returns
 returns c = (number-past (now (c .before .before .args .file)) (c .before .before .args .at) (omega arith), omega arith)

@@ -1,10 +1,10 @@
--- `bundle_ids::word_at` meets its contract.
+-- `bundle_contents::ids::word_at` meets its contract.
 -- Assumes nothing.
 use Prim.Native.Nat.{_+_}
 use native.Mathlib.Omega.{arith}
 use borrow.Author.Needs.{needs}
-use Rattle.bundle_ids.proofs.word_at.Statement.{statement}
-use Rattle.bundle_ids.proofs.word_at.Tie as tie
+use Rattle.bundle_contents.proofs.ids.word_at.Statement.{statement}
+use Rattle.bundle_contents.proofs.ids.word_at.Tie as tie
 
 add-from-be32 : tie.Need-add-from-be32
 add-from-be32 c = search needs
