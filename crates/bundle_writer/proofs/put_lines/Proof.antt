@@ -7,7 +7,7 @@ use borrow.Author.Needs.{needs}
 use denote.Ref.{now}
 use lib.ListN.{length}
 use Rattle.bundle_rules.specs.Bundle.{contentsEnd, packed}
-use Rattle.bundle_packing.proofs.Walking.{Step, step, id-part, body-long}
+use Rattle.bundle_writer.proofs.packing.Walking.{Step, step, id-part, body-long}
 use Rattle.bundle_writer.proofs.Lines.{Lined, lined-start, lined-on, lined-end, lined-room, id-long}
 use Rattle.bundle_writer.proofs.put_lines.Statement.{statement}
 use Rattle.bundle_writer.proofs.put_lines.Tie as tie

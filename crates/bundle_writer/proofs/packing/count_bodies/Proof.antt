@@ -1,4 +1,4 @@
--- `bundle_packing::count_bodies` meets its contract.
+-- `bundle_writer::packing::count_bodies` meets its contract.
 -- Assumes nothing.
 use Prim.Native.Nat.{_+_, _≤_, _-_}
 use mathlib.Core.Path.{_≡_, refl, sym, ap, _∙_}
@@ -8,10 +8,10 @@ use denote.Ref.{now}
 use lib.ListN.{length, drop}
 use Rattle.refusal.specs.Answers.{checkedAs}
 use Rattle.bundle_rules.specs.Bundle.{packed, framesCheck}
-use Rattle.bundle_packing.proofs.Walking.{Step, step, frames-stop, frames-on, frames-end, count-on, count-end}
-use Rattle.bundle_packing.proofs.Testing.{told, refused-count}
-use Rattle.bundle_packing.proofs.count_bodies.Statement.{statement}
-use Rattle.bundle_packing.proofs.count_bodies.Tie as tie
+use Rattle.bundle_writer.proofs.packing.Walking.{Step, step, frames-stop, frames-on, frames-end, count-on, count-end}
+use Rattle.bundle_writer.proofs.packing.Testing.{told, refused-count}
+use Rattle.bundle_writer.proofs.packing.count_bodies.Statement.{statement}
+use Rattle.bundle_writer.proofs.packing.count_bodies.Tie as tie
 
 abbrev Inv-loop : tie.InvT-loop
 Inv-loop bytes size at₀ n₀ at n =

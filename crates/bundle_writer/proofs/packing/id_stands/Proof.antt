@@ -1,4 +1,4 @@
--- `bundle_packing::id_stands` meets its contract.
+-- `bundle_writer::packing::id_stands` meets its contract.
 -- Assumes nothing.
 use Prim.Native.Nat.{_+_, _≤_, _-_}
 use mathlib.Core.Path.{_≡_, refl, sym, _∙_}
@@ -10,9 +10,9 @@ use lib.ListN.{take}
 use mathlib.Core.List.{map}
 use Rattle.refusal.specs.Checks.{pass}
 use Rattle.bundle_rules.specs.Bundle.{keyIdIn, idStands, bodyLength, packed, framesCheck}
-use Rattle.bundle_packing.proofs.Walking.{Step, step, step-at, later-pass, id-part, body-long, stands-here, stands-on, stands-not}
-use Rattle.bundle_packing.proofs.id_stands.Statement.{statement}
-use Rattle.bundle_packing.proofs.id_stands.Tie as tie
+use Rattle.bundle_writer.proofs.packing.Walking.{Step, step, step-at, later-pass, id-part, body-long, stands-here, stands-on, stands-not}
+use Rattle.bundle_writer.proofs.packing.id_stands.Statement.{statement}
+use Rattle.bundle_writer.proofs.packing.id_stands.Tie as tie
 
 abbrev Inv-loop : tie.InvT-loop
 Inv-loop id bytes from size at₀ at = (at ≤ length bytes) × (framesCheck (packed (drop at bytes)) ≡ pass) × (idStands id (map keyIdIn (packed (drop from bytes))) ≡ idStands id (map keyIdIn (packed (drop at bytes))))

@@ -13,7 +13,7 @@ use refusal::Refusal;
 use refusal::Written;
 
 // The length of the first of the attributes packed in `bytes`: its length byte, or all of them where that leads nowhere.
-pub fn body_length(bytes: &[u8]) -> usize
+pub(crate) fn body_length(bytes: &[u8]) -> usize
     ensures { λ r. ⌜ r ≡ bodyLength (now (bytes .entry)) ⌝ }
 {
     let all = bytes.len();
@@ -101,7 +101,7 @@ fn id_repeats(bytes: &[u8]) -> bool
 }
 
 // How many attributes are packed in `bytes`, by the writer's tests but that of the room: body by body, then their count and their Key IDs.
-pub fn check_packed(bytes: &[u8]) -> Written
+pub(crate) fn check_packed(bytes: &[u8]) -> Written
     ensures { λ r. ⌜ answerOf r ≡ answerTo (packedCheck (now (bytes .entry))) (length (packed (now (bytes .entry)))) ⌝ }
 {
     match count_bodies(bytes) {

@@ -1,13 +1,13 @@
--- `bundle_packing::length_at` meets its contract.
+-- `bundle_writer::packing::length_at` meets its contract.
 -- Assumes nothing.
 use Prim.Native.Nat.{_+_}
 use mathlib.Core.Path.{refl}
 use native.Mathlib.Omega.{arith}
 use denote.Ref.{now}
 use borrow.Author.Needs.{needs}
-use Rattle.bundle_packing.proofs.Walking.{step-at, body-long, byte-counts}
-use Rattle.bundle_packing.proofs.length_at.Statement.{statement}
-use Rattle.bundle_packing.proofs.length_at.Tie as tie
+use Rattle.bundle_writer.proofs.packing.Walking.{step-at, body-long, byte-counts}
+use Rattle.bundle_writer.proofs.packing.length_at.Statement.{statement}
+use Rattle.bundle_writer.proofs.packing.length_at.Tie as tie
 
 add-result : tie.Need-add-result
 add-result c = search needs

@@ -1,4 +1,4 @@
--- `bundle_packing::id_repeats` meets its contract.
+-- `bundle_writer::packing::id_repeats` meets its contract.
 -- Assumes nothing.
 use Prim.Native.Nat.{_+_, _≤_, _-_}
 use mathlib.Core.Path.{_≡_, refl, sym, _∙_}
@@ -9,9 +9,9 @@ use lib.ListN.{length, drop}
 use mathlib.Core.List.{map}
 use Rattle.refusal.specs.Checks.{pass}
 use Rattle.bundle_rules.specs.Bundle.{keyIdIn, idRepeats, packed, framesCheck}
-use Rattle.bundle_packing.proofs.Walking.{Step, step, later-pass, id-part, body-long, repeats-here, repeats-on, repeats-not}
-use Rattle.bundle_packing.proofs.id_repeats.Statement.{statement}
-use Rattle.bundle_packing.proofs.id_repeats.Tie as tie
+use Rattle.bundle_writer.proofs.packing.Walking.{Step, step, later-pass, id-part, body-long, repeats-here, repeats-on, repeats-not}
+use Rattle.bundle_writer.proofs.packing.id_repeats.Statement.{statement}
+use Rattle.bundle_writer.proofs.packing.id_repeats.Tie as tie
 
 abbrev Inv-loop : tie.InvT-loop
 Inv-loop bytes size at₀ at = (at ≤ length bytes) × (framesCheck (packed (drop at bytes)) ≡ pass) × (idRepeats (map keyIdIn (packed bytes)) ≡ idRepeats (map keyIdIn (packed (drop at bytes))))

@@ -1,4 +1,4 @@
--- `bundle_packing::check_packed` meets its contract.
+-- `bundle_writer::packing::check_packed` meets its contract.
 -- Assumes nothing.
 use mathlib.Core.Path.{_≡_, sym, ap, _∙_}
 use denote.Ref.{now}
@@ -8,9 +8,9 @@ use Rattle.refusal.specs.Checks.{pass}
 use Rattle.refusal.specs.Answers.{answerOf}
 use Rattle.refusal.proofs.Answering.{told-count, told-refusal}
 use Rattle.bundle_rules.specs.Bundle.{packed, framesCheck}
-use Rattle.bundle_packing.proofs.Testing.{told, refused-count, packed-frames, packed-none-lent, packed-many, packed-twice, packed-passes}
-use Rattle.bundle_packing.proofs.check_packed.Statement.{statement}
-use Rattle.bundle_packing.proofs.check_packed.Tie as tie
+use Rattle.bundle_writer.proofs.packing.Testing.{told, refused-count, packed-frames, packed-none-lent, packed-many, packed-twice, packed-passes}
+use Rattle.bundle_writer.proofs.packing.check_packed.Statement.{statement}
+use Rattle.bundle_writer.proofs.packing.check_packed.Tie as tie
 
 count-bodies-requires : tie.Need-count-bodies-requires
 count-bodies-requires c κs = search needs

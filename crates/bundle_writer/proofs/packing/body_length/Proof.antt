@@ -1,11 +1,11 @@
--- `bundle_packing::body_length` meets its contract.
+-- `bundle_writer::packing::body_length` meets its contract.
 -- Assumes nothing.
 use native.Mathlib.Omega.{arith}
 use mathlib.Core.Path.{refl}
-use Rattle.bundle_packing.proofs.Walking.{length-short, length-low, length-past, length-byte}
+use Rattle.bundle_writer.proofs.packing.Walking.{length-short, length-low, length-past, length-byte}
 use borrow.Author.Needs.{needs}
-use Rattle.bundle_packing.proofs.body_length.Statement.{statement}
-use Rattle.bundle_packing.proofs.body_length.Tie as tie
+use Rattle.bundle_writer.proofs.packing.body_length.Statement.{statement}
+use Rattle.bundle_writer.proofs.packing.body_length.Tie as tie
 
 returns : tie.Need-returns
 returns c = length-short _ (c .if1 .taken)
