@@ -1,11 +1,11 @@
--- `compare_kinds::check_both` meets its contract.
+-- `bundle_compare::kinds::check_both` meets its contract.
 -- Assumes nothing.
 use mathlib.Core.Path.{sym, ap, _∙_}
 use Rattle.refusal.specs.Answers.{checkedAs}
 use Rattle.refusal.proofs.Passing.{first-refuses, second-decides}
 use borrow.Author.Needs.{needs}
-use Rattle.compare_kinds.proofs.check_both.Statement.{statement}
-use Rattle.compare_kinds.proofs.check_both.Tie as tie
+use Rattle.bundle_compare.proofs.kinds.check_both.Statement.{statement}
+use Rattle.bundle_compare.proofs.kinds.check_both.Tie as tie
 
 check-bundle-requires : tie.Need-check-bundle-requires
 check-bundle-requires c κs = search needs

@@ -1,4 +1,4 @@
--- `compare_kinds::find_kinds` meets its contract.
+-- `bundle_compare::kinds::find_kinds` meets its contract.
 -- Assumes nothing.
 use mathlib.Core.Path.{_≡_, sym, ap, _∙_}
 use borrow.Author.Needs.{needs}
@@ -7,9 +7,9 @@ use Rattle.refusal.specs.Checks.{pass}
 use Rattle.refusal.specs.Answers.{checkedAs}
 use Rattle.refusal.proofs.Passing.{before-passed, last-passed, both-pass}
 use Rattle.bundle_rules.specs.Bundle.{bundleCheck}
-use Rattle.compare_kinds.proofs.Finding.{none-found, both-found}
-use Rattle.compare_kinds.proofs.find_kinds.Statement.{statement}
-use Rattle.compare_kinds.proofs.find_kinds.Tie as tie
+use Rattle.bundle_compare.proofs.kinds.Finding.{none-found, both-found}
+use Rattle.bundle_compare.proofs.kinds.find_kinds.Statement.{statement}
+use Rattle.bundle_compare.proofs.kinds.find_kinds.Tie as tie
 
 check-both-requires : tie.Need-check-both-requires
 check-both-requires c κs = search needs

@@ -1,12 +1,12 @@
--- `compare_kinds::same_body` meets its contract.
+-- `bundle_compare::kinds::same_body` meets its contract.
 -- Assumes nothing.
 use mathlib.Core.Path.{_∙_}
 use native.Mathlib.Omega.{arith}
 use Rattle.slices.specs.Same.{sameList}
-use Rattle.compare_kinds.proofs.Lines.{body-part-of}
+use Rattle.bundle_compare.proofs.kinds.Lines.{body-part-of}
 use borrow.Author.Needs.{needs}
-use Rattle.compare_kinds.proofs.same_body.Statement.{statement}
-use Rattle.compare_kinds.proofs.same_body.Tie as tie
+use Rattle.bundle_compare.proofs.kinds.same_body.Statement.{statement}
+use Rattle.bundle_compare.proofs.kinds.same_body.Tie as tie
 
 lines-length-requires : tie.Need-lines-length-requires
 lines-length-requires c κs = search needs

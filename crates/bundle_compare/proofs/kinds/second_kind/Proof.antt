@@ -1,9 +1,9 @@
--- `compare_kinds::second_kind` meets its contract.
+-- `bundle_compare::kinds::second_kind` meets its contract.
 -- Assumes nothing.
-use Rattle.compare_kinds.proofs.Telling.{second-missing, second-found}
+use Rattle.bundle_compare.proofs.kinds.Telling.{second-missing, second-found}
 use borrow.Author.Needs.{needs}
-use Rattle.compare_kinds.proofs.second_kind.Statement.{statement}
-use Rattle.compare_kinds.proofs.second_kind.Tie as tie
+use Rattle.bundle_compare.proofs.kinds.second_kind.Statement.{statement}
+use Rattle.bundle_compare.proofs.kinds.second_kind.Tie as tie
 
 place-of-requires : tie.Need-place-of-requires
 place-of-requires c κs = search needs

@@ -1,4 +1,4 @@
--- `compare_kinds::place_of` meets its contract.
+-- `bundle_compare::kinds::place_of` meets its contract.
 -- Assumes nothing.
 use Prim.Native.Nat.{_-_, _≤_}
 use mathlib.Core.Path.{_≡_, sym}
@@ -8,9 +8,9 @@ use borrow.Author.Needs.{needs}
 use Rattle.bundle_rules.specs.Bundle.{lineAt, linesFrom}
 use Rattle.bundle_rules.proofs.Reading.{contents}
 use Rattle.compare_rules.specs.Places.{placeOf, placeIn}
-use Rattle.compare_kinds.proofs.Lines.{line-told, place-on, place-end}
-use Rattle.compare_kinds.proofs.place_of.Statement.{statement}
-use Rattle.compare_kinds.proofs.place_of.Tie as tie
+use Rattle.bundle_compare.proofs.kinds.Lines.{line-told, place-on, place-end}
+use Rattle.bundle_compare.proofs.kinds.place_of.Statement.{statement}
+use Rattle.bundle_compare.proofs.kinds.place_of.Tie as tie
 
 abbrev Inv-loop : tie.InvT-loop
 Inv-loop file other i start stop id n j₀ j = (j ≤ n) × (id ≡ lineAt other i .id) × (placeIn (lineAt other i .id) file ≡ placeOf (lineAt other i .id) j (linesFrom file j (n - j)))

@@ -120,7 +120,12 @@ fn check_both(first: &[u8], second: &[u8]) -> Checked
 
 // The kinds of the lines of two files that pass their tests, the first file's to the start of of_first and the second's to that of of_second, as many as each has
 // room for. A bundle has at most 64.
-pub fn find_kinds(first: &[u8], second: &[u8], of_first: &mut [u8], of_second: &mut [u8]) -> Checked
+pub(crate) fn find_kinds(
+    first: &[u8],
+    second: &[u8],
+    of_first: &mut [u8],
+    of_second: &mut [u8],
+) -> Checked
     ensures answer { λ r. ⌜ checkedAs r ≡ (bundleCheck (now (first .entry)) andThen bundleCheck (now (second .entry))) ⌝ }
     ensures ones { λ _. ⌜ now («of_first» .exit) ≡ bufferAfter (bundleCheck (now (first .entry)) andThen bundleCheck (now (second .entry))) (countIn (now (first .entry))) (firstKinds (now (first .entry)) (now (second .entry)) (length (now («of_first» .entry)))) (now («of_first» .entry)) ⌝ }
     ensures others { λ _. ⌜ now («of_second» .exit) ≡ bufferAfter (bundleCheck (now (first .entry)) andThen bundleCheck (now (second .entry))) (countIn (now (second .entry))) (secondKinds (now (first .entry)) (now (second .entry)) (length (now («of_second» .entry)))) (now («of_second» .entry)) ⌝ }

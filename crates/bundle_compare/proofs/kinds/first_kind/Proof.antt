@@ -1,11 +1,11 @@
--- `compare_kinds::first_kind` meets its contract.
+-- `bundle_compare::kinds::first_kind` meets its contract.
 -- Assumes nothing.
 use mathlib.Core.Path.{sym, ap, _∙_}
 use mathlib.Core.Bool.{Bool, cond}
-use Rattle.compare_kinds.proofs.Telling.{first-missing, first-found}
+use Rattle.bundle_compare.proofs.kinds.Telling.{first-missing, first-found}
 use borrow.Author.Needs.{needs}
-use Rattle.compare_kinds.proofs.first_kind.Statement.{statement}
-use Rattle.compare_kinds.proofs.first_kind.Tie as tie
+use Rattle.bundle_compare.proofs.kinds.first_kind.Statement.{statement}
+use Rattle.bundle_compare.proofs.kinds.first_kind.Tie as tie
 
 place-of-requires : tie.Need-place-of-requires
 place-of-requires c κs = search needs
