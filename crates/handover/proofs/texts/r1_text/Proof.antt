@@ -1,13 +1,13 @@
--- `handover_texts::r1_text` meets its contract.
+-- `handover::texts::r1_text` meets its contract.
 -- Assumes nothing.
 use native.Mathlib.Omega.{arith}
 use lib.ListN.{length, length-set}
 use mathlib.Core.Path.{_≡_, ap}
 use Rattle.handover_rules.specs.Handover.{r1Label}
-use Rattle.handover_texts.proofs.Texts.{r1-spa, r1-an, r1-laid}
+use Rattle.handover.proofs.texts.Texts.{r1-spa, r1-an, r1-laid}
 use borrow.Author.Needs.{needs}
-use Rattle.handover_texts.proofs.r1_text.Statement.{statement}
-use Rattle.handover_texts.proofs.r1_text.Tie as tie
+use Rattle.handover.proofs.texts.r1_text.Statement.{statement}
+use Rattle.handover.proofs.texts.r1_text.Tie as tie
 
 -- the lengths that the identifiers have by their types
 sizes : (c : tie.Start) → (length (c .args .t1) ≡ 16) × (length (c .args .t2) ≡ 16) × (length (c .args .t3) ≡ 6)

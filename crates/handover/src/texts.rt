@@ -11,7 +11,7 @@ ghost use Rattle.handover_rules.specs.Handover.{r0Input, r1Input};
 
 // The text of an R0-Key: 1 in two bytes, the label, a zero byte, AD-ID, SPA, and 256 in two bytes. These are 44 bytes, and the padding counts the 864
 // bits of 64 and 44 bytes.
-pub fn r0_text(ad_id: [u8; 16], spa: [u8; 6]) -> [u8; 64]
+pub(crate) fn r0_text(ad_id: [u8; 16], spa: [u8; 6]) -> [u8; 64]
     ensures { λ r. ⌜ r ≡ r0Input «ad_id» spa 1 ++ padding 108 ⌝ }
 {
     let mut text = [0u8; 64];
@@ -26,7 +26,7 @@ pub fn r0_text(ad_id: [u8; 16], spa: [u8; 6]) -> [u8; 64]
 }
 
 // The text of an R1-Key, whose identifiers are AD-ID, AN-ID and SPA: 60 bytes, and the 992 bits of 64 and 60 bytes.
-pub fn r1_text(ad_id: [u8; 16], an_id: [u8; 16], spa: [u8; 6]) -> [u8; 128]
+pub(crate) fn r1_text(ad_id: [u8; 16], an_id: [u8; 16], spa: [u8; 6]) -> [u8; 128]
     ensures { λ r. ⌜ r ≡ r1Input «ad_id» «an_id» spa 1 ++ padding 124 ⌝ }
 {
     let mut text = [0u8; 128];
@@ -42,7 +42,7 @@ pub fn r1_text(ad_id: [u8; 16], an_id: [u8; 16], spa: [u8; 6]) -> [u8; 128]
 }
 
 // What a name's hash takes after the R0-Key: the label, AD-ID and SPA.
-pub fn name_text(ad_id: [u8; 16], spa: [u8; 6]) -> [u8; 33]
+pub(crate) fn name_text(ad_id: [u8; 16], spa: [u8; 6]) -> [u8; 33]
     ensures { λ r. ⌜ r ≡ ascii "R0 Key Name" ++ («ad_id» ++ spa) ⌝ }
 {
     let mut text = [0u8; 33];
