@@ -34,7 +34,7 @@ fn say_list(list: &[u16]) {
 // Prints a refusal by its number, and ends the line.
 fn say_refused(why: Refusal) {
     say(b" refuses,");
-    say_number(refusal_number::number(why) as u64);
+    say_number(refusal::number(why) as u64);
     say(b"\n");
 }
 

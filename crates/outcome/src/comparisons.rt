@@ -25,7 +25,7 @@ pub fn returned(answer: Compared) -> Comparison
             only_second: counts.only_second,
         },
         Compared::Refused(why) => Comparison {
-            refusal: refusal_number::number(why),
+            refusal: refusal::number(why),
             only_first: 0,
             changed: 0,
             only_second: 0,

@@ -45,6 +45,6 @@ pub fn returned(read: KeyRead) -> KeyAttributeOutcome
     let fields = read.fields;
     match answer {
         Written::Wrote(n) => told(0, n as u32, fields),
-        Written::Refused(why) => told(refusal_number::number(why), 0, fields),
+        Written::Refused(why) => told(refusal::number(why), 0, fields),
     }
 }

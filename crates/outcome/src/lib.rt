@@ -26,8 +26,8 @@ pub fn refused(why: Refusal) -> Outcome
     ensures { λ r. ⌜ r ≡ refusedOutcome (reasonOf why) ⌝ }
 {
     Outcome {
-        refusal: refusal_number::number(why),
-        value: refusal_number::place(why) as u64,
+        refusal: refusal::number(why),
+        value: refusal::place(why) as u64,
     }
 }
 

@@ -35,7 +35,7 @@ pub fn first_round(answer: FirstRound) -> FirstRoundOutcome
             position: position as u32,
         },
         FirstRound::Refused(why) => FirstRoundOutcome {
-            refusal: refusal_number::number(why),
+            refusal: refusal::number(why),
             ask: 0,
             value: 0,
             position: 0,

@@ -1,7 +1,7 @@
 // The number of a refusal, and the place that it carries (document 01, "Refusal numbers"; document 02, request 1), for callers that take numbers.
 ghost use mathlib.Core.Path.{_≡_};
 ghost use Rattle.refusal.specs.Answers.{reasonOf, numberIn, placeIn};
-use refusal::Refusal;
+use crate::Refusal;
 
 // The number of a refusal.
 pub fn number(why: Refusal) -> u32

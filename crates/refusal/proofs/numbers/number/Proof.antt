@@ -1,9 +1,9 @@
--- `refusal_number::number` meets its contract.
+-- `refusal::numbers::number` meets its contract.
 -- Assumes nothing.
 use mathlib.Core.Path.{refl}
 use borrow.Author.Needs.{needs}
-use Rattle.refusal_number.proofs.number.Statement.{statement}
-use Rattle.refusal_number.proofs.number.Tie as tie
+use Rattle.refusal.proofs.numbers.number.Statement.{statement}
+use Rattle.refusal.proofs.numbers.number.Tie as tie
 
 enum-told : tie.Need-enum-told
 enum-told c = search needs

@@ -1,10 +1,10 @@
--- `refusal_number::place` meets its contract.
+-- `refusal::numbers::place` meets its contract.
 -- Assumes nothing.
 use mathlib.Core.Path.{refl}
 use borrow.Author.Needs.{needs}
-use Rattle.refusal_number.proofs.Places.{unplaced}
-use Rattle.refusal_number.proofs.place.Statement.{statement}
-use Rattle.refusal_number.proofs.place.Tie as tie
+use Rattle.refusal.proofs.numbers.Places.{unplaced}
+use Rattle.refusal.proofs.numbers.place.Statement.{statement}
+use Rattle.refusal.proofs.numbers.place.Tie as tie
 
 enum-known-why : tie.Need-enum-known-why
 enum-known-why c = search needs
