@@ -2,8 +2,8 @@
 // passed by value through each step. SubBytes is taken with the step after it, by a table: in a round, what a byte brings to its mixed column
 // is looked up as one word of 32 bits. From round to round a column is such a word, so that the compiler keeps it in a register.
 
-mod columns;
-mod keys;
+mod columns; // columns of the state as words of 32 bits
+mod keys; // the round keys of the cipher and of the equivalent inverse cipher
 
 use crate::columns::column;
 use crate::columns::turn;

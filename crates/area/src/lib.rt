@@ -12,8 +12,8 @@ ghost use Rattle.area_format.specs.Names.{sameFields};
 ghost use Rattle.area.specs.Area.{areaAnswerOf};
 ghost use Rattle.area.specs.Internal.{walkedCount, walkedAs, allowed};
 
-mod network;
-mod reader;
+mod network; // network names compared by their fields
+mod reader; // the attributes of an area, read one at a time
 
 use crate::network::same_fields;
 use crate::reader::Step;

@@ -11,7 +11,7 @@ ghost use Rattle.compare_rules.specs.Compare.{listed, written, compareAnswer, c
 ghost use Rattle.bundle_compare.specs.Answers.{answerIn, countsIn};
 ghost use Rattle.bundle_compare.specs.Internal.{countTo, entriesTo};
 
-mod kinds;
+mod kinds; // the kinds of the lines of two bundles
 
 use crate::kinds::find_kinds;
 use bundle_contents::number_at;

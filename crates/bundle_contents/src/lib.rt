@@ -6,9 +6,9 @@ ghost use Rattle.refusal.specs.Answers.{checkedAs};
 ghost use Rattle.bundle_contents.specs.Internal.{Inside};
 ghost use Rattle.bundle_rules.specs.Bundle.{contentsEnd, idStands, idRepeats, linesFrom, follow, lastEnd, idsOf, bodiesCheck, bundleCheck};
 
-mod body;
-mod digits;
-mod ids;
+mod body; // a body held against its line
+mod digits; // the numbers of the table of contents
+mod ids; // Key IDs compared, by words
 
 use crate::body::check_body;
 pub use digits::lines_length;

@@ -8,7 +8,7 @@ ghost use Rattle.refusal.specs.Answers.{answerOf};
 ghost use Rattle.slices.specs.Numbers as Numbers;
 ghost use Rattle.bundle_rules.specs.Bundle.{contentsEnd, linesOf, packed, framesCheck, writeAnswer, writeBuffer};
 
-mod packing;
+mod packing; // attributes packed end to end, taken apart and tested
 
 use crate::packing::body_length;
 use crate::packing::check_packed;

@@ -22,7 +22,7 @@ ghost use Rattle.handover_rules.specs.Handover.{
 };
 ghost use Rattle.handover.specs.Internal.{IsText};
 
-mod texts;
+mod texts; // what is hashed
 
 use crate::texts::name_text;
 use crate::texts::r0_text;

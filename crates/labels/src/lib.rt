@@ -1,4 +1,5 @@
-// Tests of a label: document 01's numbers 2 and 3 ("Refusal numbers"), and document 02's 32. This is the one place that tests them.
+// Tests of texts. Those of a label are document 01's numbers 2 and 3 ("Refusal numbers"), and document 02's 32; those of server IDs and domains are 7 and 8.
+// This is the one place that tests them.
 ghost use mathlib.Core.Path.{_≡_};
 ghost use mathlib.Core.Bool.{true};
 ghost use lib.ListN.{length};
@@ -6,10 +7,10 @@ ghost use Rattle.labels.specs.Checks.{labelCheck, check32};
 ghost use Rattle.refusal.specs.Answers.{checkedAs};
 ghost use Rattle.refusal.specs.Checks.{within};
 
-mod charset;
-mod fixed;
-mod identifiers;
-mod syntax;
+mod charset; // which bytes a text may hold, and its form
+mod fixed; // the labels that the papers fix: exempt from the syntax, and 31
+mod identifiers; // the tests of server IDs and domains: 7 and 8
+mod syntax; // the syntax of a label
 
 use crate::charset::ByteSet;
 use crate::charset::Form;

@@ -1,5 +1,5 @@
 // Signs a RADIUS packet and checks one: the Message-Authentication-Code attribute of MAC Type 2, HMAC-SHA-256 (request 8; source
-// document 004, section 3.3). The definitions are those of the crate `packet`.
+// document 004, section 3.3). The definitions are those of `packet_rules`.
 ghost use mathlib.Core.Path.{_≡_};
 ghost use Prim.Native.Nat.{_+_, _≤_};
 ghost use lib.ListN.{length, replicate};
@@ -8,7 +8,7 @@ ghost use Rattle.refusal.specs.Answers.{checkedAs, answerOf};
 ghost use Rattle.hmac.specs.Rfc2104.{hmacSha256};
 ghost use Rattle.packet_rules.specs.Mac.{withMac, signAnswer, signBuffer, checkCheck};
 
-mod attributes;
+mod attributes; // the walk through a packet's attributes, and its tests
 
 use crate::attributes::Place;
 use refusal::Checked;

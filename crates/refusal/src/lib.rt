@@ -10,7 +10,7 @@ ghost use Rattle.refusal.specs.Answers.{reasonOf, checkedAs, answerOf, a
 // its paper: 1 to 28 those of document 01, 29 to 50 those of document 02, with the request in brackets. No call gives a number of a request
 // that has not landed. `reasonOf` of specs/Answers.antt gives each its number, and the place that it carries.
 
-mod numbers;
+mod numbers; // the number and the place of a refusal
 
 pub use numbers::number;
 pub use numbers::place;

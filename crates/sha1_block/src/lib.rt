@@ -7,8 +7,8 @@ ghost use Rattle.fips180.specs.Words.{word};
 ghost use Rattle.fips180.specs.Sha1 as Sha1;
 ghost use Rattle.fips180.specs.Window.{window};
 
-mod round;
-mod window;
+mod round; // a word of the schedule and a round
+mod window; // the rounds between two refills of the window, of one function each
 
 use crate::round::kept;
 use crate::round::next_word;

@@ -11,7 +11,7 @@ ghost use Rattle.sha256.specs.Stream.{progress, started, startedAfter, a
 ghost use Rattle.fips180.specs.Internal.{begunBlock};
 ghost use Rattle.sha256.specs.Internal.{parts, closing, partAt};
 
-mod value;
+mod value; // the hash value: the first one, those after whole blocks, and its bytes
 
 use crate::value::H0;
 use crate::value::of_blocks;

@@ -7,9 +7,9 @@ ghost use Rattle.fips180.specs.Words.{word};
 ghost use Rattle.fips180.specs.Sha256 as Sha256;
 ghost use Rattle.sha256_block.specs.Internal as Internal;
 
-mod constants;
-mod round;
-mod window;
+mod constants; // the constants, looked up
+mod round; // a word of the schedule and a round
+mod window; // sixteen rounds: those over one window of the schedule
 
 use crate::constants::constant;
 use crate::round::next_word;
