@@ -8,7 +8,7 @@ pub mod slot_tables;
 
 ghost use mathlib.Core.Path.{_≡_};
 ghost use Rattle.refusal.specs.Answers.{reasonOf, answerOf, checkedAs};
-ghost use Rattle.outcome.specs.Outcomes.{outcomeOf, refusedOutcome, checkOutcome};
+ghost use Rattle.outcome.specs.Outcomes.{outcomeOf, acceptedOutcome, refusedOutcome, checkOutcome};
 use refusal::Checked;
 use refusal::Refusal;
 use refusal::Written;
@@ -31,15 +31,22 @@ pub fn refused(why: Refusal) -> Outcome
     }
 }
 
+// Acceptance, for C.
+pub(crate) fn accepted(n: u64) -> Outcome
+    ensures { λ r. ⌜ r ≡ acceptedOutcome n ⌝ }
+{
+    Outcome {
+        refusal: 0,
+        value: n,
+    }
+}
+
 // The answer of a call that writes, for C.
 pub fn returned(answer: Written) -> Outcome
     ensures { λ r. ⌜ r ≡ outcomeOf (answerOf answer) ⌝ }
 {
     match answer {
-        Written::Wrote(n) => Outcome {
-            refusal: 0,
-            value: n as u64,
-        },
+        Written::Wrote(n) => accepted(n as u64),
         Written::Refused(why) => refused(why),
     }
 }
@@ -49,10 +56,7 @@ pub fn checked(check: Checked) -> Outcome
     ensures { λ r. ⌜ r ≡ checkOutcome (checkedAs check) ⌝ }
 {
     match check {
-        Checked::Passed => Outcome {
-            refusal: 0,
-            value: 0,
-        },
+        Checked::Passed => accepted(0),
         Checked::Failed(why) => refused(why),
     }
 }

@@ -21,10 +21,7 @@ pub fn returned(answer: SlotAnswer) -> Outcome
     ensures { λ r. ⌜ r ≡ outcomeOf (answerOf answer) ⌝ }
 {
     match answer {
-        SlotAnswer::Number(n) => Outcome {
-            refusal: 0,
-            value: n,
-        },
+        SlotAnswer::Number(n) => crate::accepted(n),
         SlotAnswer::Refused(why) => crate::refused(why),
     }
 }
