@@ -16,9 +16,9 @@ pub extern "C" fn kv_put_slot(slots: Slots, name: Name, parent: u64) -> SlotsOut
     ensures table { λ r. ⌜ tableOf (r .slots) ≡ putTable (tableOf slots) name (parentFor parent) ⌝ }
 {
     let put = slots::put(slots, name, outcome::slot_tables::parent_for(parent));
+    let next = put.slots;
     let said = put.answer;
     let answer = outcome::slot_tables::returned(said);
-    let next = put.slots;
     SlotsOutcome {
         refusal: answer.refusal,
         value: answer.value,
@@ -33,9 +33,9 @@ pub extern "C" fn kv_drop_slot(slots: Slots, number: u64) -> SlotsOutcome
     ensures table { λ r. ⌜ tableOf (r .slots) ≡ dropTable (tableOf slots) number ⌝ }
 {
     let dropped = slots::drop(slots, number);
+    let left = dropped.slots;
     let said = dropped.answer;
     let answer = outcome::slot_tables::returned(said);
-    let left = dropped.slots;
     SlotsOutcome {
         refusal: answer.refusal,
         value: answer.value,

@@ -9,9 +9,8 @@ use Rattle.ketvaulo.proofs.slot_tables.kv_drop_slot.Tie as tie
 
 returns : tie.Need-returns
 returns c =
-    let r = c .before in
-    let p = r .before .drop .ensures in
-    let e = r .returned .ensures ∙ ap outcomeOf (p .0) in
+    let p = c .before .before .drop .ensures in
+    let e = c .returned .ensures ∙ ap outcomeOf (p .0) in
     (λ i. slotsOutcome (e i) (p .1 .0 i), p .1 .1)
 
 pub kv-drop-slot-spec : {M : Type 1} → statement M

@@ -11,11 +11,11 @@ use Rattle.ketvaulo.proofs.slot_tables.kv_put_slot.Tie as tie
 
 returns : tie.Need-returns
 returns c =
-    let r = c .before in
-    let a = r .before .before .before .args in
-    let q = r .before .before .parent-for .ensures in
-    let p = r .before .put .ensures in
-    let e = r .returned .ensures ∙ ap outcomeOf (p .0 ∙ ap (putAnswer (tableOf (a .slots))) q) in
+    let b = c .before .before in
+    let a = b .before .before .args in
+    let q = b .before .parent-for .ensures in
+    let p = b .put .ensures in
+    let e = c .returned .ensures ∙ ap outcomeOf (p .0 ∙ ap (putAnswer (tableOf (a .slots))) q) in
     let s = p .1 .0 ∙ ap (putStored (a .slots) (a .name)) q in
     (λ i. slotsOutcome (e i) (s i), p .1 .1 ∙ ap (putTable (tableOf (a .slots)) (a .name)) q)
 
