@@ -15,18 +15,6 @@ use Rattle.slots.proofs.check_put.Tie as tie
 stored : (s : tie.Start) → Fits (s .args .slots)
 stored s = search (needs, length-mapped)
 
-check-parent-requires : tie.Need-check-parent-requires
-check-parent-requires c κs = search needs
-
-lowest-free-requires : tie.Need-lowest-free-requires
-lowest-free-requires c κs = search needs
-
-unless-requires : tie.Need-unless-requires
-unless-requires c κs = search needs
-
-then-check-requires : tie.Need-then-check-requires
-then-check-requires c κs = search needs
-
 returns : tie.Need-returns
 unfolding putCheck
 returns c =
@@ -40,9 +28,4 @@ returns c =
 pub check-put-spec : {M : Type 1} → statement M
 check-put-spec =
     tie.close
-    (tie.spec
-    check-parent-requires
-    lowest-free-requires
-    unless-requires
-    then-check-requires
-    returns)
+    (tie.spec (λ c κs. search needs) (λ c κs. search needs) (λ c κs. search needs) (λ c κs. search needs) returns)

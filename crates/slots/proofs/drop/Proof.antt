@@ -24,9 +24,6 @@ found c =
     let s = c .before .before in
     live (s .args .slots) (stored s) (s .args .number) ∙ sym (c .before .has-digit .ensures) ∙ c .if1 .taken
 
-has-digit-requires : tie.Need-has-digit-requires
-has-digit-requires c κs = search needs
-
 gone-requires : tie.Need-gone-requires
 gone-requires c κs = found c
 
@@ -57,4 +54,4 @@ returns-2 c =
     (drop-none (a .slots) (a .number) dead, (e, ap tableOf e ∙ drop-stored (a .slots) (stored s) (a .number)))
 
 pub drop-spec : {M : Type 1} → statement M
-drop-spec = tie.close (tie.spec has-digit-requires gone-requires cast-went returns returns-2)
+drop-spec = tie.close (tie.spec (λ c κs. search needs) gone-requires cast-went returns returns-2)

@@ -20,18 +20,6 @@ use Rattle.slots.proofs.put.Tie as tie
 stored : (s : tie.Start) → Fits (s .args .slots)
 stored s = search (needs, length-mapped)
 
-check-put-requires : tie.Need-check-put-requires
-check-put-requires c κs = search needs
-
-enum-known-check : tie.Need-enum-known-check
-enum-known-check c = search needs
-
-enum-told : tie.Need-enum-told
-enum-told c = search needs
-
-lowest-free-requires : tie.Need-lowest-free-requires
-lowest-free-requires c κs = search needs
-
 -- the tests passed, so that a slot is free and the parent fits a byte
 passed : (c : tie.After-enum-told) → let a = c .before .before .before .args in putCheck (tableOf (a .slots)) (a .parent) ≡ pass
 passed c = sym (c .before .before .check-put .ensures) ∙ ap checkedAs (c .enum-told .given .1)
@@ -42,17 +30,8 @@ found c =
     let h : lowestFree (tableOf (s .args .slots)) < 64 = room (s .args .slots) (stored s) (s .args .parent) (passed (c .before)) in
     rw (c .lowest-free .ensures) h
 
-cast-number : tie.Need-cast-number
-cast-number c = search needs
-
-cast-at : tie.Need-cast-at
-cast-at c = search needs
-
 power-requires : tie.Need-power-requires
 power-requires c κs = found c
-
-mul-name : tie.Need-mul-name
-mul-name c = search needs
 
 element-set-from-name : tie.Need-element-set-from-name
 element-set-from-name c = let h = found (c .before .before) in omega arith
@@ -94,17 +73,6 @@ returns-2 c =
 pub put-spec : {M : Type 1} → statement M
 put-spec =
     tie.close
-    (tie.spec
-    check-put-requires
-    enum-known-check
-    enum-told
-    lowest-free-requires
-    cast-number
-    cast-at
-    power-requires
-    mul-name
-    element-set-from-name
-    parent-byte-requires
-    element-write-next
-    returns
-    returns-2)
+    (tie.spec (λ c κs. search needs) (λ c. search needs) (λ c. search needs) (λ c κs. search needs) (λ c. search needs)
+    (λ c. search needs) power-requires (λ c. search needs) element-set-from-name parent-byte-requires element-write-next
+    returns returns-2)

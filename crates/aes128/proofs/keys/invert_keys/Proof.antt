@@ -20,33 +20,6 @@ abbrev μ-loop : tie.MeasureT-loop
 loop-holds : tie.Need-loop-holds Inv-loop μ-loop
 loop-holds c = (omega arith, omega arith, refl, sym (kept-none _))
 
-cast-inv-mix-columns : tie.Need-cast-inv-mix-columns Inv-loop μ-loop
-cast-inv-mix-columns c = search needs
-
-mul-inv-mix-columns : tie.Need-mul-inv-mix-columns Inv-loop μ-loop
-mul-inv-mix-columns c = search needs
-
-element-copy-out-inv-mix-columns : tie.Need-element-copy-out-inv-mix-columns Inv-loop μ-loop
-element-copy-out-inv-mix-columns c = search needs
-
-inv-mix-columns-requires : tie.Need-inv-mix-columns-requires Inv-loop μ-loop
-inv-mix-columns-requires c κs = search needs
-
-cast-k : tie.Need-cast-k Inv-loop μ-loop
-cast-k c = search needs
-
-mul-k : tie.Need-mul-k Inv-loop μ-loop
-mul-k c = search needs
-
-element-set-from-k : tie.Need-element-set-from-k Inv-loop μ-loop
-element-set-from-k c = search needs
-
-add-i : tie.Need-add-i Inv-loop μ-loop
-add-i c = search needs
-
-loop-less : tie.Need-loop-less Inv-loop μ-loop
-loop-less c = search needs
-
 loop-again : tie.Need-loop-again Inv-loop μ-loop
 loop-again c =
     let p = c .before .before .before in
@@ -66,18 +39,6 @@ returns c =
 pub invert-keys-spec : {M : Type 1} → statement M
 invert-keys-spec =
     tie.close
-    (tie.spec
-    Inv-loop
-    μ-loop
-    loop-holds
-    cast-inv-mix-columns
-    mul-inv-mix-columns
-    element-copy-out-inv-mix-columns
-    inv-mix-columns-requires
-    cast-k
-    mul-k
-    element-set-from-k
-    add-i
-    loop-less
-    loop-again
-    returns)
+    (tie.spec Inv-loop μ-loop loop-holds (λ c. search needs) (λ c. search needs) (λ c. search needs)
+    (λ c κs. search needs) (λ c. search needs) (λ c. search needs) (λ c. search needs) (λ c. search needs)
+    (λ c. search needs) loop-again returns)

@@ -9,12 +9,6 @@ use borrow.Author.Needs.{needs}
 use Rattle.aes128.proofs.keys.next_constant.Statement.{statement}
 use Rattle.aes128.proofs.keys.next_constant.Tie as tie
 
-mul-result : tie.Need-mul-result
-mul-result c = search needs
-
-mul-result-2 : tie.Need-mul-result-2
-mul-result-2 c = search needs
-
 returns : tie.Need-returns
 unfolding xtime
 returns c =
@@ -24,4 +18,4 @@ returns c =
     ap₂ bitXor p q
 
 pub next-constant-spec : {M : Type 1} → statement M
-next-constant-spec = tie.close (tie.spec mul-result mul-result-2 returns)
+next-constant-spec = tie.close (tie.spec (λ c. search needs) (λ c. search needs) returns)

@@ -22,18 +22,6 @@ ended c =
     let two : c .field-ends2 .result ≡ ends (drop (c .before .before .least .result) (now (a .b))) = c .field-ends2 .ensures in
     λ i. one i && two i
 
-least-requires : tie.Need-least-requires
-least-requires c κs = search needs
-
-field-ends-requires : tie.Need-field-ends-requires
-field-ends-requires c κs = search needs
-
-field-ends-requires-2 : tie.Need-field-ends-requires-2
-field-ends-requires-2 c κs = search needs
-
-same-start-requires : tie.Need-same-start-requires
-same-start-requires c κs = search needs
-
 returns : tie.Need-returns
 returns c =
     let k = c .before in
@@ -50,10 +38,5 @@ returns-2 c =
 pub same-fields-spec : {M : Type 1} → statement M
 same-fields-spec =
     tie.close
-    (tie.spec
-    least-requires
-    field-ends-requires
-    field-ends-requires-2
-    same-start-requires
-    returns
+    (tie.spec (λ c κs. search needs) (λ c κs. search needs) (λ c κs. search needs) (λ c κs. search needs) returns
     returns-2)

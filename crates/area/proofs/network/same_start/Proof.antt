@@ -7,20 +7,11 @@ use borrow.Author.Needs.{needs}
 use Rattle.area.proofs.network.same_start.Statement.{statement}
 use Rattle.area.proofs.network.same_start.Tie as tie
 
-cast-few : tie.Need-cast-few
-cast-few c = search needs
-
-same-front-requires : tie.Need-same-front-requires
-same-front-requires c κs = search needs
-
 slice-aggregate-same-bytes : tie.Need-slice-aggregate-same-bytes
 slice-aggregate-same-bytes c = sym (length-take-le _ _ (omega arith))
 
 slice-aggregate-same-bytes-2 : tie.Need-slice-aggregate-same-bytes-2
 slice-aggregate-same-bytes-2 c = sym (length-take-le _ _ (omega arith))
-
-same-bytes-requires : tie.Need-same-bytes-requires
-same-bytes-requires c κs = search needs
 
 returns : tie.Need-returns
 returns c = c .same-front .ensures
@@ -31,11 +22,5 @@ returns-2 c = c .same-bytes .ensures
 pub same-start-spec : {M : Type 1} → statement M
 same-start-spec =
     tie.close
-    (tie.spec
-    cast-few
-    same-front-requires
-    slice-aggregate-same-bytes
-    slice-aggregate-same-bytes-2
-    same-bytes-requires
-    returns
-    returns-2)
+    (tie.spec (λ c. search needs) (λ c κs. search needs) slice-aggregate-same-bytes slice-aggregate-same-bytes-2
+    (λ c κs. search needs) returns returns-2)

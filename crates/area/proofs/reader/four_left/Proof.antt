@@ -15,9 +15,6 @@ use Rattle.area.proofs.reader.four_left.Tie as tie
 returns : tie.Need-returns
 returns c = let a = c .before .args in sym (lt-leb (a .at + 4) (length (now (a .area))) (omega (arith, c .if1 .taken)))
 
-sub-result : tie.Need-sub-result
-sub-result c = search needs
-
 returns-2 : tie.Need-returns-2
 returns-2 c =
     let a = c .before .args in
@@ -27,4 +24,4 @@ returns-2 c =
     (λ h. let l : a .at + 4 ≤ n = leb-true _ _ h in le-leb (a .at) (n - 4) (omega arith))
 
 pub four-left-spec : {M : Type 1} → statement M
-four-left-spec = tie.close (tie.spec returns sub-result returns-2)
+four-left-spec = tie.close (tie.spec returns (λ c. search needs) returns-2)

@@ -7,16 +7,10 @@ use borrow.Author.Needs.{needs}
 use Rattle.area.proofs.reader.in_bounds.Statement.{statement}
 use Rattle.area.proofs.reader.in_bounds.Tie as tie
 
-length-in-requires : tie.Need-length-in-requires
-length-in-requires c κs = search needs
-
-in-bytes-requires : tie.Need-in-bytes-requires
-in-bytes-requires c κs = search needs
-
 returns : tie.Need-returns
 returns c =
     let k = c .before .before .before in
     rw (c .before .before .in-bytes .ensures, k .length-in .ensures .0) (sym (long-enough (now (k .before .before .args .bytes)) (k .before .before .pre)))
 
 pub in-bounds-spec : {M : Type 1} → statement M
-in-bounds-spec = tie.close (tie.spec length-in-requires in-bytes-requires returns)
+in-bounds-spec = tie.close (tie.spec (λ c κs. search needs) (λ c κs. search needs) returns)

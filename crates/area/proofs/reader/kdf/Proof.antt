@@ -26,20 +26,8 @@ one t = omega (arith, words (t .before .before), t .if1 .taken)
 size : (k : tie.After-in-bytes) → k .in-bytes .result .0 ≡ inBytes (wordsOf (now (k .before .before .before .before .before .args .bytes))) .0
 size k = ap (λ (b : Bytes). b .0) (k .in-bytes .ensures ∙ ap inBytes (k .before .before .before .length-in .ensures .0))
 
-length-in-requires : tie.Need-length-in-requires
-length-in-requires c κs = search needs
-
-in-bytes-requires : tie.Need-in-bytes-requires
-in-bytes-requires c κs = search needs
-
 add-next : tie.Need-add-next
 add-next c = omega (arith, size (c .before), one (c .before .before), c .before .before .before .before .before .before .pre .0, c .before .before .before .before .before .before .pre .1)
-
-number-in-requires : tie.Need-number-in-requires
-number-in-requires c κs = search needs
-
-past-requires : tie.Need-past-requires
-past-requires c κs = search needs
 
 returns : tie.Need-returns
 returns c =
@@ -59,11 +47,5 @@ returns-2 c =
 pub kdf-spec : {M : Type 1} → statement M
 kdf-spec =
     tie.close
-    (tie.spec
-    length-in-requires
-    in-bytes-requires
-    add-next
-    number-in-requires
-    past-requires
-    returns
-    returns-2)
+    (tie.spec (λ c κs. search needs) (λ c κs. search needs) add-next (λ c κs. search needs) (λ c κs. search needs)
+    returns returns-2)

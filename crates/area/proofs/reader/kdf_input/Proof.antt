@@ -26,32 +26,11 @@ agrees c = let k = c .before .before .before in omega (arith, size k, name k)
 padded : (c : tie.After-zeros) → zeros (padding (now (c .before .before .before .before .before .before .before .before .args .bytes)) (numberIn (now (c .before .before .before .before .before .before .before .before .args .bytes)))) ≡ c .zeros .result
 padded c = let k = c .before .before .before .before in rw (← size k, ← name k) (sym (c .zeros .ensures))
 
-length-in-requires : tie.Need-length-in-requires
-length-in-requires c κs = search needs
-
-in-bytes-requires : tie.Need-in-bytes-requires
-in-bytes-requires c κs = search needs
-
-number-in-requires : tie.Need-number-in-requires
-number-in-requires c κs = search needs
-
-cast-if2 : tie.Need-cast-if2
-cast-if2 c = search needs
-
-add-start : tie.Need-add-start
-add-start c = search needs
-
 returns : tie.Need-returns
 returns c = let k = c .before .before in length-disagrees _ (λ w. omega (arith, w, size k, name k))
 
 returns-2 : tie.Need-returns-2
 returns-2 c = let k = c .before .before .before in length-disagrees _ (λ w. omega (arith, w, size k, name k))
-
-cast-from : tie.Need-cast-from
-cast-from c = search needs
-
-cast-to : tie.Need-cast-to
-cast-to c = search needs
 
 zeros-requires : tie.Need-zeros-requires
 zeros-requires c κs = let k = c .before .before .before in (omega arith, omega (arith, size k))
@@ -69,16 +48,5 @@ returns-4 c =
 pub kdf-input-spec : {M : Type 1} → statement M
 kdf-input-spec =
     tie.close
-    (tie.spec
-    length-in-requires
-    in-bytes-requires
-    number-in-requires
-    cast-if2
-    add-start
-    returns
-    returns-2
-    cast-from
-    cast-to
-    zeros-requires
-    returns-3
-    returns-4)
+    (tie.spec (λ c κs. search needs) (λ c κs. search needs) (λ c κs. search needs) (λ c. search needs)
+    (λ c. search needs) returns returns-2 (λ c. search needs) (λ c. search needs) zeros-requires returns-3 returns-4)

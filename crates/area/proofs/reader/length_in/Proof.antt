@@ -6,9 +6,6 @@ use borrow.Author.Needs.{needs}
 use Rattle.area.proofs.reader.length_in.Statement.{statement}
 use Rattle.area.proofs.reader.length_in.Tie as tie
 
-shared-slice-read-t3 : tie.Need-shared-slice-read-t3
-shared-slice-read-t3 c = search needs
-
 cast-t4 : tie.Need-cast-t4
 cast-t4 c = omega (arith, c .shared-slice-known .given 1)
 
@@ -16,4 +13,4 @@ returns : tie.Need-returns
 returns c = (refl, omega (arith, c .shared-slice-known .given 1))
 
 pub length-in-spec : {M : Type 1} → statement M
-length-in-spec = tie.close (tie.spec shared-slice-read-t3 cast-t4 returns)
+length-in-spec = tie.close (tie.spec (λ c. search needs) cast-t4 returns)

@@ -8,18 +8,6 @@ use borrow.Author.Needs.{needs}
 use Rattle.area.proofs.reader.met.Statement.{statement}
 use Rattle.area.proofs.reader.met.Tie as tie
 
-shared-slice-read-match : tie.Need-shared-slice-read-match
-shared-slice-read-match c = search needs
-
-kdf-requires : tie.Need-kdf-requires
-kdf-requires c κs = search needs
-
-named-requires : tie.Need-named-requires
-named-requires c κs = search needs
-
-past-requires : tie.Need-past-requires
-past-requires c κs = search needs
-
 returns : tie.Need-returns
 returns c = let a = c .before .before .before .before .args in c .kdf .ensures ∙ by-type (a .at) (now (a .bytes)) (type-24 (now (a .bytes)) (c .before .match .keys1))
 
@@ -32,11 +20,5 @@ returns-3 c = let a = c .before .before .before .before .args in c .past .ensure
 pub met-spec : {M : Type 1} → statement M
 met-spec =
     tie.close
-    (tie.spec
-    shared-slice-read-match
-    kdf-requires
-    named-requires
-    past-requires
-    returns
-    returns-2
+    (tie.spec (λ c. search needs) (λ c κs. search needs) (λ c κs. search needs) (λ c κs. search needs) returns returns-2
     returns-3)

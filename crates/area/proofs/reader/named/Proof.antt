@@ -18,15 +18,6 @@ held k = sym (k .before .in-bounds .ensures) ∙ k .if1 .taken
 size : (k : tie.After-in-bytes) → k .in-bytes .result .0 ≡ inBytes (wordsOf (now (k .before .before .before .before .before .args .bytes))) .0
 size k = ap (λ (b : Bytes). b .0) (k .in-bytes .ensures ∙ ap inBytes (k .before .length-in .ensures .0))
 
-in-bounds-requires : tie.Need-in-bounds-requires
-in-bounds-requires c κs = search needs
-
-length-in-requires : tie.Need-length-in-requires
-length-in-requires c κs = search needs
-
-in-bytes-requires : tie.Need-in-bytes-requires
-in-bytes-requires c κs = search needs
-
 add-next : tie.Need-add-next
 add-next c = let h = not-past _ (held (c .before .before .before)) in omega (arith, size (c .before), c .before .before .before .before .before .before .pre .1)
 
@@ -47,11 +38,5 @@ returns-2 c =
 pub named-spec : {M : Type 1} → statement M
 named-spec =
     tie.close
-    (tie.spec
-    in-bounds-requires
-    length-in-requires
-    in-bytes-requires
-    add-next
-    kdf-input-requires
-    returns
+    (tie.spec (λ c κs. search needs) (λ c κs. search needs) (λ c κs. search needs) add-next kdf-input-requires returns
     returns-2)

@@ -20,26 +20,17 @@ words k = ap (λ (w : Words). w .0) (k .length-in .ensures .0)
 size : (k : tie.After-in-bytes) → k .in-bytes .result .0 ≡ inBytes (wordsOf (now (k .before .before .before .before .before .args .bytes))) .0
 size k = ap (λ (b : Bytes). b .0) (k .in-bytes .ensures ∙ ap inBytes (k .before .before .before .length-in .ensures .0))
 
-length-in-requires : tie.Need-length-in-requires
-length-in-requires c κs = search needs
-
 returns : tie.Need-returns
 returns c =
     let k = c .before .before in
     let a = k .before .before .args in
     is-past (a .at) (now (a .bytes)) (a .met) (no-length (now (a .bytes)) (k .before .before .pre .0) (omega (arith, words k, c .if1 .taken)))
 
-in-bytes-requires : tie.Need-in-bytes-requires
-in-bytes-requires c κs = search needs
-
 returns-2 : tie.Need-returns-2
 returns-2 c =
     let a = c .before .before .before .before .before .before .args in
     let long : length (now (a .bytes)) < inBytes (wordsOf (now (a .bytes))) .0 = omega (arith, size (c .before), c .if2 .taken) in
     is-past (a .at) (now (a .bytes)) (a .met) (goes-past (now (a .bytes)) (c .before .before .before .before .before .before .pre .0) long)
-
-add-next : tie.Need-add-next
-add-next c = search needs
 
 returns-3 : tie.Need-returns-3
 returns-3 c =
@@ -51,4 +42,4 @@ returns-3 c =
 
 pub past-spec : {M : Type 1} → statement M
 past-spec =
-    tie.close (tie.spec length-in-requires returns in-bytes-requires returns-2 add-next returns-3)
+    tie.close (tie.spec (λ c κs. search needs) returns (λ c κs. search needs) returns-2 (λ c. search needs) returns-3)

@@ -20,17 +20,11 @@ four c = leb-true _ _ (sym (c .before .four-left .ensures) ∙ c .if1 .taken)
 fewer : (c : tie.Else1) → length (now (c .before .before .before .args .area)) < c .before .before .before .args .at + 4
 fewer c = leb-false _ _ (sym (c .before .four-left .ensures) ∙ c .if1 .left)
 
-four-left-requires : tie.Need-four-left-requires
-four-left-requires c κs = search needs
-
 sub-met : tie.Need-sub-met
 sub-met c = omega (arith, four c)
 
 part-met-start : tie.Need-part-met-start
 part-met-start c = let h = four c in search needs
-
-part-met-end : tie.Need-part-met-end
-part-met-end c = search needs
 
 met-requires : tie.Need-met-requires
 met-requires c κs =
@@ -53,12 +47,5 @@ returns-3 c = step-end _ _ (c .if2 .left)
 pub step-at-spec : {M : Type 1} → statement M
 step-at-spec =
     tie.close
-    (tie.spec
-    four-left-requires
-    sub-met
-    part-met-start
-    part-met-end
-    met-requires
-    returns
-    returns-2
+    (tie.spec (λ c κs. search needs) sub-met part-met-start (λ c. search needs) met-requires returns returns-2
     returns-3)

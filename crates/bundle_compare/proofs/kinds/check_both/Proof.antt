@@ -7,18 +7,6 @@ use borrow.Author.Needs.{needs}
 use Rattle.bundle_compare.proofs.kinds.check_both.Statement.{statement}
 use Rattle.bundle_compare.proofs.kinds.check_both.Tie as tie
 
-check-bundle-requires : tie.Need-check-bundle-requires
-check-bundle-requires c κs = search needs
-
-enum-known-why : tie.Need-enum-known-why
-enum-known-why c = search needs
-
-enum-told : tie.Need-enum-told
-enum-told c = search needs
-
-check-bundle-requires-2 : tie.Need-check-bundle-requires-2
-check-bundle-requires-2 c κs = search needs
-
 returns : tie.Need-returns
 returns c = first-refuses _ _ (sym (c .before .before .before .check-bundle .ensures) ∙ ap checkedAs (c .before .why .given .1))
 
@@ -28,10 +16,4 @@ returns-2 c = c .check-bundle2 .ensures ∙ second-decides _ _ (sym (c .before .
 pub check-both-spec : {M : Type 1} → statement M
 check-both-spec =
     tie.close
-    (tie.spec
-    check-bundle-requires
-    enum-known-why
-    enum-told
-    check-bundle-requires-2
-    returns
-    returns-2)
+    (tie.spec (λ c κs. search needs) (λ c. search needs) (λ c. search needs) (λ c κs. search needs) returns returns-2)

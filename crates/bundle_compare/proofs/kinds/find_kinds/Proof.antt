@@ -11,15 +11,6 @@ use Rattle.bundle_compare.proofs.kinds.Finding.{none-found, both-found}
 use Rattle.bundle_compare.proofs.kinds.find_kinds.Statement.{statement}
 use Rattle.bundle_compare.proofs.kinds.find_kinds.Tie as tie
 
-check-both-requires : tie.Need-check-both-requires
-check-both-requires c κs = search needs
-
-enum-known-why : tie.Need-enum-known-why
-enum-known-why c = search needs
-
-enum-told : tie.Need-enum-told
-enum-told c = search needs
-
 -- both files pass
 passed : (c : tie.After-enum-told) → let x = c .before .before .before .before .before .before .before .args in (bundleCheck (now (x .first)) ≡ pass) × (bundleCheck (now (x .second)) ≡ pass)
 passed c = let e = sym (c .before .before .check-both .ensures) ∙ ap checkedAs (c .enum-told .given .1) in (before-passed _ _ e, last-passed _ _ e)
@@ -33,12 +24,6 @@ put-second-kinds-requires c κs = passed (c .before .before .before .before .bef
 returns : tie.Need-returns
 returns c = none-found _ _ _ _ _ _ _ (sym (c .before .before .before .check-both .ensures) ∙ ap checkedAs (c .before .why .given .1))
 
-same-length : tie.Need-same-length
-same-length c = search needs
-
-same-length-2 : tie.Need-same-length-2
-same-length-2 c = search needs
-
 returns-2 : tie.Need-returns-2
 returns-2 c =
     let k = c .before .before .before .before .before .before .before .before in
@@ -48,13 +33,5 @@ returns-2 c =
 pub find-kinds-spec : {M : Type 1} → statement M
 find-kinds-spec =
     tie.close
-    (tie.spec
-    check-both-requires
-    enum-known-why
-    enum-told
-    put-first-kinds-requires
-    put-second-kinds-requires
-    returns
-    same-length
-    same-length-2
-    returns-2)
+    (tie.spec (λ c κs. search needs) (λ c. search needs) (λ c. search needs) put-first-kinds-requires
+    put-second-kinds-requires returns (λ c. search needs) (λ c. search needs) returns-2)

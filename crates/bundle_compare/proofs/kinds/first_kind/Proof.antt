@@ -7,17 +7,8 @@ use borrow.Author.Needs.{needs}
 use Rattle.bundle_compare.proofs.kinds.first_kind.Statement.{statement}
 use Rattle.bundle_compare.proofs.kinds.first_kind.Tie as tie
 
-place-of-requires : tie.Need-place-of-requires
-place-of-requires c κs = search needs
-
-number-at-requires : tie.Need-number-at-requires
-number-at-requires c κs = search needs
-
 returns : tie.Need-returns
 returns c = let k = c .before in first-missing _ _ _ _ _ (k .before .place-of .ensures) (k .number-at .ensures .0) (c .if1 .taken)
-
-same-body-requires : tie.Need-same-body-requires
-same-body-requires c κs = search needs
 
 returns-2 : tie.Need-returns-2
 returns-2 c =
@@ -32,4 +23,4 @@ returns-3 c =
 pub first-kind-spec : {M : Type 1} → statement M
 first-kind-spec =
     tie.close
-    (tie.spec place-of-requires number-at-requires returns same-body-requires returns-2 returns-3)
+    (tie.spec (λ c κs. search needs) (λ c κs. search needs) returns (λ c κs. search needs) returns-2 returns-3)

@@ -15,26 +15,11 @@ Inv-loop first second kinds₀ n i₀ kinds i = Filled (firstKind first second) 
 abbrev μ-loop : tie.MeasureT-loop
 μ-loop first second kinds₀ n i₀ kinds i = n - i
 
-number-at-requires : tie.Need-number-at-requires Inv-loop μ-loop
-number-at-requires c κs = search needs
-
-least-requires : tie.Need-least-requires Inv-loop μ-loop
-least-requires c κs = search needs
-
 loop-holds : tie.Need-loop-holds Inv-loop μ-loop
 loop-holds c = fill-start (firstKind _ _) _ _ (c .least .ensures) (c .before .number-at .ensures .0)
 
 first-kind-requires : tie.Need-first-kind-requires Inv-loop μ-loop
 first-kind-requires c κs = (c .before .before .before .before .before .before .before .pre, omega arith)
-
-slice-write-kinds : tie.Need-slice-write-kinds Inv-loop μ-loop
-slice-write-kinds c = omega arith
-
-add-i : tie.Need-add-i Inv-loop μ-loop
-add-i c = omega arith
-
-loop-less : tie.Need-loop-less Inv-loop μ-loop
-loop-less c = omega arith
 
 loop-again : tie.Need-loop-again Inv-loop μ-loop
 loop-again c = let l = c .before .before .loop in fill-on (firstKind _ _) _ _ _ _ (l .i) _ (omega arith) (c .first-kind .ensures) (l .inv)
@@ -48,16 +33,5 @@ returns c = let l = c .before .loop in fill-end (firstKind _ _) _ _ _ _ (l .i) (
 pub put-first-kinds-spec : {M : Type 1} → statement M
 put-first-kinds-spec =
     tie.close
-    (tie.spec
-    Inv-loop
-    μ-loop
-    number-at-requires
-    least-requires
-    loop-holds
-    first-kind-requires
-    slice-write-kinds
-    add-i
-    loop-less
-    loop-again
-    same-length
-    returns)
+    (tie.spec Inv-loop μ-loop (λ c κs. search needs) (λ c κs. search needs) loop-holds first-kind-requires
+    (λ c. omega arith) (λ c. omega arith) (λ c. omega arith) loop-again same-length returns)

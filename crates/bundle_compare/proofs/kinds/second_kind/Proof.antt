@@ -5,12 +5,6 @@ use borrow.Author.Needs.{needs}
 use Rattle.bundle_compare.proofs.kinds.second_kind.Statement.{statement}
 use Rattle.bundle_compare.proofs.kinds.second_kind.Tie as tie
 
-place-of-requires : tie.Need-place-of-requires
-place-of-requires c κs = search needs
-
-number-at-requires : tie.Need-number-at-requires
-number-at-requires c κs = search needs
-
 returns : tie.Need-returns
 returns c = let k = c .before in second-missing _ _ _ _ _ (k .before .place-of .ensures) (k .number-at .ensures .0) (c .if1 .taken)
 
@@ -18,5 +12,4 @@ returns-2 : tie.Need-returns-2
 returns-2 c = let k = c .before in second-found _ _ _ _ _ (k .before .place-of .ensures) (k .number-at .ensures .0) (c .if1 .left)
 
 pub second-kind-spec : {M : Type 1} → statement M
-second-kind-spec =
-    tie.close (tie.spec place-of-requires number-at-requires returns returns-2)
+second-kind-spec = tie.close (tie.spec (λ c κs. search needs) (λ c κs. search needs) returns returns-2)

@@ -14,32 +14,11 @@ use borrow.Author.Needs.{needs}
 use Rattle.bundle_contents.proofs.body.check_body.Statement.{statement}
 use Rattle.bundle_contents.proofs.body.check_body.Tie as tie
 
-check-frame-requires : tie.Need-check-frame-requires
-check-frame-requires c κs = search needs
-
-enum-known-why : tie.Need-enum-known-why
-enum-known-why c = search needs
-
-enum-told : tie.Need-enum-told
-enum-told c = search needs
-
-sub-same-id : tie.Need-sub-same-id
-sub-same-id c = search needs
-
-part-same-id-start : tie.Need-part-same-id-start
-part-same-id-start c = search needs
-
 passes : (c : tie.After-enum-told) → frameCheck (now (c .before .before .before .before .before .args .body)) ≡ pass
 passes c = sym (c .before .before .check-frame .ensures) ∙ ap checkedAs (c .enum-told .given .1)
 
 part-same-id-end : tie.Need-part-same-id-end
 part-same-id-end c = omega (arith, sized _ (passes c) .low)
-
-same-id-requires : tie.Need-same-id-requires
-same-id-requires c κs = search needs
-
-unless-requires : tie.Need-unless-requires
-unless-requires c κs = search needs
 
 returns : tie.Need-returns
 returns c = first-refuses _ _ (sym (c .before .before .before .check-frame .ensures) ∙ ap checkedAs (c .before .why .given .1))
@@ -53,14 +32,5 @@ returns-2 c =
 pub check-body-spec : {M : Type 1} → statement M
 check-body-spec =
     tie.close
-    (tie.spec
-    check-frame-requires
-    enum-known-why
-    enum-told
-    sub-same-id
-    part-same-id-start
-    part-same-id-end
-    same-id-requires
-    unless-requires
-    returns
-    returns-2)
+    (tie.spec (λ c κs. search needs) (λ c. search needs) (λ c. search needs) (λ c. search needs) (λ c. search needs)
+    part-same-id-end (λ c κs. search needs) (λ c κs. search needs) returns returns-2)

@@ -11,23 +11,11 @@ use Rattle.bundle_contents.proofs.ids.Words.{words-on, words-differ, wo
 use Rattle.bundle_contents.proofs.ids.same_id.Statement.{statement}
 use Rattle.bundle_contents.proofs.ids.same_id.Tie as tie
 
-same-bytes-requires : tie.Need-same-bytes-requires
-same-bytes-requires c κs = search needs
-
 returns : tie.Need-returns
 returns c = search needs
 
-same-bytes-requires-2 : tie.Need-same-bytes-requires-2
-same-bytes-requires-2 c κs = search needs
-
 returns-2 : tie.Need-returns-2
 returns-2 c = search needs
-
-word-at-requires : tie.Need-word-at-requires
-word-at-requires c κs = search needs
-
-word-at-requires-2 : tie.Need-word-at-requires-2
-word-at-requires-2 c κs = search needs
 
 returns-3 : tie.Need-returns-3
 returns-3 c = words-differ _ _ 12 (c .before .before .word-at .ensures .0) (c .before .word-at2 .ensures .0) (c .if3 .taken)
@@ -42,29 +30,11 @@ one c = words-on _ _ 0 (omega arith) (omega arith) (c .before .before .word-at3 
 two : (c : tie.Else5) → let x = c .before .before .before .before .before .before .before .before .before .before .before .before .before .args in sameList (now (x .a)) (now (x .b)) ≡ sameList (drop 8 (now (x .a))) (drop 8 (now (x .b)))
 two c = words-on _ _ 4 (omega arith) (omega arith) (c .before .before .word-at5 .ensures) (c .before .word-at6 .ensures) (one (c .before .before .before)) (c .if5 .left)
 
-word-at-requires-3 : tie.Need-word-at-requires-3
-word-at-requires-3 c κs = search needs
-
-word-at-requires-4 : tie.Need-word-at-requires-4
-word-at-requires-4 c κs = search needs
-
 returns-4 : tie.Need-returns-4
 returns-4 c = words-differ _ _ 0 (c .before .before .word-at3 .ensures .0) (c .before .word-at4 .ensures .0) (c .if4 .taken)
 
-word-at-requires-5 : tie.Need-word-at-requires-5
-word-at-requires-5 c κs = search needs
-
-word-at-requires-6 : tie.Need-word-at-requires-6
-word-at-requires-6 c κs = search needs
-
 returns-5 : tie.Need-returns-5
 returns-5 c = words-differ _ _ 4 (c .before .before .word-at5 .ensures .0) (c .before .word-at6 .ensures .0) (c .if5 .taken)
-
-word-at-requires-7 : tie.Need-word-at-requires-7
-word-at-requires-7 c κs = search needs
-
-word-at-requires-8 : tie.Need-word-at-requires-8
-word-at-requires-8 c κs = search needs
 
 returns-6 : tie.Need-returns-6
 returns-6 c = words-last _ _ 8 (omega arith) (omega arith) (c .before .word-at7 .ensures) (c .word-at8 .ensures) (two (c .before .before)) (last (c .before .before .before .before .before .before .before .before))
@@ -72,20 +42,6 @@ returns-6 c = words-last _ _ 8 (omega arith) (omega arith) (c .before .word-at7 
 pub same-id-spec : {M : Type 1} → statement M
 same-id-spec =
     tie.close
-    (tie.spec
-    same-bytes-requires
-    returns
-    same-bytes-requires-2
-    returns-2
-    word-at-requires
-    word-at-requires-2
-    returns-3
-    word-at-requires-3
-    word-at-requires-4
-    returns-4
-    word-at-requires-5
-    word-at-requires-6
-    returns-5
-    word-at-requires-7
-    word-at-requires-8
-    returns-6)
+    (tie.spec (λ c κs. search needs) returns (λ c κs. search needs) returns-2 (λ c κs. search needs)
+    (λ c κs. search needs) returns-3 (λ c κs. search needs) (λ c κs. search needs) returns-4 (λ c κs. search needs)
+    (λ c κs. search needs) returns-5 (λ c κs. search needs) (λ c κs. search needs) returns-6)

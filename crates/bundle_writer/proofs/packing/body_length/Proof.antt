@@ -10,9 +10,6 @@ use Rattle.bundle_writer.proofs.packing.body_length.Tie as tie
 returns : tie.Need-returns
 returns c = length-short _ (c .if1 .taken)
 
-shared-slice-read-n : tie.Need-shared-slice-read-n
-shared-slice-read-n c = search needs
-
 cast-n : tie.Need-cast-n
 cast-n c = omega (arith, c .shared-slice-known .given 1)
 
@@ -26,5 +23,4 @@ returns-4 : tie.Need-returns-4
 returns-4 c = length-byte _ _ refl (c .before .if2 .left) (c .if3 .left)
 
 pub body-length-spec : {M : Type 1} → statement M
-body-length-spec =
-    tie.close (tie.spec returns shared-slice-read-n cast-n returns-2 returns-3 returns-4)
+body-length-spec = tie.close (tie.spec returns (λ c. search needs) cast-n returns-2 returns-3 returns-4)

@@ -12,15 +12,6 @@ use Rattle.bundle_writer.proofs.packing.Testing.{told, refused-count, p
 use Rattle.bundle_writer.proofs.packing.check_packed.Statement.{statement}
 use Rattle.bundle_writer.proofs.packing.check_packed.Tie as tie
 
-count-bodies-requires : tie.Need-count-bodies-requires
-count-bodies-requires c κs = search needs
-
-enum-known-why : tie.Need-enum-known-why
-enum-known-why c = search needs
-
-enum-known-n : tie.Need-enum-known-n
-enum-known-n c = search needs
-
 -- all frames pass, and n is their count
 counted : (c : tie.After-known-told2) → let a = now (c .before .before .before .before .before .args .bytes) in (framesCheck (packed a) ≡ pass) × (c .before .n .given .0 .0 ≡ length (packed a))
 counted c = told-count _ _ _ (sym (ap answerOf (c .before .n .given .1)) ∙ c .before .before .before .count-bodies .ensures)
@@ -50,13 +41,5 @@ returns-5 c =
 pub check-packed-spec : {M : Type 1} → statement M
 check-packed-spec =
     tie.close
-    (tie.spec
-    count-bodies-requires
-    enum-known-why
-    enum-known-n
-    returns
-    returns-2
-    id-repeats-requires
-    returns-3
-    returns-4
-    returns-5)
+    (tie.spec (λ c κs. search needs) (λ c. search needs) (λ c. search needs) returns returns-2 id-repeats-requires
+    returns-3 returns-4 returns-5)

@@ -23,47 +23,20 @@ abbrev μ-loop : tie.MeasureT-loop
 loop-holds : tie.Need-loop-holds Inv-loop μ-loop
 loop-holds c = (omega arith, omega arith, refl, omega arith)
 
-sub-body-length : tie.Need-sub-body-length Inv-loop μ-loop
-sub-body-length c = omega arith
-
-part-body-length-start : tie.Need-part-body-length-start Inv-loop μ-loop
-part-body-length-start c = omega arith
-
-part-body-length-end : tie.Need-part-body-length-end Inv-loop μ-loop
-part-body-length-end c = omega arith
-
-body-length-requires : tie.Need-body-length-requires Inv-loop μ-loop
-body-length-requires c κs = search needs
-
 made : (c : tie.After-body-length Inv-loop μ-loop) → Step (now (c .before .before .before .before .before .args .bytes)) (c .before .before .before .loop .at) (c .body-length .result)
 made c = step _ _ _ (omega arith) (c .body-length .ensures)
 
 add-end : tie.Need-add-end Inv-loop μ-loop
 add-end c = omega (arith, made c .inside)
 
-sub-check-frame : tie.Need-sub-check-frame Inv-loop μ-loop
-sub-check-frame c = omega arith
-
-part-check-frame-start : tie.Need-part-check-frame-start Inv-loop μ-loop
-part-check-frame-start c = omega arith
-
 part-check-frame-end : tie.Need-part-check-frame-end Inv-loop μ-loop
 part-check-frame-end c = omega (arith, made c .inside)
-
-check-frame-requires : tie.Need-check-frame-requires Inv-loop μ-loop
-check-frame-requires c κs = search needs
-
-enum-known-why : tie.Need-enum-known-why Inv-loop μ-loop
-enum-known-why c = search needs
 
 returns : tie.Need-returns Inv-loop μ-loop
 returns c =
     let k = c .before .before .before .before .before in
     let l = k .before .before .before .loop in
     refused-count _ (frames-stop _ (l .at) _ (made k) (sym (c .before .before .before .check-frame .ensures) ∙ ap checkedAs (c .before .why .given .1)) (l .inv .2))
-
-enum-told : tie.Need-enum-told Inv-loop μ-loop
-enum-told c = search needs
 
 add-n : tie.Need-add-n Inv-loop μ-loop
 add-n c = omega (arith, made (c .before .before .before .before) .inside)
@@ -89,23 +62,6 @@ returns-2 c =
 pub count-bodies-spec : {M : Type 1} → statement M
 count-bodies-spec =
     tie.close
-    (tie.spec
-    Inv-loop
-    μ-loop
-    loop-holds
-    sub-body-length
-    part-body-length-start
-    part-body-length-end
-    body-length-requires
-    add-end
-    sub-check-frame
-    part-check-frame-start
-    part-check-frame-end
-    check-frame-requires
-    enum-known-why
-    returns
-    enum-told
-    add-n
-    loop-less
-    loop-again
-    returns-2)
+    (tie.spec Inv-loop μ-loop loop-holds (λ c. omega arith) (λ c. omega arith) (λ c. omega arith) (λ c κs. search needs)
+    add-end (λ c. omega arith) (λ c. omega arith) part-check-frame-end (λ c κs. search needs) (λ c. search needs)
+    returns (λ c. search needs) add-n loop-less loop-again returns-2)

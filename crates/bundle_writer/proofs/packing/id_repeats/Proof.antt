@@ -22,18 +22,6 @@ abbrev μ-loop : tie.MeasureT-loop
 loop-holds : tie.Need-loop-holds Inv-loop μ-loop
 loop-holds c = (omega arith, c .before .pre, refl)
 
-sub-body-length : tie.Need-sub-body-length Inv-loop μ-loop
-sub-body-length c = omega arith
-
-part-body-length-start : tie.Need-part-body-length-start Inv-loop μ-loop
-part-body-length-start c = omega arith
-
-part-body-length-end : tie.Need-part-body-length-end Inv-loop μ-loop
-part-body-length-end c = omega arith
-
-body-length-requires : tie.Need-body-length-requires Inv-loop μ-loop
-body-length-requires c κs = search needs
-
 made : (c : tie.After-body-length Inv-loop μ-loop) → Step (now (c .before .before .before .before .before .args .bytes)) (c .before .before .before .loop .at) (c .body-length .result)
 made c = step _ _ _ (omega arith) (c .body-length .ensures)
 
@@ -48,9 +36,6 @@ add-start c = omega (arith, long c)
 
 add-end : tie.Need-add-end Inv-loop μ-loop
 add-end c = omega (arith, long c)
-
-sub-id-stands : tie.Need-sub-id-stands Inv-loop μ-loop
-sub-id-stands c = omega arith
 
 part-id-stands-start : tie.Need-part-id-stands-start Inv-loop μ-loop
 part-id-stands-start c = omega (arith, long c)
@@ -85,22 +70,6 @@ returns-2 c = let l = c .before .loop in repeats-not _ (l .at) (omega arith) (l 
 pub id-repeats-spec : {M : Type 1} → statement M
 id-repeats-spec =
     tie.close
-    (tie.spec
-    Inv-loop
-    μ-loop
-    loop-holds
-    sub-body-length
-    part-body-length-start
-    part-body-length-end
-    body-length-requires
-    add-next
-    add-start
-    add-end
-    sub-id-stands
-    part-id-stands-start
-    part-id-stands-end
-    id-stands-requires
-    returns
-    loop-less
-    loop-again
-    returns-2)
+    (tie.spec Inv-loop μ-loop loop-holds (λ c. omega arith) (λ c. omega arith) (λ c. omega arith) (λ c κs. search needs)
+    add-next add-start add-end (λ c. omega arith) part-id-stands-start part-id-stands-end id-stands-requires returns
+    loop-less loop-again returns-2)

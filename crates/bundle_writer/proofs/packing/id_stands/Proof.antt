@@ -36,17 +36,11 @@ add-start c = omega (arith, long c)
 add-end : tie.Need-add-end Inv-loop μ-loop
 add-end c = omega (arith, long c)
 
-sub-same-id : tie.Need-sub-same-id Inv-loop μ-loop
-sub-same-id c = omega arith
-
 part-same-id-start : tie.Need-part-same-id-start Inv-loop μ-loop
 part-same-id-start c = omega (arith, long c)
 
 part-same-id-end : tie.Need-part-same-id-end Inv-loop μ-loop
 part-same-id-end c = omega (arith, long c)
-
-same-id-requires : tie.Need-same-id-requires Inv-loop μ-loop
-same-id-requires c κs = search needs
 
 returns : tie.Need-returns Inv-loop μ-loop
 returns c =
@@ -80,19 +74,5 @@ returns-2 c = let l = c .before .loop in stands-not _ _ (l .at) (omega arith) (l
 pub id-stands-spec : {M : Type 1} → statement M
 id-stands-spec =
     tie.close
-    (tie.spec
-    Inv-loop
-    μ-loop
-    loop-holds
-    add-start
-    add-end
-    sub-same-id
-    part-same-id-start
-    part-same-id-end
-    same-id-requires
-    returns
-    length-at-requires
-    add-at
-    loop-less
-    loop-again
-    returns-2)
+    (tie.spec Inv-loop μ-loop loop-holds add-start add-end (λ c. omega arith) part-same-id-start part-same-id-end
+    (λ c κs. search needs) returns length-at-requires add-at loop-less loop-again returns-2)

@@ -9,9 +9,6 @@ use Rattle.bundle_writer.proofs.packing.Walking.{step-at, body-long, by
 use Rattle.bundle_writer.proofs.packing.length_at.Statement.{statement}
 use Rattle.bundle_writer.proofs.packing.length_at.Tie as tie
 
-add-result : tie.Need-add-result
-add-result c = search needs
-
 shared-slice-read-result : tie.Need-shared-slice-read-result
 shared-slice-read-result c =
     let a = c .before .args in
@@ -24,4 +21,4 @@ returns : tie.Need-returns
 returns c = byte-counts (now (c .before .args .bytes)) (c .before .args .at) (c .before .pre .0) (c .before .pre .1)
 
 pub length-at-spec : {M : Type 1} → statement M
-length-at-spec = tie.close (tie.spec add-result shared-slice-read-result cast-result returns)
+length-at-spec = tie.close (tie.spec (λ c. search needs) shared-slice-read-result cast-result returns)

@@ -9,18 +9,6 @@ use Rattle.ketvaulo.proofs.Putting.{put-answer, put-buffer}
 use Rattle.ketvaulo.proofs.hashes.put_digest.Statement.{statement}
 use Rattle.ketvaulo.proofs.hashes.put_digest.Tie as tie
 
-slice-aggregate-put : tie.Need-slice-aggregate-put
-slice-aggregate-put c = search needs
-
-put-requires : tie.Need-put-requires
-put-requires c κs = search needs
-
-returned-requires : tie.Need-returned-requires
-returned-requires c κs = search needs
-
-same-length : tie.Need-same-length
-same-length c = search needs
-
 returns : tie.Need-returns
 returns c =
     let p = c .before .before .before in
@@ -31,4 +19,4 @@ returns c =
 
 pub put-digest-spec : {M : Type 1} → statement M
 put-digest-spec =
-    tie.close (tie.spec slice-aggregate-put put-requires returned-requires same-length returns)
+    tie.close (tie.spec (λ c. search needs) (λ c κs. search needs) (λ c κs. search needs) (λ c. search needs) returns)

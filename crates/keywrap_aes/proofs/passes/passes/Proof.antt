@@ -11,32 +11,11 @@ use borrow.Author.Needs.{needs}
 use Rattle.keywrap_aes.proofs.passes.passes.Statement.{statement}
 use Rattle.keywrap_aes.proofs.passes.passes.Tie as tie
 
-kept-requires : tie.Need-kept-requires
-kept-requires c κs = search needs
-
 returns : tie.Need-returns
 returns c =
     let s = c .before .before .before .args in
     let w = beyond (s .back) (s .kek) (eightOf (s .a), now (s .b)) (search needs) in
     (c .kept .ensures ∙ ap (λ (x : Registers). x .0) (sym w), (ap (λ (x : Registers). x .1) (sym w), ap length (c .kept .ensures)))
-
-key-state-requires : tie.Need-key-state-requires
-key-state-requires c κs = search needs
-
-expand-key-requires : tie.Need-expand-key-requires
-expand-key-requires c κs = search needs
-
-invert-keys-requires : tie.Need-invert-keys-requires
-invert-keys-requires c κs = search needs
-
-unwrap-passes-requires : tie.Need-unwrap-passes-requires
-unwrap-passes-requires c κs = search needs
-
-wrap-passes-requires : tie.Need-wrap-passes-requires
-wrap-passes-requires c κs = search needs
-
-same-length : tie.Need-same-length
-same-length c = search needs
 
 returns-2 : tie.Need-returns-2
 returns-2 c =
@@ -49,9 +28,6 @@ returns-2 c =
     (i .invert-keys .last .0) (i .invert-keys .ensures) (u .unwrap-passes .ensures .0) (u .unwrap-passes .ensures .1 .0)
     (s .back) (i .before .before .if2 .taken) in
     (d .0 ∙ ap (λ (x : Registers). x .0) (sym w), (d .1 ∙ ap (λ (x : Registers). x .1) (sym w), u .unwrap-passes .ensures .1 .1))
-
-same-length-2 : tie.Need-same-length-2
-same-length-2 c = search needs
 
 returns-3 : tie.Need-returns-3
 returns-3 c =
@@ -67,15 +43,5 @@ returns-3 c =
 pub passes-spec : {M : Type 1} → statement M
 passes-spec =
     tie.close
-    (tie.spec
-    kept-requires
-    returns
-    key-state-requires
-    expand-key-requires
-    invert-keys-requires
-    unwrap-passes-requires
-    wrap-passes-requires
-    same-length
-    returns-2
-    same-length-2
-    returns-3)
+    (tie.spec (λ c κs. search needs) returns (λ c κs. search needs) (λ c κs. search needs) (λ c κs. search needs)
+    (λ c κs. search needs) (λ c κs. search needs) (λ c. search needs) returns-2 (λ c. search needs) returns-3)

@@ -20,56 +20,8 @@ Inv-loop ks b₀ n c x0₀ x1₀ i₀ b x0 x1 i = (i ≤ n) × (length b ≡ len
 abbrev μ-loop : tie.MeasureT-loop
 μ-loop ks b₀ n c x0₀ x1₀ i₀ b x0 x1 i = i
 
-array-copy-out-x0 : tie.Need-array-copy-out-x0 Inv-loop μ-loop
-array-copy-out-x0 c = search needs
-
-array-copy-out-x1 : tie.Need-array-copy-out-x1 Inv-loop μ-loop
-array-copy-out-x1 c = search needs
-
-cast-i : tie.Need-cast-i Inv-loop μ-loop
-cast-i c = omega arith
-
 loop-holds : tie.Need-loop-holds Inv-loop μ-loop
 loop-holds c = (omega arith, refl, refl)
-
-cast-t : tie.Need-cast-t Inv-loop μ-loop
-cast-t c = omega arith
-
-add-t : tie.Need-add-t Inv-loop μ-loop
-add-t c = omega arith
-
-sub-i : tie.Need-sub-i Inv-loop μ-loop
-sub-i c = omega arith
-
-cast-at : tie.Need-cast-at Inv-loop μ-loop
-cast-at c = omega arith
-
-mul-at : tie.Need-mul-at Inv-loop μ-loop
-mul-at c = omega arith
-
-add-end : tie.Need-add-end Inv-loop μ-loop
-add-end c = omega arith
-
-sub-unwrap-block : tie.Need-sub-unwrap-block Inv-loop μ-loop
-sub-unwrap-block c = omega arith
-
-part-unwrap-block-start : tie.Need-part-unwrap-block-start Inv-loop μ-loop
-part-unwrap-block-start c = omega arith
-
-part-unwrap-block-end : tie.Need-part-unwrap-block-end Inv-loop μ-loop
-part-unwrap-block-end c = omega arith
-
-unwrap-block-requires : tie.Need-unwrap-block-requires Inv-loop μ-loop
-unwrap-block-requires c κs = search needs
-
-array-copy-out-x0-2 : tie.Need-array-copy-out-x0-2 Inv-loop μ-loop
-array-copy-out-x0-2 c = search needs
-
-array-copy-out-x1-2 : tie.Need-array-copy-out-x1-2 Inv-loop μ-loop
-array-copy-out-x1-2 c = search needs
-
-loop-less : tie.Need-loop-less Inv-loop μ-loop
-loop-less c = omega arith
 
 loop-again : tie.Need-loop-again Inv-loop μ-loop
 loop-again c =
@@ -80,9 +32,6 @@ loop-again c =
       same-len-mid {X = ℕ} ((l .i - 1) * 8) ((l .i - 1) * 8 + 8 - (l .i - 1) * 8) (l .b) (k .unwrap-block .last .1 .1 .0) (k .unwrap-block .kept .1 .1 .0) ∙ l .inv .1,
       unpass-less (eqInvCipher (now (s .ks))) (s .c) (l .i) ((l .i - 1) * 8) ((l .i - 1) * 8 + 8 - (l .i - 1) * 8) (high (l .x0 ∷ l .x1 ∷ [])) (l .b) _ _ (omega arith) refl (omega arith) (k .unwrap-block .ensures .0) (k .unwrap-block .ensures .1) ∙ l .inv .2,
     )
-
-same-length : tie.Need-same-length Inv-loop μ-loop
-same-length c = search needs
 
 returns : tie.Need-returns Inv-loop μ-loop
 unfolding unwrapPass
@@ -97,26 +46,7 @@ returns c =
 pub unwrap-pass-spec : {M : Type 1} → statement M
 unwrap-pass-spec =
     tie.close
-    (tie.spec
-    Inv-loop
-    μ-loop
-    array-copy-out-x0
-    array-copy-out-x1
-    cast-i
-    loop-holds
-    cast-t
-    add-t
-    sub-i
-    cast-at
-    mul-at
-    add-end
-    sub-unwrap-block
-    part-unwrap-block-start
-    part-unwrap-block-end
-    unwrap-block-requires
-    array-copy-out-x0-2
-    array-copy-out-x1-2
-    loop-less
-    loop-again
-    same-length
-    returns)
+    (tie.spec Inv-loop μ-loop (λ c. search needs) (λ c. search needs) (λ c. omega arith) loop-holds (λ c. omega arith)
+    (λ c. omega arith) (λ c. omega arith) (λ c. omega arith) (λ c. omega arith) (λ c. omega arith) (λ c. omega arith)
+    (λ c. omega arith) (λ c. omega arith) (λ c κs. search needs) (λ c. search needs) (λ c. search needs)
+    (λ c. omega arith) loop-again (λ c. search needs) returns)

@@ -20,35 +20,14 @@ Inv-loop ks b₀ n x₀ c₀ j₀ b x c j = (j ≤ 6) × (c ≤ 144) × (c ≡ n
 abbrev μ-loop : tie.MeasureT-loop
 μ-loop ks b₀ n x₀ c₀ j₀ b x c j = j
 
-two-columns-requires : tie.Need-two-columns-requires Inv-loop μ-loop
-two-columns-requires c κs = search needs
-
-cast-c : tie.Need-cast-c Inv-loop μ-loop
-cast-c c = search needs
-
-mul-c : tie.Need-mul-c Inv-loop μ-loop
-mul-c c = search needs
-
 loop-holds : tie.Need-loop-holds Inv-loop μ-loop
 loop-holds c = (omega arith, omega arith, omega arith, refl, refl)
-
-cast-c-2 : tie.Need-cast-c-2 Inv-loop μ-loop
-cast-c-2 c = search needs
 
 sub-c : tie.Need-sub-c Inv-loop μ-loop
 sub-c c =
     let l = c .before .loop in
     let h = count-less (c .before .before .before .before .args .n) (l .j) (l .c) (omega arith) (l .inv .2) in
     omega (arith, h .0)
-
-sub-j : tie.Need-sub-j Inv-loop μ-loop
-sub-j c = search needs
-
-unwrap-pass-requires : tie.Need-unwrap-pass-requires Inv-loop μ-loop
-unwrap-pass-requires c κs = search needs
-
-loop-less : tie.Need-loop-less Inv-loop μ-loop
-loop-less c = search needs
 
 loop-again : tie.Need-loop-again Inv-loop μ-loop
 loop-again c =
@@ -62,18 +41,6 @@ loop-again c =
       k .unwrap-pass .kept .1 .1 .0 ∙ l .inv .3,
       unpasses-less (eqInvCipher (now (s .ks))) (s .n) (l .j) _ (high (l .x)) (l .b) _ _ (omega arith) (h .1) (k .unwrap-pass .ensures .0) (k .unwrap-pass .ensures .1) ∙ l .inv .4,
     )
-
-array-copy-out-eight-bytes : tie.Need-array-copy-out-eight-bytes Inv-loop μ-loop
-array-copy-out-eight-bytes c = search needs
-
-array-copy-out-eight-bytes-2 : tie.Need-array-copy-out-eight-bytes-2 Inv-loop μ-loop
-array-copy-out-eight-bytes-2 c = search needs
-
-eight-bytes-requires : tie.Need-eight-bytes-requires Inv-loop μ-loop
-eight-bytes-requires c κs = search needs
-
-same-length : tie.Need-same-length Inv-loop μ-loop
-same-length c = search needs
 
 returns : tie.Need-returns Inv-loop μ-loop
 unfolding unwrapPasses
@@ -90,21 +57,6 @@ returns c =
 pub unwrap-passes-spec : {M : Type 1} → statement M
 unwrap-passes-spec =
     tie.close
-    (tie.spec
-    Inv-loop
-    μ-loop
-    two-columns-requires
-    cast-c
-    mul-c
-    loop-holds
-    cast-c-2
-    sub-c
-    sub-j
-    unwrap-pass-requires
-    loop-less
-    loop-again
-    array-copy-out-eight-bytes
-    array-copy-out-eight-bytes-2
-    eight-bytes-requires
-    same-length
-    returns)
+    (tie.spec Inv-loop μ-loop (λ c κs. search needs) (λ c. search needs) (λ c. search needs) loop-holds
+    (λ c. search needs) sub-c (λ c. search needs) (λ c κs. search needs) (λ c. search needs) loop-again
+    (λ c. search needs) (λ c. search needs) (λ c κs. search needs) (λ c. search needs) returns)

@@ -20,57 +20,9 @@ Inv-loop ks b₀ n c x0₀ x1₀ m i₀ b x0 x1 i = (m ≡ n) × (i ≤ n) × (l
 abbrev μ-loop : tie.MeasureT-loop
 μ-loop ks b₀ n c x0₀ x1₀ m i₀ b x0 x1 i = n - i
 
-array-copy-out-x0 : tie.Need-array-copy-out-x0 Inv-loop μ-loop
-array-copy-out-x0 c = search needs
-
-array-copy-out-x1 : tie.Need-array-copy-out-x1 Inv-loop μ-loop
-array-copy-out-x1 c = search needs
-
-cast-m : tie.Need-cast-m Inv-loop μ-loop
-cast-m c = omega arith
-
 loop-holds : tie.Need-loop-holds Inv-loop μ-loop
 unfolding wrapPass
 loop-holds c = (refl, omega arith, refl, refl)
-
-cast-at : tie.Need-cast-at Inv-loop μ-loop
-cast-at c = omega arith
-
-mul-at : tie.Need-mul-at Inv-loop μ-loop
-mul-at c = omega arith
-
-add-end : tie.Need-add-end Inv-loop μ-loop
-add-end c = omega arith
-
-add-i : tie.Need-add-i Inv-loop μ-loop
-add-i c = omega arith
-
-sub-wrap-block : tie.Need-sub-wrap-block Inv-loop μ-loop
-sub-wrap-block c = omega arith
-
-part-wrap-block-start : tie.Need-part-wrap-block-start Inv-loop μ-loop
-part-wrap-block-start c = omega arith
-
-part-wrap-block-end : tie.Need-part-wrap-block-end Inv-loop μ-loop
-part-wrap-block-end c = omega arith
-
-cast-wrap-block : tie.Need-cast-wrap-block Inv-loop μ-loop
-cast-wrap-block c = omega arith
-
-add-wrap-block : tie.Need-add-wrap-block Inv-loop μ-loop
-add-wrap-block c = omega arith
-
-wrap-block-requires : tie.Need-wrap-block-requires Inv-loop μ-loop
-wrap-block-requires c κs = search needs
-
-array-copy-out-x0-2 : tie.Need-array-copy-out-x0-2 Inv-loop μ-loop
-array-copy-out-x0-2 c = search needs
-
-array-copy-out-x1-2 : tie.Need-array-copy-out-x1-2 Inv-loop μ-loop
-array-copy-out-x1-2 c = search needs
-
-loop-less : tie.Need-loop-less Inv-loop μ-loop
-loop-less c = omega arith
 
 loop-again : tie.Need-loop-again Inv-loop μ-loop
 loop-again c =
@@ -82,9 +34,6 @@ loop-again c =
       same-len-mid {X = ℕ} (l .i * 8) (l .i * 8 + 8 - l .i * 8) (l .b) (k .wrap-block .last .1 .1 .0) (k .wrap-block .kept .1 .1 .0) ∙ l .inv .2,
       pass-more (cipher (now (s .ks))) _ (s .c) (l .i) (l .i * 8) (l .i * 8 + 8 - l .i * 8) _ _ _ _ refl (omega arith) (l .inv .3) (k .wrap-block .ensures .0) (k .wrap-block .ensures .1),
     )
-
-same-length : tie.Need-same-length Inv-loop μ-loop
-same-length c = search needs
 
 returns : tie.Need-returns Inv-loop μ-loop
 returns c =
@@ -98,26 +47,7 @@ returns c =
 pub wrap-pass-spec : {M : Type 1} → statement M
 wrap-pass-spec =
     tie.close
-    (tie.spec
-    Inv-loop
-    μ-loop
-    array-copy-out-x0
-    array-copy-out-x1
-    cast-m
-    loop-holds
-    cast-at
-    mul-at
-    add-end
-    add-i
-    sub-wrap-block
-    part-wrap-block-start
-    part-wrap-block-end
-    cast-wrap-block
-    add-wrap-block
-    wrap-block-requires
-    array-copy-out-x0-2
-    array-copy-out-x1-2
-    loop-less
-    loop-again
-    same-length
-    returns)
+    (tie.spec Inv-loop μ-loop (λ c. search needs) (λ c. search needs) (λ c. omega arith) loop-holds (λ c. omega arith)
+    (λ c. omega arith) (λ c. omega arith) (λ c. omega arith) (λ c. omega arith) (λ c. omega arith) (λ c. omega arith)
+    (λ c. omega arith) (λ c. omega arith) (λ c κs. search needs) (λ c. search needs) (λ c. search needs)
+    (λ c. omega arith) loop-again (λ c. search needs) returns)

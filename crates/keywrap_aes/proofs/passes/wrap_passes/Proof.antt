@@ -20,27 +20,9 @@ Inv-loop ks b₀ n x₀ c₀ j₀ b x c j = (j ≤ 6) × (c ≤ 24 * j) × (c �
 abbrev μ-loop : tie.MeasureT-loop
 μ-loop ks b₀ n x₀ c₀ j₀ b x c j = 6 - j
 
-two-columns-requires : tie.Need-two-columns-requires Inv-loop μ-loop
-two-columns-requires c κs = search needs
-
 loop-holds : tie.Need-loop-holds Inv-loop μ-loop
 unfolding wrapPasses
 loop-holds c = (omega arith, omega arith, omega arith, refl, refl)
-
-wrap-pass-requires : tie.Need-wrap-pass-requires Inv-loop μ-loop
-wrap-pass-requires c κs = search needs
-
-cast-c : tie.Need-cast-c Inv-loop μ-loop
-cast-c c = search needs
-
-add-c : tie.Need-add-c Inv-loop μ-loop
-add-c c = search needs
-
-add-j : tie.Need-add-j Inv-loop μ-loop
-add-j c = search needs
-
-loop-less : tie.Need-loop-less Inv-loop μ-loop
-loop-less c = search needs
 
 loop-again : tie.Need-loop-again Inv-loop μ-loop
 loop-again c =
@@ -53,18 +35,6 @@ loop-again c =
       k .wrap-pass .kept .1 .1 .0 ∙ l .inv .3,
       passes-more (cipher (now (s .ks))) _ (s .n) (l .j) (l .c) _ _ _ _ (l .inv .2) (l .inv .4) (k .wrap-pass .ensures .0) (k .wrap-pass .ensures .1),
     )
-
-array-copy-out-eight-bytes : tie.Need-array-copy-out-eight-bytes Inv-loop μ-loop
-array-copy-out-eight-bytes c = search needs
-
-array-copy-out-eight-bytes-2 : tie.Need-array-copy-out-eight-bytes-2 Inv-loop μ-loop
-array-copy-out-eight-bytes-2 c = search needs
-
-eight-bytes-requires : tie.Need-eight-bytes-requires Inv-loop μ-loop
-eight-bytes-requires c κs = search needs
-
-same-length : tie.Need-same-length Inv-loop μ-loop
-same-length c = search needs
 
 returns : tie.Need-returns Inv-loop μ-loop
 returns c =
@@ -80,19 +50,6 @@ returns c =
 pub wrap-passes-spec : {M : Type 1} → statement M
 wrap-passes-spec =
     tie.close
-    (tie.spec
-    Inv-loop
-    μ-loop
-    two-columns-requires
-    loop-holds
-    wrap-pass-requires
-    cast-c
-    add-c
-    add-j
-    loop-less
-    loop-again
-    array-copy-out-eight-bytes
-    array-copy-out-eight-bytes-2
-    eight-bytes-requires
-    same-length
-    returns)
+    (tie.spec Inv-loop μ-loop (λ c κs. search needs) loop-holds (λ c κs. search needs) (λ c. search needs)
+    (λ c. search needs) (λ c. search needs) (λ c. search needs) loop-again (λ c. search needs) (λ c. search needs)
+    (λ c κs. search needs) (λ c. search needs) returns)

@@ -5,14 +5,8 @@ use borrow.Author.Needs.{needs}
 use Rattle.keywrap_aes.proofs.step.wrap_step.Statement.{statement}
 use Rattle.keywrap_aes.proofs.step.wrap_step.Tie as tie
 
-encrypt-requires : tie.Need-encrypt-requires
-encrypt-requires c κs = search needs
-
-add-count-requires : tie.Need-add-count-requires
-add-count-requires c κs = search needs
-
 returns : tie.Need-returns
 returns c = wrap-by _ _ (search needs) _ _ _ (c .before .encrypt .ensures) (c .add-count .ensures)
 
 pub wrap-step-spec : {M : Type 1} → statement M
-wrap-step-spec = tie.close (tie.spec encrypt-requires add-count-requires returns)
+wrap-step-spec = tie.close (tie.spec (λ c κs. search needs) (λ c κs. search needs) returns)

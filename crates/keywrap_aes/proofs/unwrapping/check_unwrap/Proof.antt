@@ -7,18 +7,6 @@ use borrow.Author.Needs.{needs}
 use Rattle.keywrap_aes.proofs.unwrapping.check_unwrap.Statement.{statement}
 use Rattle.keywrap_aes.proofs.unwrapping.check_unwrap.Tie as tie
 
-is-wrappable-requires : tie.Need-is-wrappable-requires
-is-wrappable-requires c κs = search needs
-
-unless-requires : tie.Need-unless-requires
-unless-requires c κs = search needs
-
-check-room-requires : tie.Need-check-room-requires
-check-room-requires c κs = search needs
-
-then-check-requires : tie.Need-then-check-requires
-then-check-requires c κs = search needs
-
 returns : tie.Need-returns
 returns c =
     c .then-check .ensures
@@ -28,4 +16,4 @@ returns c =
 pub check-unwrap-spec : {M : Type 1} → statement M
 check-unwrap-spec =
     tie.close
-    (tie.spec is-wrappable-requires unless-requires check-room-requires then-check-requires returns)
+    (tie.spec (λ c κs. search needs) (λ c κs. search needs) (λ c κs. search needs) (λ c κs. search needs) returns)

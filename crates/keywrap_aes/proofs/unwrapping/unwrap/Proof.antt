@@ -11,18 +11,6 @@ use borrow.Author.Needs.{needs}
 use Rattle.keywrap_aes.proofs.unwrapping.unwrap.Statement.{statement}
 use Rattle.keywrap_aes.proofs.unwrapping.unwrap.Tie as tie
 
-key-length-requires : tie.Need-key-length-requires
-key-length-requires c κs = search needs
-
-check-unwrap-requires : tie.Need-check-unwrap-requires
-check-unwrap-requires c κs = search needs
-
-enum-known-check : tie.Need-enum-known-check
-enum-known-check c = search needs
-
-enum-told : tie.Need-enum-told
-enum-told c = search needs
-
 unwrap-checked-requires : tie.Need-unwrap-checked-requires
 unwrap-checked-requires c κs =
     let k = c .before .before .before in
@@ -37,9 +25,6 @@ returns c =
       ap (λ (x : Check). bufferAfter x (keyLength (now (s .wrapped))) (unwrappedKey (s .kek) (now (s .wrapped))) (now (s .out))) e,
     )
 
-same-length : tie.Need-same-length
-same-length c = search needs
-
 returns-2 : tie.Need-returns-2
 returns-2 c =
     let k = c .before .before .before .before .before .before in
@@ -52,12 +37,5 @@ returns-2 c =
 pub unwrap-spec : {M : Type 1} → statement M
 unwrap-spec =
     tie.close
-    (tie.spec
-    key-length-requires
-    check-unwrap-requires
-    enum-known-check
-    enum-told
-    unwrap-checked-requires
-    returns
-    same-length
-    returns-2)
+    (tie.spec (λ c κs. search needs) (λ c κs. search needs) (λ c. search needs) (λ c. search needs)
+    unwrap-checked-requires returns (λ c. search needs) returns-2)

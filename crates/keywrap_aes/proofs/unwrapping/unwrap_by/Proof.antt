@@ -15,27 +15,6 @@ use borrow.Author.Needs.{needs}
 use Rattle.keywrap_aes.proofs.unwrapping.unwrap_by.Statement.{statement}
 use Rattle.keywrap_aes.proofs.unwrapping.unwrap_by.Tie as tie
 
-unwrap-into-requires : tie.Need-unwrap-into-requires
-unwrap-into-requires c κs = search needs
-
-is-initial-requires : tie.Need-is-initial-requires
-is-initial-requires c κs = search needs
-
-unless-requires : tie.Need-unless-requires
-unless-requires c κs = search needs
-
-enum-known-integrity : tie.Need-enum-known-integrity
-enum-known-integrity c = search needs
-
-enum-told : tie.Need-enum-told
-enum-told c = search needs
-
-copy-requires : tie.Need-copy-requires
-copy-requires c κs = search needs
-
-same-length : tie.Need-same-length
-same-length c = search needs
-
 -- what the test of the integrity came to
 tested : (c : tie.After-unless) → checkedAs (c .unless .result) ≡ unless (c .before .is-initial .result) (bare 28)
 tested c = c .unless .ensures
@@ -53,12 +32,6 @@ returns c =
       ap (λ (x : Check). bufferAfter x (keyLength (now (s .wrapped))) (unwrappedKey (s .kek) (now (s .wrapped))) (now (s .out))) e,
     )
 
-same-length-2 : tie.Need-same-length-2
-same-length-2 c = search needs
-
-same-length-3 : tie.Need-same-length-3
-same-length-3 c = search needs
-
 returns-2 : tie.Need-returns-2
 returns-2 c =
     let u = c .before .before .before .before .before .before .before .before .before .before .before in
@@ -73,15 +46,6 @@ returns-2 c =
 pub unwrap-by-spec : {M : Type 1} → statement M
 unwrap-by-spec =
     tie.close
-    (tie.spec
-    unwrap-into-requires
-    is-initial-requires
-    unless-requires
-    enum-known-integrity
-    enum-told
-    copy-requires
-    same-length
-    returns
-    same-length-2
-    same-length-3
+    (tie.spec (λ c κs. search needs) (λ c κs. search needs) (λ c κs. search needs) (λ c. search needs)
+    (λ c. search needs) (λ c κs. search needs) (λ c. search needs) returns (λ c. search needs) (λ c. search needs)
     returns-2)

@@ -6,27 +6,6 @@ use borrow.Author.Needs.{needs}
 use Rattle.keywrap_aes.proofs.unwrapping.unwrap_into.Statement.{statement}
 use Rattle.keywrap_aes.proofs.unwrapping.unwrap_into.Tie as tie
 
-sub-copy : tie.Need-sub-copy
-sub-copy c = search needs
-
-part-copy-start : tie.Need-part-copy-start
-part-copy-start c = search needs
-
-part-copy-end : tie.Need-part-copy-end
-part-copy-end c = search needs
-
-copy-requires : tie.Need-copy-requires
-copy-requires c κs = search needs
-
-first-eight-requires : tie.Need-first-eight-requires
-first-eight-requires c κs = search needs
-
-passes-requires : tie.Need-passes-requires
-passes-requires c κs = search needs
-
-same-length : tie.Need-same-length
-same-length c = search needs
-
 returns : tie.Need-returns
 returns c =
     let s = c .before .before .before .before .before .before .before .before .before .before .before .before in
@@ -39,12 +18,5 @@ returns c =
 pub unwrap-into-spec : {M : Type 1} → statement M
 unwrap-into-spec =
     tie.close
-    (tie.spec
-    sub-copy
-    part-copy-start
-    part-copy-end
-    copy-requires
-    first-eight-requires
-    passes-requires
-    same-length
-    returns)
+    (tie.spec (λ c. search needs) (λ c. search needs) (λ c. search needs) (λ c κs. search needs) (λ c κs. search needs)
+    (λ c κs. search needs) (λ c. search needs) returns)

@@ -6,23 +6,11 @@ use borrow.Author.Needs.{needs}
 use Rattle.keywrap_aes.proofs.unwrapping.unwrap_with.Statement.{statement}
 use Rattle.keywrap_aes.proofs.unwrapping.unwrap_with.Tie as tie
 
-sub-n : tie.Need-sub-n
-sub-n c = search needs
-
-slice-relend-prefix-unwrap-by : tie.Need-slice-relend-prefix-unwrap-by
-slice-relend-prefix-unwrap-by c = search needs
-
 slice-aggregate-unwrap-by : tie.Need-slice-aggregate-unwrap-by
 slice-aggregate-unwrap-by c = simp length-take (omega arith)
 
 unwrap-by-requires : tie.Need-unwrap-by-requires
 unwrap-by-requires c κs = (omega arith, omega arith, omega arith, simp length-take (omega arith))
-
-same-length : tie.Need-same-length
-same-length c = search needs
-
-same-length-2 : tie.Need-same-length-2
-same-length-2 c = search needs
 
 returns : tie.Need-returns
 returns c = c .before .before .before .before .unwrap-by .ensures
@@ -30,11 +18,5 @@ returns c = c .before .before .before .before .unwrap-by .ensures
 pub unwrap-with-spec : {M : Type 1} → statement M
 unwrap-with-spec =
     tie.close
-    (tie.spec
-    sub-n
-    slice-relend-prefix-unwrap-by
-    slice-aggregate-unwrap-by
-    unwrap-by-requires
-    same-length
-    same-length-2
-    returns)
+    (tie.spec (λ c. search needs) (λ c. search needs) slice-aggregate-unwrap-by unwrap-by-requires (λ c. search needs)
+    (λ c. search needs) returns)

@@ -12,27 +12,12 @@ use borrow.Author.Needs.{needs}
 use Rattle.keywrap_aes.proofs.wrapping.check_wrap.Statement.{statement}
 use Rattle.keywrap_aes.proofs.wrapping.check_wrap.Tie as tie
 
-is-wrappable-requires : tie.Need-is-wrappable-requires
-is-wrappable-requires c κs = search needs
-
-unless-requires : tie.Need-unless-requires
-unless-requires c κs = search needs
-
-enum-known-length : tie.Need-enum-known-length
-enum-known-length c = search needs
-
-enum-told : tie.Need-enum-told
-enum-told c = search needs
-
 add-check-room : tie.Need-add-check-room
 add-check-room c =
     let k = c .before .before in
     let e = sym (k .unless .ensures ∙ ap (λ (b : Bool). unless b (bare 23)) (k .before .is-wrappable .ensures)) ∙ ap checkedAs (c .enum-told .given .1) in
     let h : k .before .before .args .n ≤ 192 = passed-high _ e in
     omega arith
-
-check-room-requires : tie.Need-check-room-requires
-check-room-requires c κs = search needs
 
 returns : tie.Need-returns
 returns c =
@@ -50,12 +35,5 @@ returns-2 c =
 pub check-wrap-spec : {M : Type 1} → statement M
 check-wrap-spec =
     tie.close
-    (tie.spec
-    is-wrappable-requires
-    unless-requires
-    enum-known-length
-    enum-told
-    add-check-room
-    check-room-requires
-    returns
-    returns-2)
+    (tie.spec (λ c κs. search needs) (λ c κs. search needs) (λ c. search needs) (λ c. search needs) add-check-room
+    (λ c κs. search needs) returns returns-2)

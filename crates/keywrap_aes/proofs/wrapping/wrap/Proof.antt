@@ -12,20 +12,8 @@ use borrow.Author.Needs.{needs}
 use Rattle.keywrap_aes.proofs.wrapping.wrap.Statement.{statement}
 use Rattle.keywrap_aes.proofs.wrapping.wrap.Tie as tie
 
-check-wrap-requires : tie.Need-check-wrap-requires
-check-wrap-requires c κs = search needs
-
-enum-known-check : tie.Need-enum-known-check
-enum-known-check c = search needs
-
-enum-told : tie.Need-enum-told
-enum-told c = search needs
-
 wrap-into-requires : tie.Need-wrap-into-requires
 wrap-into-requires c κs = wrap-bounds _ _ (sym (c .before .before .before .check-wrap .ensures) ∙ ap checkedAs (c .before .enum-told .given .1))
-
-add-t13 : tie.Need-add-t13
-add-t13 c = search needs
 
 returns : tie.Need-returns
 returns c =
@@ -35,9 +23,6 @@ returns c =
       ap (λ (x : Check). answerTo x (length (now (s .key)) + 8)) e,
       ap (λ (x : Check). bufferAfter x (length (now (s .key)) + 8) (wrapped (s .kek) (now (s .key))) (now (s .out))) e,
     )
-
-same-length : tie.Need-same-length
-same-length c = search needs
 
 returns-2 : tie.Need-returns-2
 returns-2 c =
@@ -51,12 +36,5 @@ returns-2 c =
 pub wrap-spec : {M : Type 1} → statement M
 wrap-spec =
     tie.close
-    (tie.spec
-    check-wrap-requires
-    enum-known-check
-    enum-told
-    wrap-into-requires
-    add-t13
-    returns
-    same-length
-    returns-2)
+    (tie.spec (λ c κs. search needs) (λ c. search needs) (λ c. search needs) wrap-into-requires (λ c. search needs)
+    returns (λ c. search needs) returns-2)

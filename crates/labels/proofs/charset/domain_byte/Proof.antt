@@ -5,19 +5,9 @@ use Rattle.labels.specs.Bytes.{domainByte}
 use Rattle.labels.proofs.charset.domain_byte.Statement.{statement}
 use Rattle.labels.proofs.charset.domain_byte.Tie as tie
 
-between-requires : tie.Need-between-requires
-between-requires c κs = tt
-
-between-requires-2 : tie.Need-between-requires-2
-between-requires-2 c κs = tt
-
-between-requires-3 : tie.Need-between-requires-3
-between-requires-3 c κs = tt
-
 returns : tie.Need-returns
 unfolding domainByte
 returns c = rw (c .before .before .between .ensures, c .before .between2 .ensures, c .between3 .ensures) refl
 
 pub domain-byte-spec : {M : Type 1} → statement M
-domain-byte-spec =
-    tie.close (tie.spec between-requires between-requires-2 between-requires-3 returns)
+domain-byte-spec = tie.close (tie.spec (λ c κs. tt) (λ c κs. tt) (λ c κs. tt) returns)

@@ -11,23 +11,11 @@ use Rattle.labels.proofs.charset.Forms.{wrong-length, scanned-form}
 use Rattle.labels.proofs.charset.form_of.Statement.{statement}
 use Rattle.labels.proofs.charset.form_of.Tie as tie
 
-in-range-requires : tie.Need-in-range-requires
-in-range-requires c κs = tt
-
 returns : tie.Need-returns
 returns c =
     let a = c .before .before .before .args in
     let ranged : c .before .in-range .result ≡ within 1 (a .longest) (length (now (a .s))) = c .before .in-range .ensures in
     wrong-length _ _ _ (sym ranged ∙ not-true _ (c .if1 .taken))
-
-first-bad-requires : tie.Need-first-bad-requires
-first-bad-requires c κs = tt
-
-enum-told : tie.Need-enum-told
-enum-told c = search needs
-
-enum-known-i : tie.Need-enum-known-i
-enum-known-i c = search needs
 
 returns-2 : tie.Need-returns-2
 returns-2 c =
@@ -43,12 +31,4 @@ returns-3 c =
 
 pub form-of-spec : {M : Type 1} → statement M
 form-of-spec =
-    tie.close
-    (tie.spec
-    in-range-requires
-    returns
-    first-bad-requires
-    enum-told
-    enum-known-i
-    returns-2
-    returns-3)
+    tie.close (tie.spec (λ c κs. tt) returns (λ c κs. tt) (λ c. search needs) (λ c. search needs) returns-2 returns-3)

@@ -6,15 +6,9 @@ use Rattle.labels.proofs.charset.Forms.{well-formed}
 use Rattle.labels.proofs.identifiers.check_domain.Statement.{statement}
 use Rattle.labels.proofs.identifiers.check_domain.Tie as tie
 
-form-of-requires : tie.Need-form-of-requires
-form-of-requires c κs = tt
-
-unless-well-formed-requires : tie.Need-unless-well-formed-requires
-unless-well-formed-requires c κs = tt
-
 returns : tie.Need-returns
 unfolding check8
 returns c = rw (c .unless-well-formed .ensures, c .before .form-of .ensures, well-formed) refl
 
 pub check-domain-spec : {M : Type 1} → statement M
-check-domain-spec = tie.close (tie.spec form-of-requires unless-well-formed-requires returns)
+check-domain-spec = tie.close (tie.spec (λ c κs. tt) (λ c κs. tt) returns)

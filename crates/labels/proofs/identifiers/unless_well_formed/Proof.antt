@@ -6,15 +6,6 @@ use Rattle.refusal.specs.Checks
 use Rattle.labels.proofs.identifiers.unless_well_formed.Statement.{statement}
 use Rattle.labels.proofs.identifiers.unless_well_formed.Tie as tie
 
-enum-told : tie.Need-enum-told
-enum-told c = search needs
-
-enum-told-2 : tie.Need-enum-told-2
-enum-told-2 c = search needs
-
-enum-told-3 : tie.Need-enum-told-3
-enum-told-3 c = search needs
-
 returns : tie.Need-returns
 unfolding Checks.unless
 returns c = simp (c .enum-told .given .1) refl
@@ -29,4 +20,4 @@ returns-3 c = simp (c .enum-told3 .given .1) refl
 
 pub unless-well-formed-spec : {M : Type 1} → statement M
 unless-well-formed-spec =
-    tie.close (tie.spec enum-told enum-told-2 enum-told-3 returns returns-2 returns-3)
+    tie.close (tie.spec (λ c. search needs) (λ c. search needs) (λ c. search needs) returns returns-2 returns-3)

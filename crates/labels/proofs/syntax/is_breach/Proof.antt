@@ -12,9 +12,6 @@ use Rattle.labels.proofs.syntax.Marks.{no-syntax, breach-by}
 use Rattle.labels.proofs.syntax.is_breach.Statement.{statement}
 use Rattle.labels.proofs.syntax.is_breach.Tie as tie
 
-in-range-requires : tie.Need-in-range-requires
-in-range-requires c κs = tt
-
 returns : tie.Need-returns
 returns c =
     let label = now (c .before .before .before .args .label) in
@@ -49,11 +46,5 @@ returns-2 c =
 pub is-breach-spec : {M : Type 1} → statement M
 is-breach-spec =
     tie.close
-    (tie.spec
-    in-range-requires
-    returns
-    marks-in-requires
-    shared-slice-read-result
-    sub-result
-    shared-slice-read-result-2
+    (tie.spec (λ c κs. tt) returns marks-in-requires shared-slice-read-result sub-result shared-slice-read-result-2
     returns-2)

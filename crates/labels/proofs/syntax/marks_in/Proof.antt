@@ -20,12 +20,6 @@ abbrev μ-loop : tie.MeasureT-loop
 loop-holds : tie.Need-loop-holds Inv-loop μ-loop
 loop-holds c = (omega arith, omega arith, omega arith)
 
-shared-slice-read-mark-of : tie.Need-shared-slice-read-mark-of Inv-loop μ-loop
-shared-slice-read-mark-of c = search needs
-
-mark-of-requires : tie.Need-mark-of-requires Inv-loop μ-loop
-mark-of-requires c κs = tt
-
 add-sum : tie.Need-add-sum Inv-loop μ-loop
 add-sum c =
     let l = c .before .before .before .loop in
@@ -34,12 +28,6 @@ add-sum c =
     let le = mark-le (getD s (l .i) 0) in
     let short : length s ≤ 255 = c .before .before .before .before .before .pre in
     record { fits = omega (arith, m, le, short) }
-
-add-i : tie.Need-add-i Inv-loop μ-loop
-add-i c = search needs
-
-loop-less : tie.Need-loop-less Inv-loop μ-loop
-loop-less c = search needs
 
 loop-again : tie.Need-loop-again Inv-loop μ-loop
 loop-again c =
@@ -60,14 +48,5 @@ returns c =
 pub marks-in-spec : {M : Type 1} → statement M
 marks-in-spec =
     tie.close
-    (tie.spec
-    Inv-loop
-    μ-loop
-    loop-holds
-    shared-slice-read-mark-of
-    mark-of-requires
-    add-sum
-    add-i
-    loop-less
-    loop-again
-    returns)
+    (tie.spec Inv-loop μ-loop loop-holds (λ c. search needs) (λ c κs. tt) add-sum (λ c. search needs)
+    (λ c. search needs) loop-again returns)

@@ -14,24 +14,6 @@ use Rattle.offers.proofs.checks.check_offers.Tie as tie
 counted : (c : tie.After-unless) → checkedAs (c .unless .result) ≡ check10 (now (c .before .before .before .args .offers))
 counted c = rw (c .unless .ensures, c .before .in-range .ensures) refl
 
-in-range-requires : tie.Need-in-range-requires
-in-range-requires c κs = search needs
-
-unless-requires : tie.Need-unless-requires
-unless-requires c κs = search needs
-
-enum-known-why : tie.Need-enum-known-why
-enum-known-why c = search needs
-
-enum-told : tie.Need-enum-told
-enum-told c = search needs
-
-repeated-requires : tie.Need-repeated-requires
-repeated-requires c κs = search needs
-
-unless-requires-2 : tie.Need-unless-requires-2
-unless-requires-2 c κs = search needs
-
 returns : tie.Need-returns
 returns c = first-refuses _ _ (sym (counted (c .before .before .before)) ∙ ap checkedAs (c .before .why .given .1))
 
@@ -43,12 +25,5 @@ returns-2 c =
 pub check-offers-spec : {M : Type 1} → statement M
 check-offers-spec =
     tie.close
-    (tie.spec
-    in-range-requires
-    unless-requires
-    enum-known-why
-    enum-told
-    repeated-requires
-    unless-requires-2
-    returns
-    returns-2)
+    (tie.spec (λ c κs. search needs) (λ c κs. search needs) (λ c. search needs) (λ c. search needs)
+    (λ c κs. search needs) (λ c κs. search needs) returns returns-2)

@@ -8,11 +8,8 @@ use Rattle.offers.proofs.checks.is_first.Tie as tie
 returns : tie.Need-returns
 returns c = first-none _ _ (c .if1 .taken)
 
-shared-slice-read-result : tie.Need-shared-slice-read-result
-shared-slice-read-result c = search needs
-
 returns-2 : tie.Need-returns-2
 returns-2 c = first-head _ _ (c .before .if1 .left)
 
 pub is-first-spec : {M : Type 1} → statement M
-is-first-spec = tie.close (tie.spec returns shared-slice-read-result returns-2)
+is-first-spec = tie.close (tie.spec returns (λ c. search needs) returns-2)

@@ -20,38 +20,11 @@ abbrev μ-loop : tie.MeasureT-loop
 loop-holds : tie.Need-loop-holds Inv-loop μ-loop
 loop-holds c = (search needs, refl)
 
-add-next : tie.Need-add-next Inv-loop μ-loop
-add-next c = search needs
-
-mul-contains : tie.Need-mul-contains Inv-loop μ-loop
-mul-contains c = search needs
-
-sub-contains : tie.Need-sub-contains Inv-loop μ-loop
-sub-contains c = search needs
-
-part-contains-start : tie.Need-part-contains-start Inv-loop μ-loop
-part-contains-start c = search needs
-
-part-contains-end : tie.Need-part-contains-end Inv-loop μ-loop
-part-contains-end c = search needs
-
-mul-contains-2 : tie.Need-mul-contains-2 Inv-loop μ-loop
-mul-contains-2 c = search needs
-
-shared-slice-read-contains : tie.Need-shared-slice-read-contains Inv-loop μ-loop
-shared-slice-read-contains c = search needs
-
-contains-requires : tie.Need-contains-requires Inv-loop μ-loop
-contains-requires c κs = search needs
-
 returns : tie.Need-returns Inv-loop μ-loop
 returns c =
     let l = c .before .before .before .before .before .loop in
     let a = c .before .before .before .before .before .before .before .args in
     repeats-hit (now (a .list)) (l .i) (l .inv .1) (omega arith) (sym (c .before .contains .ensures) ∙ c .if1 .taken)
-
-loop-less : tie.Need-loop-less Inv-loop μ-loop
-loop-less c = search needs
 
 loop-again : tie.Need-loop-again Inv-loop μ-loop
 loop-again c =
@@ -68,19 +41,6 @@ returns-2 c =
 pub repeated-spec : {M : Type 1} → statement M
 repeated-spec =
     tie.close
-    (tie.spec
-    Inv-loop
-    μ-loop
-    loop-holds
-    add-next
-    mul-contains
-    sub-contains
-    part-contains-start
-    part-contains-end
-    mul-contains-2
-    shared-slice-read-contains
-    contains-requires
-    returns
-    loop-less
-    loop-again
-    returns-2)
+    (tie.spec Inv-loop μ-loop loop-holds (λ c. search needs) (λ c. search needs) (λ c. search needs) (λ c. search needs)
+    (λ c. search needs) (λ c. search needs) (λ c. search needs) (λ c κs. search needs) returns (λ c. search needs)
+    loop-again returns-2)

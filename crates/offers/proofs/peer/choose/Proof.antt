@@ -8,21 +8,6 @@ use Rattle.offer_rules.proofs.Rounds.{list-refused, list-passed}
 use Rattle.offers.proofs.peer.choose.Statement.{statement}
 use Rattle.offers.proofs.peer.choose.Tie as tie
 
-check-offers-requires : tie.Need-check-offers-requires
-check-offers-requires c κs = search needs
-
-enum-known-why : tie.Need-enum-known-why
-enum-known-why c = search needs
-
-enum-told : tie.Need-enum-told
-enum-told c = search needs
-
-first-supported-requires : tie.Need-first-supported-requires
-first-supported-requires c κs = search needs
-
-first-round-at-requires : tie.Need-first-round-at-requires
-first-round-at-requires c κs = search needs
-
 returns : tie.Need-returns
 returns c =
     let p = c .before .before .before in
@@ -39,11 +24,5 @@ returns-2 c =
 pub choose-spec : {M : Type 1} → statement M
 choose-spec =
     tie.close
-    (tie.spec
-    check-offers-requires
-    enum-known-why
-    enum-told
-    first-supported-requires
-    first-round-at-requires
-    returns
-    returns-2)
+    (tie.spec (λ c κs. search needs) (λ c. search needs) (λ c. search needs) (λ c κs. search needs)
+    (λ c κs. search needs) returns returns-2)

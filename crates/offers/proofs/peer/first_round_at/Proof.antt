@@ -13,12 +13,6 @@ returns : tie.Need-returns
 unfolding Checks.unless
 returns c = simp (le-ltb _ _ (c .if1 .taken)) refl
 
-mul-offer : tie.Need-mul-offer
-mul-offer c = search needs
-
-shared-slice-read-offer : tie.Need-shared-slice-read-offer
-shared-slice-read-offer c = search needs
-
 returns-2 : tie.Need-returns-2
 unfolding Checks.unless
 returns-2 c = let a = c .before .before .before .args in rw (lt-ltb _ _ (c .before .before .if1 .left)) (at-first (now (a .offers)) (a .position) (c .if2 .taken))
@@ -28,5 +22,4 @@ unfolding Checks.unless
 returns-3 c = let a = c .before .before .before .args in rw (lt-ltb _ _ (c .before .before .if1 .left)) (at-later (now (a .offers)) (a .position) (c .if2 .left))
 
 pub first-round-at-spec : {M : Type 1} → statement M
-first-round-at-spec =
-    tie.close (tie.spec returns mul-offer shared-slice-read-offer returns-2 returns-3)
+first-round-at-spec = tie.close (tie.spec returns (λ c. search needs) (λ c. search needs) returns-2 returns-3)

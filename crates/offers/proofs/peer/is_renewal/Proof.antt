@@ -10,25 +10,10 @@ use Rattle.offers.proofs.peer.is_renewal.Tie as tie
 returns : tie.Need-returns
 returns c = nothing-renewed _ _ _ (c .if1 .taken)
 
-shared-slice-read-if2 : tie.Need-shared-slice-read-if2
-shared-slice-read-if2 c = search needs
-
 returns-2 : tie.Need-returns-2
 returns-2 c =
     let a = c .before .before .before .before .before .args in
     other-choice (now (a .original)) (a .choice) (now (a .renewed)) (c .before .before .if1 .left) (c .if2 .taken)
-
-sub-same-values : tie.Need-sub-same-values
-sub-same-values c = search needs
-
-part-same-values-start : tie.Need-part-same-values-start
-part-same-values-start c = search needs
-
-part-same-values-end : tie.Need-part-same-values-end
-part-same-values-end c = search needs
-
-same-values-requires : tie.Need-same-values-requires
-same-values-requires c κs = search needs
 
 returns-3 : tie.Need-returns-3
 returns-3 c =
@@ -38,12 +23,5 @@ returns-3 c =
 pub is-renewal-spec : {M : Type 1} → statement M
 is-renewal-spec =
     tie.close
-    (tie.spec
-    returns
-    shared-slice-read-if2
-    returns-2
-    sub-same-values
-    part-same-values-start
-    part-same-values-end
-    same-values-requires
-    returns-3)
+    (tie.spec returns (λ c. search needs) returns-2 (λ c. search needs) (λ c. search needs) (λ c. search needs)
+    (λ c κs. search needs) returns-3)

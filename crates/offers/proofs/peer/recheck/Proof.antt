@@ -14,24 +14,6 @@ checked : (c : tie.After-then-check) → let a = c .before .before .before .befo
 unfolding renewedCheck
 checked c = rw (c .then-check .ensures, c .before .before .check-reply .ensures, c .before .unless .ensures, c .before .before .before .is-renewal .ensures) refl
 
-is-renewal-requires : tie.Need-is-renewal-requires
-is-renewal-requires c κs = search needs
-
-check-reply-requires : tie.Need-check-reply-requires
-check-reply-requires c κs = search needs
-
-unless-requires : tie.Need-unless-requires
-unless-requires c κs = search needs
-
-then-check-requires : tie.Need-then-check-requires
-then-check-requires c κs = search needs
-
-enum-known-why : tie.Need-enum-known-why
-enum-known-why c = search needs
-
-enum-told : tie.Need-enum-told
-enum-told c = search needs
-
 returns : tie.Need-returns
 unfolding renewedAnswer
 returns c = rw (← checked (c .before .before .before), c .before .why .given .1) refl
@@ -43,12 +25,5 @@ returns-2 c = rw (← checked (c .before .before), c .enum-told .given .1) refl
 pub recheck-spec : {M : Type 1} → statement M
 recheck-spec =
     tie.close
-    (tie.spec
-    is-renewal-requires
-    check-reply-requires
-    unless-requires
-    then-check-requires
-    enum-known-why
-    enum-told
-    returns
-    returns-2)
+    (tie.spec (λ c κs. search needs) (λ c κs. search needs) (λ c κs. search needs) (λ c κs. search needs)
+    (λ c. search needs) (λ c. search needs) returns returns-2)

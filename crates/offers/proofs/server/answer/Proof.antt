@@ -27,24 +27,6 @@ room : (c : tie.After-enum-told) → let a = c .before .before .before .before .
 unfolding answerCheck
 room c = leb-true _ _ (test-passed _ _ (last-passed _ _ (passed (checked (c .before .before)) (c .enum-told .given .1))))
 
-add-count : tie.Need-add-count
-add-count c = search needs
-
-check-reply-requires : tie.Need-check-reply-requires
-check-reply-requires c κs = search needs
-
-check-room-requires : tie.Need-check-room-requires
-check-room-requires c κs = search needs
-
-then-check-requires : tie.Need-then-check-requires
-then-check-requires c κs = search needs
-
-enum-known-why : tie.Need-enum-known-why
-enum-known-why c = search needs
-
-enum-told : tie.Need-enum-told
-enum-told c = search needs
-
 put-list-requires : tie.Need-put-list-requires
 put-list-requires c κs =
     let a = c .before .before .before .before .before .before .before .before .args in
@@ -63,9 +45,6 @@ returns c =
     let a = p .before .before .before .before .before .args in
     refused-so (length (now (a .offers)) + 1) (renewedList (now (a .offers)) (a .reply)) (now (a .out)) (checked p) (c .before .why .given .1)
 
-same-length : tie.Need-same-length
-same-length c = search needs
-
 returns-2 : tie.Need-returns-2
 unfolding serverAnswer serverBuffer
 returns-2 c =
@@ -80,16 +59,6 @@ returns-2 c =
 pub answer-spec : {M : Type 1} → statement M
 answer-spec =
     tie.close
-    (tie.spec
-    add-count
-    check-reply-requires
-    check-room-requires
-    then-check-requires
-    enum-known-why
-    enum-told
-    slice-relend-prefix-put-list
-    slice-aggregate-put-list
-    put-list-requires
-    returns
-    same-length
-    returns-2)
+    (tie.spec (λ c. search needs) (λ c κs. search needs) (λ c κs. search needs) (λ c κs. search needs)
+    (λ c. search needs) (λ c. search needs) slice-relend-prefix-put-list slice-aggregate-put-list put-list-requires
+    returns (λ c. search needs) returns-2)

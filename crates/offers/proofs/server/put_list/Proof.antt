@@ -28,20 +28,11 @@ behind value s (y ∷ rest) z h e =
     let w : z ≡ s = copied s rest (omega arith) (rw k at e) in
     rw (k, drop-length rest, append-nil z) (ap (λ (l : List ℕ). value ∷ l) w)
 
-slice-write-out : tie.Need-slice-write-out
-slice-write-out c = search needs
-
 sub-copy-values : tie.Need-sub-copy-values
 sub-copy-values c = simp length-set (omega arith)
 
 part-copy-values-start : tie.Need-part-copy-values-start
 part-copy-values-start c = simp length-set (omega arith)
-
-part-copy-values-end : tie.Need-part-copy-values-end
-part-copy-values-end c = search needs
-
-copy-values-requires : tie.Need-copy-values-requires
-copy-values-requires c κs = search needs
 
 same-length : tie.Need-same-length
 same-length c =
@@ -58,11 +49,5 @@ returns c =
 pub put-list-spec : {M : Type 1} → statement M
 put-list-spec =
     tie.close
-    (tie.spec
-    slice-write-out
-    sub-copy-values
-    part-copy-values-start
-    part-copy-values-end
-    copy-values-requires
-    same-length
-    returns)
+    (tie.spec (λ c. search needs) sub-copy-values part-copy-values-start (λ c. search needs) (λ c κs. search needs)
+    same-length returns)

@@ -4,20 +4,8 @@ use borrow.Author.Needs.{needs}
 use Rattle.outcome.proofs.areas.returned.Statement.{statement}
 use Rattle.outcome.proofs.areas.returned.Tie as tie
 
-enum-known-answer : tie.Need-enum-known-answer
-enum-known-answer c = search needs
-
 cast-offers : tie.Need-cast-offers
 cast-offers c = let e = c .before .before .answer .given .1 in record { fits = rw e at (c .before .before .before .before .pre) }
-
-flag-requires : tie.Need-flag-requires
-flag-requires c κs = search needs
-
-enum-known-answer-2 : tie.Need-enum-known-answer-2
-enum-known-answer-2 c = search needs
-
-refused-requires : tie.Need-refused-requires
-refused-requires c κs = search needs
 
 returns : tie.Need-returns
 returns c = simp (c .before .before .before .answer .given .1, c .flag .ensures)
@@ -28,11 +16,5 @@ returns-2 c = simp (c .before .before .answer2 .given .1, c .refused .ensures)
 pub returned-spec : {M : Type 1} → statement M
 returned-spec =
     tie.close
-    (tie.spec
-    enum-known-answer
-    cast-offers
-    flag-requires
-    enum-known-answer-2
-    refused-requires
-    returns
+    (tie.spec (λ c. search needs) cast-offers (λ c κs. search needs) (λ c. search needs) (λ c κs. search needs) returns
     returns-2)

@@ -5,15 +5,6 @@ use borrow.Author.Needs.{needs}
 use Rattle.outcome.proofs.comparisons.returned.Statement.{statement}
 use Rattle.outcome.proofs.comparisons.returned.Tie as tie
 
-enum-known-answer : tie.Need-enum-known-answer
-enum-known-answer c = search needs
-
-enum-known-answer-2 : tie.Need-enum-known-answer-2
-enum-known-answer-2 c = search needs
-
-number-requires : tie.Need-number-requires
-number-requires c κs = search needs
-
 returns : tie.Need-returns
 returns c = simp (c .before .answer .given .1) refl
 
@@ -21,4 +12,4 @@ returns-2 : tie.Need-returns-2
 returns-2 c = simp (c .before .before .answer2 .given .1, c .number .ensures) refl
 
 pub returned-spec : {M : Type 1} → statement M
-returned-spec = tie.close (tie.spec enum-known-answer enum-known-answer-2 number-requires returns returns-2)
+returned-spec = tie.close (tie.spec (λ c. search needs) (λ c. search needs) (λ c κs. search needs) returns returns-2)

@@ -4,11 +4,8 @@ use borrow.Author.Needs.{needs}
 use Rattle.packet_mac.proofs.attributes.check_type.Statement.{statement}
 use Rattle.packet_mac.proofs.attributes.check_type.Tie as tie
 
-unless-requires : tie.Need-unless-requires
-unless-requires c κs = search needs
-
 returns : tie.Need-returns
 returns c = c .unless .ensures
 
 pub check-type-spec : {M : Type 1} → statement M
-check-type-spec = tie.close (tie.spec unless-requires returns)
+check-type-spec = tie.close (tie.spec (λ c κs. search needs) returns)

@@ -10,25 +10,9 @@ use Rattle.packet_mac.proofs.attributes.is_mac.Tie as tie
 returns : tie.Need-returns
 returns c = mac-short _ (c .if1 .taken)
 
-shared-slice-read-result : tie.Need-shared-slice-read-result
-shared-slice-read-result c = search needs
-
-shared-slice-read-result-2 : tie.Need-shared-slice-read-result-2
-shared-slice-read-result-2 c = search needs
-
-shared-slice-read-result-3 : tie.Need-shared-slice-read-result-3
-shared-slice-read-result-3 c = search needs
-
 returns-2 : tie.Need-returns-2
 unfolding isMac
 returns-2 c = refl
 
 pub is-mac-spec : {M : Type 1} → statement M
-is-mac-spec =
-    tie.close
-    (tie.spec
-    returns
-    shared-slice-read-result
-    shared-slice-read-result-2
-    shared-slice-read-result-3
-    returns-2)
+is-mac-spec = tie.close (tie.spec returns (λ c. search needs) (λ c. search needs) (λ c. search needs) returns-2)

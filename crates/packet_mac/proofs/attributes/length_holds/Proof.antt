@@ -13,9 +13,6 @@ use Rattle.packet_mac.proofs.attributes.Fields.{length-out, length-in}
 use Rattle.packet_mac.proofs.attributes.length_holds.Statement.{statement}
 use Rattle.packet_mac.proofs.attributes.length_holds.Tie as tie
 
-in-range-requires : tie.Need-in-range-requires
-in-range-requires c κs = search needs
-
 outside : (c : tie.Then1) → within 20 4096 (length (now (c .before .before .before .args .packet))) ≡ false
 outside c = sym (c .before .in-range .ensures) ∙ not-true _ (c .if1 .taken)
 
@@ -31,23 +28,11 @@ shared-slice-read-from-be16 c = omega (arith, within-low 20 4096 _ (inside (c .b
 shared-slice-read-from-be16-2 : tie.Need-shared-slice-read-from-be16-2
 shared-slice-read-from-be16-2 c = omega (arith, within-low 20 4096 _ (inside (c .before .before)))
 
-from-be16-requires : tie.Need-from-be16-requires
-from-be16-requires c κs = search needs
-
-cast-result : tie.Need-cast-result
-cast-result c = search needs
-
 returns-2 : tie.Need-returns-2
 returns-2 c = rw (c .from-be16 .ensures) (length-in _ (inside (c .before .before .before)))
 
 pub length-holds-spec : {M : Type 1} → statement M
 length-holds-spec =
     tie.close
-    (tie.spec
-    in-range-requires
-    returns
-    shared-slice-read-from-be16
-    shared-slice-read-from-be16-2
-    from-be16-requires
-    cast-result
-    returns-2)
+    (tie.spec (λ c κs. search needs) returns shared-slice-read-from-be16 shared-slice-read-from-be16-2
+    (λ c κs. search needs) (λ c. search needs) returns-2)

@@ -9,29 +9,8 @@ use Rattle.packet_mac.proofs.attributes.Answering.{all-tests, found-at,
 use Rattle.packet_mac.proofs.attributes.mac_place.Statement.{statement}
 use Rattle.packet_mac.proofs.attributes.mac_place.Tie as tie
 
-find-requires : tie.Need-find-requires
-find-requires c κs = search needs
-
-check-root-key-requires : tie.Need-check-root-key-requires
-check-root-key-requires c κs = search needs
-
-check-type-requires : tie.Need-check-type-requires
-check-type-requires c κs = search needs
-
-then-check-requires : tie.Need-then-check-requires
-then-check-requires c κs = search needs
-
 judge-requires : tie.Need-judge-requires
 judge-requires c κs = let k = c .before .before .before in found-within _ _ (k .find .ensures)
-
-then-check-requires-2 : tie.Need-then-check-requires-2
-then-check-requires-2 c κs = search needs
-
-enum-known-why : tie.Need-enum-known-why
-enum-known-why c = search needs
-
-enum-told : tie.Need-enum-told
-enum-told c = search needs
 
 -- what the tests came to
 tested : (c : tie.After-then-check2) → checkedAs (c .then-check2 .result) ≡ packetCheck (now (c .before .before .before .before .before .before .before .before .args .mac-key)) (c .before .before .before .before .before .before .before .before .args .attribute-type) (now (c .before .before .before .before .before .before .before .before .args .packet))
@@ -53,14 +32,5 @@ returns-2 c =
 pub mac-place-spec : {M : Type 1} → statement M
 mac-place-spec =
     tie.close
-    (tie.spec
-    find-requires
-    check-root-key-requires
-    check-type-requires
-    then-check-requires
-    judge-requires
-    then-check-requires-2
-    enum-known-why
-    enum-told
-    returns
-    returns-2)
+    (tie.spec (λ c κs. search needs) (λ c κs. search needs) (λ c κs. search needs) (λ c κs. search needs) judge-requires
+    (λ c κs. search needs) (λ c. search needs) (λ c. search needs) returns returns-2)

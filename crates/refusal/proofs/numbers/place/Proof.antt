@@ -6,12 +6,6 @@ use Rattle.refusal.proofs.numbers.Places.{unplaced}
 use Rattle.refusal.proofs.numbers.place.Statement.{statement}
 use Rattle.refusal.proofs.numbers.place.Tie as tie
 
-enum-known-why : tie.Need-enum-known-why
-enum-known-why c = search needs
-
-enum-known-why-2 : tie.Need-enum-known-why-2
-enum-known-why-2 c = search needs
-
 returns : tie.Need-returns
 returns c = simp (c .before .why .given .1) refl
 
@@ -22,4 +16,4 @@ returns-3 : tie.Need-returns-3
 returns-3 c = unplaced (c .before .args .why) (c .match .keys3)
 
 pub place-spec : {M : Type 1} → statement M
-place-spec = tie.close (tie.spec enum-known-why enum-known-why-2 returns returns-2 returns-3)
+place-spec = tie.close (tie.spec (λ c. search needs) (λ c. search needs) returns returns-2 returns-3)

@@ -5,30 +5,6 @@ use borrow.Author.Needs.{needs}
 use Rattle.sha1_block.proofs.round.kept.Statement.{statement}
 use Rattle.sha1_block.proofs.round.kept.Tie as tie
 
-array-read-t5 : tie.Need-array-read-t5
-array-read-t5 c = search needs
-
-array-read-t8 : tie.Need-array-read-t8
-array-read-t8 c = search needs
-
-array-read-unrotated : tie.Need-array-read-unrotated
-array-read-unrotated c = search needs
-
-unrotated-requires : tie.Need-unrotated-requires
-unrotated-requires c κs = search needs
-
-array-read-unrotated-2 : tie.Need-array-read-unrotated-2
-array-read-unrotated-2 c = search needs
-
-unrotated-requires-2 : tie.Need-unrotated-requires-2
-unrotated-requires-2 c κs = search needs
-
-array-read-unrotated-3 : tie.Need-array-read-unrotated-3
-array-read-unrotated-3 c = search needs
-
-unrotated-requires-3 : tie.Need-unrotated-requires-3
-unrotated-requires-3 c κs = search needs
-
 returns : tie.Need-returns
 returns c =
     let x = c .before .before .unrotated in
@@ -39,13 +15,5 @@ returns c =
 pub kept-spec : {M : Type 1} → statement M
 kept-spec =
     tie.close
-    (tie.spec
-    array-read-t5
-    array-read-t8
-    array-read-unrotated
-    unrotated-requires
-    array-read-unrotated-2
-    unrotated-requires-2
-    array-read-unrotated-3
-    unrotated-requires-3
-    returns)
+    (tie.spec (λ c. search needs) (λ c. search needs) (λ c. search needs) (λ c κs. search needs) (λ c. search needs)
+    (λ c κs. search needs) (λ c. search needs) (λ c κs. search needs) returns)

@@ -8,21 +8,6 @@ use borrow.Author.Needs.{needs}
 use Rattle.sha1_block.proofs.round.round_maj.Statement.{statement}
 use Rattle.sha1_block.proofs.round.round_maj.Tie as tie
 
-array-read-maj : tie.Need-array-read-maj
-array-read-maj c = search needs
-
-array-read-maj-2 : tie.Need-array-read-maj-2
-array-read-maj-2 c = search needs
-
-array-read-maj-3 : tie.Need-array-read-maj-3
-array-read-maj-3 c = search needs
-
-maj-requires : tie.Need-maj-requires
-maj-requires c κs = search needs
-
-step-requires : tie.Need-step-requires
-step-requires c κs = search needs
-
 returns : tie.Need-returns
 unfolding variables stepBy
 returns c =
@@ -33,4 +18,5 @@ returns c =
 pub round-maj-spec : {M : Type 1} → statement M
 round-maj-spec =
     tie.close
-    (tie.spec array-read-maj array-read-maj-2 array-read-maj-3 maj-requires step-requires returns)
+    (tie.spec (λ c. search needs) (λ c. search needs) (λ c. search needs) (λ c κs. search needs) (λ c κs. search needs)
+    returns)

@@ -8,21 +8,6 @@ use borrow.Author.Needs.{needs}
 use Rattle.sha1_block.proofs.round.round_parity.Statement.{statement}
 use Rattle.sha1_block.proofs.round.round_parity.Tie as tie
 
-array-read-parity : tie.Need-array-read-parity
-array-read-parity c = search needs
-
-array-read-parity-2 : tie.Need-array-read-parity-2
-array-read-parity-2 c = search needs
-
-array-read-parity-3 : tie.Need-array-read-parity-3
-array-read-parity-3 c = search needs
-
-parity-requires : tie.Need-parity-requires
-parity-requires c κs = search needs
-
-step-requires : tie.Need-step-requires
-step-requires c κs = search needs
-
 returns : tie.Need-returns
 unfolding variables stepBy
 returns c =
@@ -33,10 +18,5 @@ returns c =
 pub round-parity-spec : {M : Type 1} → statement M
 round-parity-spec =
     tie.close
-    (tie.spec
-    array-read-parity
-    array-read-parity-2
-    array-read-parity-3
-    parity-requires
-    step-requires
+    (tie.spec (λ c. search needs) (λ c. search needs) (λ c. search needs) (λ c κs. search needs) (λ c κs. search needs)
     returns)

@@ -8,42 +8,6 @@ use borrow.Author.Needs.{needs}
 use Rattle.sha1_block.proofs.round.step.Statement.{statement}
 use Rattle.sha1_block.proofs.round.step.Tie as tie
 
-array-read-rotl : tie.Need-array-read-rotl
-array-read-rotl c = search needs
-
-rotl-requires : tie.Need-rotl-requires
-rotl-requires c κs = search needs
-
-add-requires : tie.Need-add-requires
-add-requires c κs = search needs
-
-array-read-rotl-2 : tie.Need-array-read-rotl-2
-array-read-rotl-2 c = search needs
-
-rotl-requires-2 : tie.Need-rotl-requires-2
-rotl-requires-2 c κs = search needs
-
-add-requires-2 : tie.Need-add-requires-2
-add-requires-2 c κs = search needs
-
-add-requires-3 : tie.Need-add-requires-3
-add-requires-3 c κs = search needs
-
-add-requires-4 : tie.Need-add-requires-4
-add-requires-4 c κs = search needs
-
-array-read-t7 : tie.Need-array-read-t7
-array-read-t7 c = search needs
-
-array-read-t17 : tie.Need-array-read-t17
-array-read-t17 c = search needs
-
-array-read-t14 : tie.Need-array-read-t14
-array-read-t14 c = search needs
-
-array-read-t13 : tie.Need-array-read-t13
-array-read-t13 c = search needs
-
 returns : tie.Need-returns
 returns c =
     let a = c .before .before .before .before .before .before .args in
@@ -59,17 +23,6 @@ returns c =
 pub step-spec : {M : Type 1} → statement M
 step-spec =
     tie.close
-    (tie.spec
-    array-read-rotl
-    rotl-requires
-    add-requires
-    array-read-rotl-2
-    rotl-requires-2
-    add-requires-2
-    add-requires-3
-    add-requires-4
-    array-read-t7
-    array-read-t17
-    array-read-t14
-    array-read-t13
-    returns)
+    (tie.spec (λ c. search needs) (λ c κs. search needs) (λ c κs. search needs) (λ c. search needs)
+    (λ c κs. search needs) (λ c κs. search needs) (λ c κs. search needs) (λ c κs. search needs) (λ c. search needs)
+    (λ c. search needs) (λ c. search needs) (λ c. search needs) returns)

@@ -8,9 +8,6 @@ use borrow.Author.Needs.{needs}
 use Rattle.sha1_block.proofs.round.unrotated.Statement.{statement}
 use Rattle.sha1_block.proofs.round.unrotated.Tie as tie
 
-rotl-requires : tie.Need-rotl-requires
-rotl-requires c κs = search needs
-
 returns : tie.Need-returns
 returns c =
     let x = c .before .args .x in
@@ -18,4 +15,4 @@ returns c =
     ap (λ (n : ℕ). ROTL 30 n) turned ∙ turned-back x (search needs)
 
 pub unrotated-spec : {M : Type 1} → statement M
-unrotated-spec = tie.close (tie.spec rotl-requires returns)
+unrotated-spec = tie.close (tie.spec (λ c κs. search needs) returns)

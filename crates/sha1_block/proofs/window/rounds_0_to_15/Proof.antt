@@ -10,18 +10,6 @@ use borrow.Author.Needs.{needs}
 use Rattle.sha1_block.proofs.window.rounds_0_to_15.Statement.{statement}
 use Rattle.sha1_block.proofs.window.rounds_0_to_15.Tie as tie
 
-four-ch-requires : tie.Need-four-ch-requires
-four-ch-requires c κs = search needs
-
-four-ch-requires-2 : tie.Need-four-ch-requires-2
-four-ch-requires-2 c κs = search needs
-
-four-ch-requires-3 : tie.Need-four-ch-requires-3
-four-ch-requires-3 c κs = search needs
-
-four-ch-requires-4 : tie.Need-four-ch-requires-4
-four-ch-requires-4 c κs = search needs
-
 -- what each four rounds come to
 one : (c : tie.After-four-ch) → variables (c .four-ch .result) ≡ runs Ch 0x5a827999 (now (c .before .args .w)) 0 (variables (c .before .args .s)) 4
 one c = c .four-ch .ensures
@@ -42,4 +30,4 @@ returns c = let w = now (c .before .before .before .before .args .w) in more Ch 
 pub rounds-0-to-15-spec : {M : Type 1} → statement M
 rounds-0-to-15-spec =
     tie.close
-    (tie.spec four-ch-requires four-ch-requires-2 four-ch-requires-3 four-ch-requires-4 returns)
+    (tie.spec (λ c κs. search needs) (λ c κs. search needs) (λ c κs. search needs) (λ c κs. search needs) returns)

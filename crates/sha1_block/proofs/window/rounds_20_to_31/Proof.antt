@@ -10,15 +10,6 @@ use borrow.Author.Needs.{needs}
 use Rattle.sha1_block.proofs.window.rounds_20_to_31.Statement.{statement}
 use Rattle.sha1_block.proofs.window.rounds_20_to_31.Tie as tie
 
-four-parity-requires : tie.Need-four-parity-requires
-four-parity-requires c κs = search needs
-
-four-parity-requires-2 : tie.Need-four-parity-requires-2
-four-parity-requires-2 c κs = search needs
-
-four-parity-requires-3 : tie.Need-four-parity-requires-3
-four-parity-requires-3 c κs = search needs
-
 -- what each four rounds come to
 one : (c : tie.After-four-parity) → variables (c .four-parity .result) ≡ runs Parity 0x6ed9eba1 (now (c .before .args .w)) 4 (variables (c .before .args .s)) 4
 one c = c .four-parity .ensures
@@ -34,5 +25,4 @@ unfolding runs
 returns c = let w = now (c .before .before .before .args .w) in more Parity 0x6ed9eba1 w 12 (three c) (more Parity 0x6ed9eba1 w 8 (two (c .before)) (one (c .before .before)))
 
 pub rounds-20-to-31-spec : {M : Type 1} → statement M
-rounds-20-to-31-spec =
-    tie.close (tie.spec four-parity-requires four-parity-requires-2 four-parity-requires-3 returns)
+rounds-20-to-31-spec = tie.close (tie.spec (λ c κs. search needs) (λ c κs. search needs) (λ c κs. search needs) returns)

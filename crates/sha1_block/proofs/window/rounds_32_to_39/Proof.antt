@@ -10,12 +10,6 @@ use borrow.Author.Needs.{needs}
 use Rattle.sha1_block.proofs.window.rounds_32_to_39.Statement.{statement}
 use Rattle.sha1_block.proofs.window.rounds_32_to_39.Tie as tie
 
-four-parity-requires : tie.Need-four-parity-requires
-four-parity-requires c κs = search needs
-
-four-parity-requires-2 : tie.Need-four-parity-requires-2
-four-parity-requires-2 c κs = search needs
-
 -- what each four rounds come to
 one : (c : tie.After-four-parity) → variables (c .four-parity .result) ≡ runs Parity 0x6ed9eba1 (now (c .before .args .w)) 0 (variables (c .before .args .s)) 4
 one c = c .four-parity .ensures
@@ -28,4 +22,4 @@ unfolding runs
 returns c = let w = now (c .before .before .args .w) in more Parity 0x6ed9eba1 w 4 (two c) (one (c .before))
 
 pub rounds-32-to-39-spec : {M : Type 1} → statement M
-rounds-32-to-39-spec = tie.close (tie.spec four-parity-requires four-parity-requires-2 returns)
+rounds-32-to-39-spec = tie.close (tie.spec (λ c κs. search needs) (λ c κs. search needs) returns)

@@ -10,12 +10,6 @@ use borrow.Author.Needs.{needs}
 use Rattle.sha1_block.proofs.window.rounds_40_to_47.Statement.{statement}
 use Rattle.sha1_block.proofs.window.rounds_40_to_47.Tie as tie
 
-four-maj-requires : tie.Need-four-maj-requires
-four-maj-requires c κs = search needs
-
-four-maj-requires-2 : tie.Need-four-maj-requires-2
-four-maj-requires-2 c κs = search needs
-
 -- what each four rounds come to
 one : (c : tie.After-four-maj) → variables (c .four-maj .result) ≡ runs Maj 0x8f1bbcdc (now (c .before .args .w)) 8 (variables (c .before .args .s)) 4
 one c = c .four-maj .ensures
@@ -28,4 +22,4 @@ unfolding runs
 returns c = let w = now (c .before .before .args .w) in more Maj 0x8f1bbcdc w 12 (two c) (one (c .before))
 
 pub rounds-40-to-47-spec : {M : Type 1} → statement M
-rounds-40-to-47-spec = tie.close (tie.spec four-maj-requires four-maj-requires-2 returns)
+rounds-40-to-47-spec = tie.close (tie.spec (λ c κs. search needs) (λ c κs. search needs) returns)

@@ -10,15 +10,6 @@ use borrow.Author.Needs.{needs}
 use Rattle.sha1_block.proofs.window.rounds_48_to_59.Statement.{statement}
 use Rattle.sha1_block.proofs.window.rounds_48_to_59.Tie as tie
 
-four-maj-requires : tie.Need-four-maj-requires
-four-maj-requires c κs = search needs
-
-four-maj-requires-2 : tie.Need-four-maj-requires-2
-four-maj-requires-2 c κs = search needs
-
-four-maj-requires-3 : tie.Need-four-maj-requires-3
-four-maj-requires-3 c κs = search needs
-
 -- what each four rounds come to
 one : (c : tie.After-four-maj) → variables (c .four-maj .result) ≡ runs Maj 0x8f1bbcdc (now (c .before .args .w)) 0 (variables (c .before .args .s)) 4
 one c = c .four-maj .ensures
@@ -34,5 +25,4 @@ unfolding runs
 returns c = let w = now (c .before .before .before .args .w) in more Maj 0x8f1bbcdc w 8 (three c) (more Maj 0x8f1bbcdc w 4 (two (c .before)) (one (c .before .before)))
 
 pub rounds-48-to-59-spec : {M : Type 1} → statement M
-rounds-48-to-59-spec =
-    tie.close (tie.spec four-maj-requires four-maj-requires-2 four-maj-requires-3 returns)
+rounds-48-to-59-spec = tie.close (tie.spec (λ c κs. search needs) (λ c κs. search needs) (λ c κs. search needs) returns)

@@ -10,18 +10,6 @@ use borrow.Author.Needs.{needs}
 use Rattle.sha1_block.proofs.window.rounds_64_to_79.Statement.{statement}
 use Rattle.sha1_block.proofs.window.rounds_64_to_79.Tie as tie
 
-four-parity-requires : tie.Need-four-parity-requires
-four-parity-requires c κs = search needs
-
-four-parity-requires-2 : tie.Need-four-parity-requires-2
-four-parity-requires-2 c κs = search needs
-
-four-parity-requires-3 : tie.Need-four-parity-requires-3
-four-parity-requires-3 c κs = search needs
-
-four-parity-requires-4 : tie.Need-four-parity-requires-4
-four-parity-requires-4 c κs = search needs
-
 -- what each four rounds come to
 one : (c : tie.After-four-parity) → variables (c .four-parity .result) ≡ runs Parity 0xca62c1d6 (now (c .before .args .w)) 0 (variables (c .before .args .s)) 4
 one c = c .four-parity .ensures
@@ -42,9 +30,4 @@ returns c = let w = now (c .before .before .before .before .args .w) in more Par
 pub rounds-64-to-79-spec : {M : Type 1} → statement M
 rounds-64-to-79-spec =
     tie.close
-    (tie.spec
-    four-parity-requires
-    four-parity-requires-2
-    four-parity-requires-3
-    four-parity-requires-4
-    returns)
+    (tie.spec (λ c κs. search needs) (λ c κs. search needs) (λ c κs. search needs) (λ c κs. search needs) returns)

@@ -9,12 +9,6 @@ use borrow.Author.Needs.{needs}
 use Rattle.sha256.proofs.value.of_block.Statement.{statement}
 use Rattle.sha256.proofs.value.of_block.Tie as tie
 
-slice-aggregate-compress-blocks : tie.Need-slice-aggregate-compress-blocks
-slice-aggregate-compress-blocks c = search needs
-
-compress-blocks-requires : tie.Need-compress-blocks-requires
-compress-blocks-requires c κs = search needs
-
 returns : tie.Need-returns
 unfolding H0
 returns c =
@@ -24,5 +18,4 @@ returns c =
     done ∙ one-block compress H0 b l
 
 pub of-block-spec : {M : Type 1} → statement M
-of-block-spec =
-    tie.close (tie.spec slice-aggregate-compress-blocks compress-blocks-requires returns)
+of-block-spec = tie.close (tie.spec (λ c. search needs) (λ c κs. search needs) returns)

@@ -5,12 +5,9 @@ use borrow.Author.Needs.{needs}
 use Rattle.sha256.proofs.value.of_blocks.Statement.{statement}
 use Rattle.sha256.proofs.value.of_blocks.Tie as tie
 
-compress-blocks-requires : tie.Need-compress-blocks-requires
-compress-blocks-requires c κs = search needs
-
 returns : tie.Need-returns
 unfolding H0
 returns c = c .compress-blocks .ensures
 
 pub of-blocks-spec : {M : Type 1} → statement M
-of-blocks-spec = tie.close (tie.spec compress-blocks-requires returns)
+of-blocks-spec = tie.close (tie.spec (λ c κs. search needs) returns)

@@ -18,41 +18,11 @@ abbrev μ-loop : tie.MeasureT-loop
 loop-holds : tie.Need-loop-holds Inv-loop μ-loop
 loop-holds c = (omega arith, refl, none-written _)
 
-mul-be32 : tie.Need-mul-be32 Inv-loop μ-loop
-mul-be32 c = search needs
-
-array-read-be32 : tie.Need-array-read-be32 Inv-loop μ-loop
-array-read-be32 c = search needs
-
-be32-requires : tie.Need-be32-requires Inv-loop μ-loop
-be32-requires c κs = search needs
-
-slice-aggregate-copy : tie.Need-slice-aggregate-copy Inv-loop μ-loop
-slice-aggregate-copy c = search needs
-
-mul-r : tie.Need-mul-r Inv-loop μ-loop
-mul-r c = search needs
-
-sub-copy : tie.Need-sub-copy Inv-loop μ-loop
-sub-copy c = search needs
-
-part-r-start : tie.Need-part-r-start Inv-loop μ-loop
-part-r-start c = search needs
-
-part-r-end : tie.Need-part-r-end Inv-loop μ-loop
-part-r-end c = search needs
-
 copy-requires : tie.Need-copy-requires Inv-loop μ-loop
 copy-requires c κs =
     let w : length (c .before .before .be32 .result) ≡ 4 = search needs in
     let r : length (c .before .before .before .before .loop .r) ≡ 32 = c .before .before .before .before .loop .inv .1 in
     simp (length-take, length-drop) (omega arith)
-
-add-j : tie.Need-add-j Inv-loop μ-loop
-add-j c = search needs
-
-loop-less : tie.Need-loop-less Inv-loop μ-loop
-loop-less c = search needs
 
 loop-again : tie.Need-loop-again Inv-loop μ-loop
 loop-again c =
@@ -69,20 +39,6 @@ returns c =
 pub to-bytes-spec : {M : Type 1} → statement M
 to-bytes-spec =
     tie.close
-    (tie.spec
-    Inv-loop
-    μ-loop
-    loop-holds
-    mul-be32
-    array-read-be32
-    be32-requires
-    slice-aggregate-copy
-    mul-r
-    sub-copy
-    part-r-start
-    part-r-end
-    copy-requires
-    add-j
-    loop-less
-    loop-again
-    returns)
+    (tie.spec Inv-loop μ-loop loop-holds (λ c. search needs) (λ c. search needs) (λ c κs. search needs)
+    (λ c. search needs) (λ c. search needs) (λ c. search needs) (λ c. search needs) (λ c. search needs) copy-requires
+    (λ c. search needs) (λ c. search needs) loop-again returns)

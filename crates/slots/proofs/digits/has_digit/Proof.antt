@@ -6,24 +6,6 @@ use Rattle.slot_rules.proofs.Digits.{low-tested, high-tested}
 use Rattle.slots.proofs.digits.has_digit.Statement.{statement}
 use Rattle.slots.proofs.digits.has_digit.Tie as tie
 
-cast-low : tie.Need-cast-low
-cast-low c = search needs
-
-cast-high : tie.Need-cast-high
-cast-high c = search needs
-
-cast-result : tie.Need-cast-result
-cast-result c = search needs
-
-shr-result : tie.Need-shr-result
-shr-result c = search needs
-
-cast-result-2 : tie.Need-cast-result-2
-cast-result-2 c = search needs
-
-shr-result-2 : tie.Need-shr-result-2
-shr-result-2 c = search needs
-
 returns : tie.Need-returns
 returns c = let a = c .before .args in low-tested (a .word) (a .i) (c .if1 .taken)
 
@@ -38,13 +20,5 @@ returns-3 c = simp (le-ltb _ _ (c .if2 .left))
 pub has-digit-spec : {M : Type 1} → statement M
 has-digit-spec =
     tie.close
-    (tie.spec
-    cast-low
-    cast-high
-    cast-result
-    shr-result
-    cast-result-2
-    shr-result-2
-    returns
-    returns-2
-    returns-3)
+    (tie.spec (λ c. search needs) (λ c. search needs) (λ c. search needs) (λ c. search needs) (λ c. search needs)
+    (λ c. search needs) returns returns-2 returns-3)

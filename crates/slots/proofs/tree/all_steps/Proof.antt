@@ -25,21 +25,6 @@ loop-holds c =
     let z : a .taken ≡ a .taken / 1 = omega arith in
     (omega arith, refl, z, λ j h. absurd (omega arith))
 
-element-copy-out-step-of : tie.Need-element-copy-out-step-of Inv-loop μ-loop
-element-copy-out-step-of c = search needs
-
-step-of-requires : tie.Need-step-of-requires Inv-loop μ-loop
-step-of-requires c κs = search needs
-
-array-write-steps : tie.Need-array-write-steps Inv-loop μ-loop
-array-write-steps c = search needs
-
-add-s : tie.Need-add-s Inv-loop μ-loop
-add-s c = search needs
-
-loop-less : tie.Need-loop-less Inv-loop μ-loop
-loop-less c = search needs
-
 loop-again : tie.Need-loop-again Inv-loop μ-loop
 loop-again c =
     let a = c .before .before .before .before .args in
@@ -64,14 +49,5 @@ returns c =
 pub all-steps-spec : {M : Type 1} → statement M
 all-steps-spec =
     tie.close
-    (tie.spec
-    Inv-loop
-    μ-loop
-    loop-holds
-    element-copy-out-step-of
-    step-of-requires
-    array-write-steps
-    add-s
-    loop-less
-    loop-again
-    returns)
+    (tie.spec Inv-loop μ-loop loop-holds (λ c. search needs) (λ c κs. search needs) (λ c. search needs)
+    (λ c. search needs) (λ c. search needs) loop-again returns)

@@ -13,27 +13,6 @@ use Rattle.slots.proofs.tree.check_parent.Tie as tie
 stored : (s : tie.Start) → Fits (s .args .slots)
 stored s = search (needs, length-mapped)
 
-enum-told : tie.Need-enum-told
-enum-told c = search needs
-
-enum-known-parent : tie.Need-enum-known-parent
-enum-known-parent c = search needs
-
-has-digit-requires : tie.Need-has-digit-requires
-has-digit-requires c κs = search needs
-
-unless-requires : tie.Need-unless-requires
-unless-requires c κs = search needs
-
-root-within-two-requires : tie.Need-root-within-two-requires
-root-within-two-requires c κs = search needs
-
-unless-requires-2 : tie.Need-unless-requires-2
-unless-requires-2 c κs = search needs
-
-then-check-requires : tie.Need-then-check-requires
-then-check-requires c κs = search needs
-
 returns : tie.Need-returns
 returns c = rw (c .enum-told .given .1) (root-checked (c .before .before .before .args .slots))
 
@@ -53,13 +32,5 @@ returns-2 c =
 pub check-parent-spec : {M : Type 1} → statement M
 check-parent-spec =
     tie.close
-    (tie.spec
-    enum-told
-    enum-known-parent
-    has-digit-requires
-    unless-requires
-    root-within-two-requires
-    unless-requires-2
-    then-check-requires
-    returns
-    returns-2)
+    (tie.spec (λ c. search needs) (λ c. search needs) (λ c κs. search needs) (λ c κs. search needs)
+    (λ c κs. search needs) (λ c κs. search needs) (λ c κs. search needs) returns returns-2)

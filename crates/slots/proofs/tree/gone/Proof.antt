@@ -11,12 +11,6 @@ use Rattle.slots.proofs.tree.gone.Tie as tie
 stored : (s : tie.Start) → Fits (s .args .slots)
 stored s = search (needs, length-mapped)
 
-all-steps-requires : tie.Need-all-steps-requires
-all-steps-requires c κs = search needs
-
-reaching-requires : tie.Need-reaching-requires
-reaching-requires c κs = search needs
-
 returns : tie.Need-returns
 returns c =
     let made = c .before .before in
@@ -25,4 +19,4 @@ returns c =
     ∙ gone-live (s .args .slots) (stored s) (s .args .number) (made .all-steps .result) (s .pre) (made .all-steps .ensures)
 
 pub gone-spec : {M : Type 1} → statement M
-gone-spec = tie.close (tie.spec all-steps-requires reaching-requires returns)
+gone-spec = tie.close (tie.spec (λ c κs. search needs) (λ c κs. search needs) returns)

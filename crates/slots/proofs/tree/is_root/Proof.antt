@@ -7,9 +7,6 @@ use Rattle.slot_rules.proofs.Steps.{below}
 use Rattle.slots.proofs.tree.is_root.Statement.{statement}
 use Rattle.slots.proofs.tree.is_root.Tie as tie
 
-has-digit-requires : tie.Need-has-digit-requires
-has-digit-requires c κs = search needs
-
 element-copy-out-result : tie.Need-element-copy-out-result
 element-copy-out-result c =
     let a = c .before .before .args in
@@ -24,4 +21,4 @@ unfolding rootBy
 returns-2 c = simp (sym (c .before .has-digit .ensures) ∙ c .if1 .left)
 
 pub is-root-spec : {M : Type 1} → statement M
-is-root-spec = tie.close (tie.spec has-digit-requires element-copy-out-result returns returns-2)
+is-root-spec = tie.close (tie.spec (λ c κs. search needs) element-copy-out-result returns returns-2)

@@ -9,15 +9,6 @@ use Rattle.slot_rules.specs.Internal.{reachesBy}
 use Rattle.slots.proofs.tree.reaches.Statement.{statement}
 use Rattle.slots.proofs.tree.reaches.Tie as tie
 
-step-in-requires : tie.Need-step-in-requires
-step-in-requires c κs = search needs
-
-step-in-requires-2 : tie.Need-step-in-requires-2
-step-in-requires-2 c κs = search needs
-
-step-in-requires-3 : tie.Need-step-in-requires-3
-step-in-requires-3 c κs = search needs
-
 -- by the slots that one, two and three steps come to
 by-steps : (g : ℕ → ℕ) (n s a b c : ℕ) → a ≡ g s → b ≡ g a → c ≡ g b → (eqb s n || (eqb a n || (eqb b n || eqb c n))) ≡ reachesBy g n s
 unfolding reachesBy
@@ -30,4 +21,4 @@ returns : tie.Need-returns
 returns c = by-steps _ _ _ _ _ _ (c .before .before .step-in .ensures) (c .before .step-in2 .ensures) (c .step-in3 .ensures)
 
 pub reaches-spec : {M : Type 1} → statement M
-reaches-spec = tie.close (tie.spec step-in-requires step-in-requires-2 step-in-requires-3 returns)
+reaches-spec = tie.close (tie.spec (λ c κs. search needs) (λ c κs. search needs) (λ c κs. search needs) returns)

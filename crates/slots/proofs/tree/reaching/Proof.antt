@@ -20,9 +20,6 @@ loop-holds : tie.Need-loop-holds Inv-loop μ-loop
 unfolding wordGone
 loop-holds c = (omega arith, refl)
 
-sub-s : tie.Need-sub-s Inv-loop μ-loop
-sub-s c = search needs
-
 mul-word : tie.Need-mul-word Inv-loop μ-loop
 mul-word c =
     let a = c .before .before .args in
@@ -30,12 +27,6 @@ mul-word c =
     let h : wordGone (reachesBy (stepIn (a .steps .now)) (a .n)) (l .s) (64 - l .s) < 2 ^ 63 = word-fits _ (l .s) (search needs) in
     let g : l .word < 2 ^ 63 = rw (l .inv .1) h in
     omega arith
-
-reaches-requires : tie.Need-reaches-requires Inv-loop μ-loop
-reaches-requires c κs = search needs
-
-digit-of-requires : tie.Need-digit-of-requires Inv-loop μ-loop
-digit-of-requires c κs = search needs
 
 add-word : tie.Need-add-word Inv-loop μ-loop
 add-word c =
@@ -46,9 +37,6 @@ add-word c =
     let d : digit (c .before .reaches .result) < 2 = digit-lt (c .before .reaches .result) in
     let e = c .digit-of .ensures in
     omega arith
-
-loop-less : tie.Need-loop-less Inv-loop μ-loop
-loop-less c = search needs
 
 loop-again : tie.Need-loop-again Inv-loop μ-loop
 loop-again c =
@@ -69,15 +57,5 @@ returns c =
 pub reaching-spec : {M : Type 1} → statement M
 reaching-spec =
     tie.close
-    (tie.spec
-    Inv-loop
-    μ-loop
-    loop-holds
-    sub-s
-    mul-word
-    reaches-requires
-    digit-of-requires
-    add-word
-    loop-less
-    loop-again
-    returns)
+    (tie.spec Inv-loop μ-loop loop-holds (λ c. search needs) mul-word (λ c κs. search needs) (λ c κs. search needs)
+    add-word (λ c. search needs) loop-again returns)

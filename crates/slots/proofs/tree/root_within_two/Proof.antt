@@ -9,21 +9,6 @@ use Rattle.slot_rules.specs.Internal.{stepFrom, rootBy, rootWithinTwoBy}
 use Rattle.slots.proofs.tree.root_within_two.Statement.{statement}
 use Rattle.slots.proofs.tree.root_within_two.Tie as tie
 
-step-requires : tie.Need-step-requires
-step-requires c κs = search needs
-
-step-requires-2 : tie.Need-step-requires-2
-step-requires-2 c κs = search needs
-
-is-root-requires : tie.Need-is-root-requires
-is-root-requires c κs = search needs
-
-is-root-requires-2 : tie.Need-is-root-requires-2
-is-root-requires-2 c κs = search needs
-
-is-root-requires-3 : tie.Need-is-root-requires-3
-is-root-requires-3 c κs = search needs
-
 -- by the slots that one and two steps come to, and whether each is a root
 by-steps : (w : ℕ) (parents : List ℕ) (s a b : ℕ) (x y z : Bool) → a ≡ stepFrom w parents s → b ≡ stepFrom w parents a
     → x ≡ rootBy w parents s → y ≡ rootBy w parents a → z ≡ rootBy w parents b → (x || (y || z)) ≡ rootWithinTwoBy w parents s
@@ -42,10 +27,5 @@ returns c =
 pub root-within-two-spec : {M : Type 1} → statement M
 root-within-two-spec =
     tie.close
-    (tie.spec
-    step-requires
-    step-requires-2
-    is-root-requires
-    is-root-requires-2
-    is-root-requires-3
-    returns)
+    (tie.spec (λ c κs. search needs) (λ c κs. search needs) (λ c κs. search needs) (λ c κs. search needs)
+    (λ c κs. search needs) returns)
