@@ -21,6 +21,6 @@ loads_only() {
 
 install_for objdump binutils
 check 'the archive' make_archive
-check keywrap_passes::passes loads_only keywrap_passes::passes 16
+check keywrap_aes::passes::passes loads_only keywrap_aes::passes::passes 16
 check sha256_block::compress_blocks loads_only sha256_block::compress_blocks 8
 tell_counts

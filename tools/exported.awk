@@ -1,10 +1,10 @@
 # awk -f tools/exported.awk crates/*/src/*.rt: what the header has to declare for the crates, in the form of tools/header.awk: each function
 # that is marked pub extern "C", and each struct that is marked #[repr(C)]. A slice is a pointer and a length in C. A struct's name in C is
 # its name in small letters, without 'Outcome' at its end where what is left is no other struct's name. Lifetimes and the module of a type are nothing to C. `type` is a keyword in
-# Rattle, where it stands as `attribute_type`. The fields row0, row1 and so on of one type, one after the other, are one array in C: `names`.
+# Rattle, where it stands as `attribute_type`.
 
 # the structs that keep 'Outcome' at their end: kv_outcome, and kv_slots_outcome, which has a kv_slots in it
-BEGIN { keeps_ending["Outcome"] = keeps_ending["SlotsOutcome"] = 1; rows = 0 }
+BEGIN { keeps_ending["Outcome"] = keeps_ending["SlotsOutcome"] = 1 }
 
 function c_name(name) { return name == "attribute_type" ? "type" : name }
 
@@ -33,14 +33,6 @@ function field(name, type,    parts) {
     return c_type(parts[1]) " " name "[" parts[2] "];"
 }
 
-# the rows of names that were read
-function tell_rows(    parts) {
-    if (!rows) return
-    split(substr(row, 2, length(row) - 2), parts, "; ")
-    line = line " " field("names", "[" parts[1] "; " rows * parts[2] "]")
-    rows = 0
-}
-
 function tell_function(signature,    open, end, result, parts, pair, n, i, line) {
     open = index(signature, "(")
     end = index(signature, ") -> ")
@@ -61,10 +53,8 @@ function tell_function(signature,    open, end, result, parts, pair, n, i, line)
 /^#\[/ { next }
 /^pub struct / && repr { struct = $3; line = "struct"; repr = 0; next }
 { repr = 0 }
-struct != "" && /^[}]/ { tell_rows(); print struct_name(struct), line; struct = ""; next }
-struct != "" { sub(/^ *pub /, ""); sub(/,$/, ""); split($0, pair, ": ") }
-struct != "" && pair[1] == "row" rows && (!rows || pair[2] == row) { row = pair[2]; rows++; next }
-struct != "" { tell_rows(); line = line " " field(pair[1], pair[2]); next }
+struct != "" && /^[}]/ { print struct_name(struct), line; struct = ""; next }
+struct != "" { sub(/^ *pub /, ""); sub(/,$/, ""); split($0, pair, ": "); line = line " " field(pair[1], pair[2]); next }
 sub(/^pub extern "C" fn /, "") { within = 1; signature = "" }
 within && /^ *(requires|ensures)|^[{]/ { tell_function(signature); within = 0 }
 within { sub(/^ +/, ""); signature = signature $0 }

@@ -7,7 +7,7 @@ use Prim.Native.Nat.{ℕ, _<_, _/_, _%_}
 use lib.Bits.{bitXor}
 use lib.ListN.{length, getD}
 use Rattle.fips197.specs.State.{State, bytes, columns}
-use Rattle.aes_word.specs.Words.{columnOf, turned}
+use Rattle.aes128.specs.Words.{columnOf, turned}
 
 -- The state of four words.
 abbrev pub stateOf : List ℕ → State

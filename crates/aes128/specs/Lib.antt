@@ -1,1 +1,3 @@
+pub mod KeysInternal
+pub mod Words
 pub mod Internal

@@ -1,9 +1,15 @@
 // AES-128 by FIPS 197: the cipher, and the inverse cipher in its equivalent form (section 5.3.5). The state is four columns of four bytes,
 // passed by value through each step. SubBytes is taken with the step after it, by a table: in a round, what a byte brings to its mixed column
 // is looked up as one word of 32 bits. From round to round a column is such a word, so that the compiler keeps it in a register.
-use aes_word::column;
-use aes_word::turn;
-use aes_word::word;
+
+mod columns; // columns of the state as words of 32 bits
+mod keys; // the round keys of the cipher and of the equivalent inverse cipher
+
+use crate::columns::column;
+use crate::columns::turn;
+use crate::columns::word;
+pub use keys::expand_key;
+pub use keys::invert_keys;
 ghost use mathlib.Core.Path.{_≡_};
 ghost use mathlib.Core.List.{[], _∷_};
 ghost use Prim.Native.Nat.{_<_};
@@ -222,7 +228,7 @@ pub fn encrypt(ks: &[[[u8; 4]; 4]; 11], s: [[u8; 4]; 4]) -> [[u8; 4]; 4]
     add_round_key(sub_bytes(shift_rows(state(t))), ks[10])
 }
 
-// EqInvCipher: decrypts one block under the round keys ks of the equivalent inverse cipher, which `aes_keys::invert_keys` makes.
+// EqInvCipher: decrypts one block under the round keys ks of the equivalent inverse cipher, which `aes128::keys::invert_keys` makes.
 pub fn decrypt(ks: &[[[u8; 4]; 4]; 11], s: [[u8; 4]; 4]) -> [[u8; 4]; 4]
     ensures { λ r. ⌜ r ≡ eqInvCipher (now (ks .entry)) s ⌝ }
 {

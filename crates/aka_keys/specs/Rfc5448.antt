@@ -8,6 +8,7 @@ use lib.Dec.{eqb}
 use lib.ListN.{length, take, drop}
 use Rattle.slices.specs.Ascii.{ascii}
 use Rattle.refusal.specs.Checks.{Check, bare, unless, _andThen_, within, check6}
+use Rattle.refusal.specs.Answers.{Answer, answerTo, bufferAfter}
 use Rattle.hmac.specs.Rfc2104.{hmacSha256}
 use Rattle.prf_plus.specs.PrfPlus.{prfPlus}
 use Rattle.aka_keys.specs.Ts33402.{ckPrime, ikPrime}
@@ -58,3 +59,11 @@ inputCheck ck ik name sqnXorAk identity = check43 ck ik sqnXorAk andThen check44
 
 unfoldable pub akaCheck : List ℕ → List ℕ → List ℕ → List ℕ → List ℕ → ℕ → Check
 akaCheck ck ik name sqnXorAk identity room = inputCheck ck ik name sqnXorAk identity andThen check6 208 room
+
+-- what the call answers: 208, or the first refusal
+unfoldable pub akaAnswer : List ℕ → List ℕ → List ℕ → List ℕ → List ℕ → ℕ → Answer
+akaAnswer ck ik name sqnXorAk identity room = answerTo (akaCheck ck ik name sqnXorAk identity room) 208
+
+-- what it leaves in the output buffer: its 208 bytes and then what stood there, or all that stood there
+unfoldable pub akaBuffer : List ℕ → List ℕ → List ℕ → List ℕ → List ℕ → List ℕ → List ℕ
+akaBuffer ck ik name sqnXorAk identity buffer = bufferAfter (akaCheck ck ik name sqnXorAk identity (length buffer)) 208 (keyMaterial ck ik name sqnXorAk identity) buffer

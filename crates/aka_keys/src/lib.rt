@@ -8,7 +8,7 @@ ghost use Rattle.refusal.specs.Checks.{_andThen_};
 ghost use Rattle.refusal.specs.Answers.{checkedAs, answerOf, answerTo, bufferAfter};
 ghost use Rattle.hmac.specs.Rfc2104.{hmacSha256};
 ghost use Rattle.prf_plus.specs.PrfPlus.{prfPlus, expandCheck};
-ghost use Rattle.aka_keys.specs.Rfc5448.{expansionKey, expansionText, inputCheck, akaCheck, keyMaterial};
+ghost use Rattle.aka_keys.specs.Rfc5448.{expansionKey, expansionText, inputCheck, akaAnswer, akaBuffer};
 use refusal::Checked;
 use refusal::Refusal;
 use refusal::Written;
@@ -87,8 +87,8 @@ pub fn aka_keys<'a>(
     identity: &'a [u8],
     out: &mut [u8],
 ) -> Written
-    ensures answer { λ r. ⌜ answerOf r ≡ answerTo (akaCheck (now (ck .entry)) (now (ik .entry)) (now (name .entry)) (now («sqn_xor_ak» .entry)) (now (identity .entry)) (length (now (out .entry)))) 208 ⌝ }
-    ensures buffer { λ _. ⌜ now (out .exit) ≡ bufferAfter (akaCheck (now (ck .entry)) (now (ik .entry)) (now (name .entry)) (now («sqn_xor_ak» .entry)) (now (identity .entry)) (length (now (out .entry)))) 208 (keyMaterial (now (ck .entry)) (now (ik .entry)) (now (name .entry)) (now («sqn_xor_ak» .entry)) (now (identity .entry))) (now (out .entry)) ⌝ }
+    ensures answer { λ r. ⌜ answerOf r ≡ akaAnswer (now (ck .entry)) (now (ik .entry)) (now (name .entry)) (now («sqn_xor_ak» .entry)) (now (identity .entry)) (length (now (out .entry))) ⌝ }
+    ensures buffer { λ _. ⌜ now (out .exit) ≡ akaBuffer (now (ck .entry)) (now (ik .entry)) (now (name .entry)) (now («sqn_xor_ak» .entry)) (now (identity .entry)) (now (out .entry)) ⌝ }
 {
     let inputs = check_inputs(ck, ik, name, sqn_xor_ak, identity);
     let check = refusal::then_check(inputs, refusal::check_room(MATERIAL, out.len()));

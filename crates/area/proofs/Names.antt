@@ -16,7 +16,7 @@ use Rattle.area_format.specs.declared.Bytes.{Bytes}
 use Rattle.area_format.specs.declared.Fault.the-variants.{AttributeBounds, KdfLength, KdfInput, KdfInputPadding}
 use Rattle.area_format.specs.declared.Name.{Name}
 use Rattle.area_format.specs.declared.Name.the-variants.{Missing, Found}
-use Rattle.area_reader.proofs.Bounds.{not-past}
+use Rattle.area.proofs.reader.Bounds.{not-past}
 
 -- the name of an attribute that ends within the bytes stands within them, after four
 named-within : (bytes : List ℕ) (l : Bytes) → 4 * getD bytes 1 0 ≤ length bytes → attribute bytes ≡ Named l → 4 + l .0 ≤ length bytes

@@ -9,9 +9,9 @@ use Rattle.area_format.specs.declared.Attribute.{Attribute}
 use Rattle.area_format.specs.declared.Fault.the-variants.{AttributeBounds}
 use Rattle.area_format.specs.declared.Name.{Name}
 use Rattle.area_format.specs.declared.Name.the-variants.{Missing}
-use Rattle.area_reader.specs.Steps.{stepAt}
-use Rattle.area_reader.specs.declared.Step.the-variants.{End, Past, Met}
-use Rattle.area_reader.proofs.Onward.{next, at-end, at-past}
+use Rattle.area.specs.Steps.{stepAt}
+use Rattle.area.specs.declared.reader.Step.the-variants.{End, Past, Met}
+use Rattle.area.proofs.reader.Onward.{next, at-end, at-past}
 
 -- the area read up to an offset: reading it is reading on from there
 abbrev pub ReadTo : List ℕ → (at count : ℕ) → Name → List ℕ → Type 0

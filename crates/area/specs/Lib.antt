@@ -1,2 +1,4 @@
+pub mod Steps
+pub mod NetworkInternal
 pub mod Area
 pub mod Internal

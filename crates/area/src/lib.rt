@@ -11,14 +11,18 @@ ghost use Rattle.area_format.specs.declared.Name.the-variants.{Missing};
 ghost use Rattle.area_format.specs.Names.{sameFields};
 ghost use Rattle.area.specs.Area.{areaAnswerOf};
 ghost use Rattle.area.specs.Internal.{walkedCount, walkedAs, allowed};
+
+mod network; // network names compared by their fields
+mod reader; // the attributes of an area, read one at a time
+
+use crate::network::same_fields;
+use crate::reader::Step;
+use crate::reader::read_at;
 use area_format::Attribute;
 use area_format::Bytes;
 use area_format::Fault;
 use area_format::Name;
 use area_format::Way;
-use area_reader::Step;
-use area_reader::read_at;
-use network_name::same_fields;
 use refusal::Refusal;
 use slices::copy_values;
 

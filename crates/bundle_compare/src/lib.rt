@@ -10,8 +10,11 @@ ghost use Rattle.bundle_rules.specs.Bundle.{countIn, bundleCheck};
 ghost use Rattle.compare_rules.specs.Compare.{listed, written, compareAnswer, compareBuffer, compareCounts};
 ghost use Rattle.bundle_compare.specs.Answers.{answerIn, countsIn};
 ghost use Rattle.bundle_compare.specs.Internal.{countTo, entriesTo};
-use bundle_numbers::number_at;
-use compare_kinds::find_kinds;
+
+mod kinds; // the kinds of the lines of two bundles
+
+use crate::kinds::find_kinds;
+use bundle_contents::number_at;
 use refusal::Checked;
 use refusal::Refusal;
 

@@ -16,7 +16,7 @@ use Rattle.slices.specs.Numbers.{be16At}
 use Rattle.bundle_rules.specs.Bundle.{keyIdIn, Line, lineAt, linesFrom, follow, lastEnd, bodyOf, bodiesCheck}
 use Rattle.bundle_rules.proofs.Reading.{end-le}
 use Rattle.bundle_contents.specs.Internal.{Inside, none, more}
-use Rattle.bundle_numbers.proofs.Numbers.{lines-told}
+use Rattle.bundle_contents.proofs.Numbers.{lines-told}
 use Rattle.bundle_contents.proofs.Walking.{lines-next, lines-done, line-id}
 
 -- where each offset is the previous end and the last end is the file's, each body ends within the file

@@ -1,3 +1,4 @@
 pub mod Walking
 pub mod Bodies
 pub mod Tests
+pub mod Numbers

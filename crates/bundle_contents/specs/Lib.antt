@@ -1,1 +1,2 @@
+pub mod IdsInternal
 pub mod Internal

@@ -5,10 +5,15 @@ ghost use lib.ListN.{length};
 ghost use Rattle.refusal.specs.Answers.{checkedAs};
 ghost use Rattle.bundle_contents.specs.Internal.{Inside};
 ghost use Rattle.bundle_rules.specs.Bundle.{contentsEnd, idStands, idRepeats, linesFrom, follow, lastEnd, idsOf, bodiesCheck, bundleCheck};
-use bundle_body::check_body;
-use bundle_ids::same_id;
-use bundle_numbers::lines_length;
-use bundle_numbers::number_at;
+
+mod body; // a body held against its line
+mod digits; // the numbers of the table of contents
+mod ids; // Key IDs compared, by words
+
+use crate::body::check_body;
+pub use digits::lines_length;
+pub use digits::number_at;
+pub use ids::same_id;
 use refusal::Checked;
 use refusal::Refusal;
 

@@ -6,7 +6,7 @@ ghost use Rattle.refusal.specs.Checks.{pass};
 ghost use Rattle.refusal.specs.Answers.{answerOf};
 ghost use Rattle.bundle_rules.specs.Bundle.{packedIn, bundleCheck, readAnswer, readBuffer};
 use bundle_contents::check_bundle;
-use bundle_numbers::number_at;
+use bundle_contents::number_at;
 use refusal::Written;
 use refusal::put;
 use slices::least;

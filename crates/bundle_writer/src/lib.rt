@@ -7,9 +7,12 @@ ghost use Rattle.refusal.specs.Checks.{pass};
 ghost use Rattle.refusal.specs.Answers.{answerOf};
 ghost use Rattle.slices.specs.Numbers as Numbers;
 ghost use Rattle.bundle_rules.specs.Bundle.{contentsEnd, linesOf, packed, framesCheck, writeAnswer, writeBuffer};
-use bundle_numbers::lines_length;
-use bundle_packing::body_length;
-use bundle_packing::check_packed;
+
+mod packing; // attributes packed end to end, taken apart and tested
+
+use crate::packing::body_length;
+use crate::packing::check_packed;
+use bundle_contents::lines_length;
 use refusal::Refusal;
 use refusal::Written;
 use slices::be16;

@@ -96,8 +96,8 @@ fn write_counts(counts: Counts) {
 fn write_refusal(first: &[u8], why: Refusal) {
     io::write_all(STDOUT_FILENO, b"refused ");
     match check_bundle(first) {
-        Checked::Failed(_) => write_count(refusal_number::number(why), b": the first file\n"),
-        Checked::Passed => write_count(refusal_number::number(why), b": the second file\n"),
+        Checked::Failed(_) => write_count(refusal::number(why), b": the first file\n"),
+        Checked::Passed => write_count(refusal::number(why), b": the second file\n"),
     }
 }
 

@@ -7,7 +7,8 @@ use lib.Dec.{eqb}
 use lib.ListN.{length}
 use Rattle.slices.specs.Numbers.{be16}
 use Rattle.refusal.specs.Checks.{Check, bare, unless, _andThen_, check6}
-use Rattle.fixed_labels.specs.FixedLabels.{rrkLabel}
+use Rattle.refusal.specs.Answers.{Answer, answerTo, bufferAfter}
+use Rattle.labels.specs.FixedLabels.{rrkLabel}
 use Rattle.hmac.specs.Rfc2104.{hmacSha256}
 use Rattle.prf_plus.specs.PrfPlus.{prfPlus}
 
@@ -26,3 +27,11 @@ rrkCheck dsrk room = parentCheck dsrk andThen check6 64 room
 -- the rRK: 64 bytes of prf+, with the domain root key as K
 unfoldable pub rrkKey : List ℕ → List ℕ
 rrkKey dsrk = prfPlus hmacSha256 dsrk rrkText 64
+
+-- what the call answers: 64, or the first refusal
+unfoldable pub rrkAnswer : List ℕ → ℕ → Answer
+rrkAnswer dsrk room = answerTo (rrkCheck dsrk room) 64
+
+-- what it leaves in the output buffer: its 64 bytes and then what stood there, or all that stood there
+unfoldable pub rrkBuffer : List ℕ → List ℕ → List ℕ
+rrkBuffer dsrk buffer = bufferAfter (rrkCheck dsrk (length buffer)) 64 (rrkKey dsrk) buffer

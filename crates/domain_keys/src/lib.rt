@@ -3,10 +3,10 @@
 ghost use mathlib.Core.Path.{_≡_};
 ghost use lib.ListN.{length};
 ghost use Rattle.refusal.specs.Checks.{_andThen_, check1};
-ghost use Rattle.refusal.specs.Answers.{checkedAs, answerOf, answerTo, bufferAfter};
-ghost use Rattle.identifiers.specs.Checks.{check8};
+ghost use Rattle.refusal.specs.Answers.{checkedAs, answerOf};
+ghost use Rattle.labels.specs.IdentifiersChecks.{check8};
 ghost use Rattle.requests.specs.Requests.{forDomain, requestAnswer, requestBuffer};
-ghost use Rattle.domain_keys.specs.Rfc5296.{rrkCheck, rrkKey};
+ghost use Rattle.domain_keys.specs.Rfc5296.{rrkAnswer, rrkBuffer};
 use refusal::Checked;
 use refusal::Refusal;
 use refusal::Written;
@@ -16,7 +16,7 @@ fn check_inputs(emsk: &[u8], domain: &[u8]) -> Checked
     ensures { λ r. ⌜ checkedAs r ≡ (check1 (now (emsk .entry)) andThen check8 (now (domain .entry))) ⌝ }
 {
     let key = refusal::check_root_key(emsk);
-    let realm = identifiers::check_domain(domain);
+    let realm = labels::check_domain(domain);
     refusal::then_check(key, realm)
 }
 
@@ -32,8 +32,8 @@ pub fn domain_root_key<'a>(emsk: &[u8], domain: &'a [u8], out: &mut [u8]) -> Wri
 
 // Writes the re-authentication root key under a domain root key, which has exactly 64 bytes.
 pub fn domain_reauth_key(dsrk: &[u8], out: &mut [u8]) -> Written
-    ensures answer { λ r. ⌜ answerOf r ≡ answerTo (rrkCheck (now (dsrk .entry)) (length (now (out .entry)))) 64 ⌝ }
-    ensures buffer { λ _. ⌜ now (out .exit) ≡ bufferAfter (rrkCheck (now (dsrk .entry)) (length (now (out .entry)))) 64 (rrkKey (now (dsrk .entry))) (now (out .entry)) ⌝ }
+    ensures answer { λ r. ⌜ answerOf r ≡ rrkAnswer (now (dsrk .entry)) (length (now (out .entry))) ⌝ }
+    ensures buffer { λ _. ⌜ now (out .exit) ≡ rrkBuffer (now (dsrk .entry)) (now (out .entry)) ⌝ }
 {
     let check = refusal::unless(dsrk.len() == 64, Refusal::RootKeyLength);
     let label = b"EAP Re-authentication Root Key@ietf.org";

@@ -21,9 +21,12 @@ ghost use Rattle.handover_rules.specs.Handover.{
   r0Name,
 };
 ghost use Rattle.handover.specs.Internal.{IsText};
-use handover_texts::name_text;
-use handover_texts::r0_text;
-use handover_texts::r1_text;
+
+mod texts; // what is hashed
+
+use crate::texts::name_text;
+use crate::texts::r0_text;
+use crate::texts::r1_text;
 use hmac_sha1::Keyed;
 use refusal::Checked;
 use refusal::Refusal;

@@ -30,7 +30,7 @@ fn key_block(key: &[u8]) -> [u8; Sha256::BLOCK]
 fn key_value(block: [u8; Sha256::BLOCK], pad: u8) -> [u32; 8]
     ensures { λ r. ⌜ r ≡ compress H0 (Rfc2104.masked block pad) ⌝ }
 {
-    sha256_value::of_block(hmac_block::masked(block, pad))
+    sha256::of_block(hmac_block::masked(block, pad))
 }
 
 // The hash of a message after a block of which only the hash value is given.

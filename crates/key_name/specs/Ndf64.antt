@@ -5,6 +5,7 @@ use Prim.Native.Nat.{ℕ}
 use mathlib.Core.List.{List, _++_}
 use lib.ListN.{length, take}
 use Rattle.refusal.specs.Checks.{Check, bare, unless, within, _andThen_, check6}
+use Rattle.refusal.specs.Answers.{Answer, answerTo, bufferAfter}
 use Rattle.labels.specs.Checks.{labelCheck}
 use Rattle.sha256_block.specs.Fips180.{sha256}
 
@@ -19,3 +20,11 @@ nameCheck session label room = check9 session andThen labelCheck label andThen c
 -- the name: the first 8 bytes of SHA-256 over Session-ID then label
 unfoldable pub nameOf : List ℕ → List ℕ → List ℕ
 nameOf session label = take 8 (sha256 (session ++ label))
+
+-- what the call answers: 8, or the first refusal
+unfoldable pub nameAnswer : List ℕ → List ℕ → ℕ → Answer
+nameAnswer session label room = answerTo (nameCheck session label room) 8
+
+-- what it leaves in the output buffer: its 8 bytes and then what stood there, or all that stood there
+unfoldable pub nameBuffer : List ℕ → List ℕ → List ℕ → List ℕ
+nameBuffer session label buffer = bufferAfter (nameCheck session label (length buffer)) 8 (nameOf session label) buffer

@@ -3,10 +3,10 @@
 ghost use mathlib.Core.Path.{_≡_};
 ghost use lib.ListN.{length};
 ghost use Rattle.refusal.specs.Checks.{_andThen_};
-ghost use Rattle.refusal.specs.Answers.{checkedAs, answerOf, answerTo, bufferAfter};
+ghost use Rattle.refusal.specs.Answers.{checkedAs, answerOf};
 ghost use Rattle.labels.specs.Checks.{labelCheck};
 ghost use Rattle.sha256_block.specs.Fips180.{sha256};
-ghost use Rattle.key_name.specs.Ndf64.{check9, nameCheck, nameOf};
+ghost use Rattle.key_name.specs.Ndf64.{check9, nameAnswer, nameBuffer};
 use refusal::Checked;
 use refusal::Refusal;
 use refusal::Written;
@@ -25,8 +25,8 @@ fn check_inputs(session: &[u8], label: &[u8]) -> Checked
 
 // Writes the name of a Session-ID and a label: 8 bytes at the start of out. Nothing is hashed if 9, 2, 3 or 32 refuses.
 pub fn key_name(session: &[u8], label: &[u8], out: &mut [u8]) -> Written
-    ensures answer { λ r. ⌜ answerOf r ≡ answerTo (nameCheck (now (session .entry)) (now (label .entry)) (length (now (out .entry)))) 8 ⌝ }
-    ensures buffer { λ _. ⌜ now (out .exit) ≡ bufferAfter (nameCheck (now (session .entry)) (now (label .entry)) (length (now (out .entry)))) 8 (nameOf (now (session .entry)) (now (label .entry))) (now (out .entry)) ⌝ }
+    ensures answer { λ r. ⌜ answerOf r ≡ nameAnswer (now (session .entry)) (now (label .entry)) (length (now (out .entry))) ⌝ }
+    ensures buffer { λ _. ⌜ now (out .exit) ≡ nameBuffer (now (session .entry)) (now (label .entry)) (now (out .entry)) ⌝ }
 {
     match check_inputs(session, label) {
         Checked::Failed(why) => Written::Refused(why),

@@ -75,7 +75,7 @@ pub fn read(kek: &[u8], attribute: &[u8], out: &mut [u8]) -> KeyRead
     match check {
         Checked::Failed(why) => not_read(why),
         Checked::Passed => {
-            let answer = keywrap_unwrap::unwrap(sixteen(kek), &attribute[52..], out);
+            let answer = keywrap_aes::unwrap(sixteen(kek), &attribute[52..], out);
             match answer {
                 Written::Refused(late) => not_read(late),
                 Written::Wrote(n) => KeyRead {

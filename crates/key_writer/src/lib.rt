@@ -80,7 +80,7 @@ pub fn write(
         Checked::Failed(why) => Written::Refused(why),
         Checked::Passed => {
             let start = least(52, out.len());
-            let wrapped = keywrap_wrap::wrap(sixteen(kek), key, &mut out[start..]);
+            let wrapped = keywrap_aes::wrap(sixteen(kek), key, &mut out[start..]);
             match wrapped {
                 Written::Refused(late) => Written::Refused(late),
                 Written::Wrote(n) => {

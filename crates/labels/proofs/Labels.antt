@@ -8,16 +8,16 @@ use lib.ListN.{length}
 use Rattle.refusal.specs.Checks.{Check, pass, refuse, bare, located, unless, _andThen_, within}
 use Rattle.refusal.proofs.Passing.{before-passed, last-passed, test-passed, within-low, within-high}
 use Rattle.slices.specs.Same.{sameList}
-use Rattle.charset.specs.Bytes.{every, labelByte, scanFrom, firstBad}
-use Rattle.charset.specs.declared.Scan.{Scan}
-use Rattle.charset.specs.declared.Scan.the-variants.{Clean, BadAt}
-use Rattle.charset.specs.declared.Form.{Form}
-use Rattle.charset.specs.declared.Form.the-variants.{WellFormed, WrongLength, BadByte}
-use Rattle.charset.specs.Forms.{scanForm, formOf, isWellFormed}
-use Rattle.charset.proofs.Places.{first-place}
-use Rattle.charset.proofs.Forms.{scan-every}
-use Rattle.fixed_labels.specs.FixedLabels.{vrkLabel, visitedReauthLabel, dsrkLabel, rrkLabel, exempt}
-use Rattle.label_syntax.specs.Syntax.{count, breaches, badSyntax}
+use Rattle.labels.specs.Bytes.{every, labelByte, scanFrom, firstBad}
+use Rattle.labels.specs.declared.charset.Scan.{Scan}
+use Rattle.labels.specs.declared.charset.Scan.the-variants.{Clean, BadAt}
+use Rattle.labels.specs.declared.charset.Form.{Form}
+use Rattle.labels.specs.declared.charset.Form.the-variants.{WellFormed, WrongLength, BadByte}
+use Rattle.labels.specs.Forms.{scanForm, formOf, isWellFormed}
+use Rattle.labels.proofs.charset.Places.{first-place}
+use Rattle.labels.proofs.charset.Forms.{scan-every}
+use Rattle.labels.specs.FixedLabels.{vrkLabel, visitedReauthLabel, dsrkLabel, rrkLabel, exempt}
+use Rattle.labels.specs.Syntax.{count, breaches, badSyntax}
 use Rattle.labels.specs.Checks.{scanned3, labelCheck, check32}
 use Rattle.labels.specs.Statements.{LabelPlace, FixedLabelsPass}
 

@@ -5,11 +5,11 @@ use mathlib.Core.Bool.{_||_, not}
 use mathlib.Core.List.{List}
 use lib.ListN.{length}
 use Rattle.refusal.specs.Checks.{Check, pass, refuse, bare, located, unless, within, _andThen_}
-use Rattle.charset.specs.Bytes.{firstBad, labelByte}
-use Rattle.charset.specs.declared.Scan.{Scan}
-use Rattle.charset.specs.declared.Scan.the-variants.{Clean, BadAt}
-use Rattle.fixed_labels.specs.FixedLabels.{exempt}
-use Rattle.label_syntax.specs.Syntax.{breaches}
+use Rattle.labels.specs.Bytes.{firstBad, labelByte}
+use Rattle.labels.specs.declared.charset.Scan.{Scan}
+use Rattle.labels.specs.declared.charset.Scan.the-variants.{Clean, BadAt}
+use Rattle.labels.specs.FixedLabels.{exempt}
+use Rattle.labels.specs.Syntax.{breaches}
 
 -- 2: label not 1 to 255 bytes
 abbrev pub check2 : List ℕ → Check

@@ -1,2 +1,11 @@
+pub mod IdentifiersChecks
+pub mod FixedLabels
+pub mod FixedChecks
+pub mod FixedStatements
+pub mod Syntax
+pub mod Internal
+pub mod SyntaxStatements
+pub mod Bytes
+pub mod Forms
 pub mod Checks
 pub mod Statements

@@ -7,8 +7,8 @@ use mathlib.Core.Logic.{_↔_}
 use mathlib.Core.List.{List}
 use lib.ListN.{length, getD}
 use Rattle.refusal.specs.Checks.{pass, refuse, located, within}
-use Rattle.charset.specs.Bytes.{labelByte}
-use Rattle.fixed_labels.specs.FixedLabels.{vrkLabel, visitedReauthLabel, dsrkLabel, rrkLabel}
+use Rattle.labels.specs.Bytes.{labelByte}
+use Rattle.labels.specs.FixedLabels.{vrkLabel, visitedReauthLabel, dsrkLabel, rrkLabel}
 use Rattle.labels.specs.Checks.{labelCheck}
 
 -- A label is refused with 3 at place i exactly when its length is 1 to 255 and i, counted from 0, is the position of its first bad byte

@@ -28,7 +28,7 @@ fn write_offers(offers: &[u16]) {
 fn list(bytes: &[u8]) {
     let mut out = [0u16; 17];
     match area::read_area(bytes, b"", Way::Lenient, &mut out) {
-        AreaRead::Refused(why) => write_line(b"refused ", refusal_number::number(why) as u64),
+        AreaRead::Refused(why) => write_line(b"refused ", refusal::number(why) as u64),
         AreaRead::Read(offered) => {
             let count = offered.count;
             write_line(b"offers ", count as u64);

@@ -1,8 +1,8 @@
 // Plays negotiations of the key derivation function between a peer and a server and prints each step: the checked cases P6 to P13 of
 // document 01, longer lists, and negotiations in which a list or a reply was altered on the way (document 02, request 14).
 use libc::STDOUT_FILENO;
-use offer_peer::FirstRound;
-use offer_peer::Renewed;
+use offers::FirstRound;
+use offers::Renewed;
 use refusal::Refusal;
 use refusal::Written;
 
@@ -34,7 +34,7 @@ fn say_list(list: &[u16]) {
 // Prints a refusal by its number, and ends the line.
 fn say_refused(why: Refusal) {
     say(b" refuses,");
-    say_number(refusal_number::number(why) as u64);
+    say_number(refusal::number(why) as u64);
     say(b"\n");
 }
 
@@ -80,13 +80,13 @@ fn play_sent(original: &[u16], choice: u16, sent: &[u16]) {
     say(b"  server sends");
     say_list(sent);
     say(b"\n");
-    say_renewed(offer_peer::recheck(original, choice, sent));
+    say_renewed(offers::recheck(original, choice, sent));
 }
 
 // The server's step on the reply that arrives, and then the step of a peer that saw a list and asked for a choice.
 fn play_reply(offered: &[u16], reply: u16, seen: &[u16], choice: u16) {
     let mut renewed = [0u16; 17];
-    match offer_server::answer(offered, reply, &mut renewed) {
+    match offers::answer(offered, reply, &mut renewed) {
         Written::Refused(why) => {
             say(b"  server");
             say_refused(why);
@@ -97,7 +97,7 @@ fn play_reply(offered: &[u16], reply: u16, seen: &[u16], choice: u16) {
 
 // The peer's first round on the list that it sees.
 fn play_first(seen: &[u16], supported: &[u16]) -> FirstRound {
-    let first = offer_peer::choose(seen, supported);
+    let first = offers::choose(seen, supported);
     say_first(first);
     first
 }
@@ -169,7 +169,7 @@ fn play_other_list(original: &[u16], choice: u16, renewed: &[u16]) {
     say(b"; renewed");
     say_list(renewed);
     say(b"\n");
-    say_renewed(offer_peer::recheck(original, choice, renewed));
+    say_renewed(offers::recheck(original, choice, renewed));
 }
 
 // A negotiation with nothing altered, and then the same with the list thinned, with it reordered, and with the reply swapped.

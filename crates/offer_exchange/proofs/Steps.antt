@@ -11,10 +11,10 @@ use Rattle.refusal.specs.Checks.{Reason}
 use Rattle.refusal.specs.Answers.{Answer, wrote}
 use Rattle.offer_rules.specs.Answers.{ask, firstRound, serverAnswer, serverBuffer, RenewedAnswer, renewedAnswer}
 use Rattle.offer_rules.specs.Negotiation.{afterFirst, bufferAfterFirst, negotiated, negotiatedBuffer}
-use Rattle.offer_peer.specs.Answers.{firstRoundOf}
-use Rattle.offer_peer.specs.declared.FirstRound.{FirstRound}
-use Rattle.offer_peer.specs.declared.FirstRound.the-variants.{CarryOn, Ask, Refused}
-use Rattle.offer_peer.proofs.FirstRound.{the-type}
+use Rattle.offers.specs.Answers.{firstRoundOf}
+use Rattle.offers.specs.declared.peer.FirstRound.{FirstRound}
+use Rattle.offers.specs.declared.peer.FirstRound.the-variants.{CarryOn, Ask, Refused}
+use Rattle.offers.proofs.peer.FirstRound.{the-type}
 use Rattle.offer_exchange.specs.Internal.{valueNamed}
 
 -- an answer that is not an Ask ends the negotiation, and nothing is written

@@ -1,10 +1,10 @@
 // A whole negotiation of the key derivation function between a peer and a server in which each gets what the other sent (RFC 5448 section 3.2).
 ghost use mathlib.Core.Path.{_≡_};
 ghost use Rattle.offer_rules.specs.Negotiation.{negotiated, negotiatedBuffer};
-ghost use Rattle.offer_peer.specs.Answers.{firstRoundOf, renewedOf};
+ghost use Rattle.offers.specs.Answers.{firstRoundOf, renewedOf};
 ghost use Rattle.offer_exchange.specs.Internal.{valueNamed};
-use offer_peer::FirstRound;
-use offer_peer::Renewed;
+use offers::FirstRound;
+use offers::Renewed;
 use refusal::Written;
 
 // The value that a first round's answer names, or its refusal.
@@ -23,12 +23,12 @@ pub fn negotiate(offered: &[u16], supported: &[u16], renewed: &mut [u16]) -> Ren
     ensures answer { λ r. ⌜ renewedOf r ≡ negotiated (now (offered .entry)) (now (supported .entry)) (now (renewed .entry)) ⌝ }
     ensures buffer { λ _. ⌜ now (renewed .exit) ≡ negotiatedBuffer (now (offered .entry)) (now (supported .entry)) (now (renewed .entry)) ⌝ }
 {
-    let first = offer_peer::choose(offered, supported);
+    let first = offers::choose(offered, supported);
     let FirstRound::Ask(value, _) = first else {
         return value_named(first);
     };
-    match offer_server::answer(offered, value, renewed) {
+    match offers::answer(offered, value, renewed) {
         Written::Refused(why) => Renewed::Refused(why),
-        Written::Wrote(count) => offer_peer::recheck(offered, value, &renewed[..count]),
+        Written::Wrote(count) => offers::recheck(offered, value, &renewed[..count]),
     }
 }

@@ -1,1 +1,4 @@
 pub mod Handing
+pub mod Counts
+pub mod KeyLengths
+pub mod Positions

@@ -1,8 +1,15 @@
-// What a call returns to C: the struct `kv_outcome` of include/ketvaulo.h, made from the answer of a call that writes and from a refusal.
-// The crates that answer C, a family each, make their answers with these.
+// What the calls return to C: the structs of include/ketvaulo.h, each made from the answer of the function that does the work. Here is
+// `kv_outcome`, which most calls return; a module has the struct of each family that has one of its own.
+pub mod areas;
+pub mod comparisons;
+pub mod key_attributes;
+pub mod negotiations;
+pub mod slot_tables;
+
 ghost use mathlib.Core.Path.{_≡_};
-ghost use Rattle.refusal.specs.Answers.{reasonOf, answerOf};
-ghost use Rattle.outcome.specs.Outcomes.{outcomeOf, refusedOutcome};
+ghost use Rattle.refusal.specs.Answers.{reasonOf, answerOf, checkedAs};
+ghost use Rattle.outcome.specs.Outcomes.{outcomeOf, acceptedOutcome, refusedOutcome, checkOutcome};
+use refusal::Checked;
 use refusal::Refusal;
 use refusal::Written;
 
@@ -19,8 +26,18 @@ pub fn refused(why: Refusal) -> Outcome
     ensures { λ r. ⌜ r ≡ refusedOutcome (reasonOf why) ⌝ }
 {
     Outcome {
-        refusal: refusal_number::number(why),
-        value: refusal_number::place(why) as u64,
+        refusal: refusal::number(why),
+        value: refusal::place(why) as u64,
+    }
+}
+
+// Acceptance, for C.
+pub(crate) fn accepted(n: u64) -> Outcome
+    ensures { λ r. ⌜ r ≡ acceptedOutcome n ⌝ }
+{
+    Outcome {
+        refusal: 0,
+        value: n,
     }
 }
 
@@ -29,10 +46,17 @@ pub fn returned(answer: Written) -> Outcome
     ensures { λ r. ⌜ r ≡ outcomeOf (answerOf answer) ⌝ }
 {
     match answer {
-        Written::Wrote(n) => Outcome {
-            refusal: 0,
-            value: n as u64,
-        },
+        Written::Wrote(n) => accepted(n as u64),
         Written::Refused(why) => refused(why),
+    }
+}
+
+// The answer of a call that only tests, for C: 0 where all tests pass.
+pub fn checked(check: Checked) -> Outcome
+    ensures { λ r. ⌜ r ≡ checkOutcome (checkedAs check) ⌝ }
+{
+    match check {
+        Checked::Passed => accepted(0),
+        Checked::Failed(why) => refused(why),
     }
 }

@@ -12,11 +12,11 @@ use Rattle.refusal.specs.Answers.{reasonOf, wrote, refused}
 use Rattle.slices.proofs.Lists.{rest-drop}
 use Rattle.slices.specs.Same.{sameList}
 use Rattle.refusal.specs.declared.Refusal.{Refusal}
-use Rattle.packet.specs.declared.Place.{Place}
-use Rattle.packet.specs.declared.Place.the-variants.{At, Refused}
+use Rattle.packet_mac.specs.declared.attributes.Place.{Place}
+use Rattle.packet_mac.specs.declared.attributes.Place.the-variants.{At, Refused}
 use Rattle.packet_rules.specs.Packet.{macAt}
 use Rattle.packet_rules.specs.Mac.{withMac, macIn, macInput, packetCheck, macOf, signAnswer, checkCheck, signBuffer}
-use Rattle.packet.specs.Steps.{Standing, stands, placeAs, placeTo}
+use Rattle.packet_mac.specs.Steps.{Standing, stands, placeAs, placeTo}
 use Rattle.packet_rules.proofs.Placing.{Placed, passed-placed}
 
 -- the attribute's place was given: the tests passed, and it lies within the packet

@@ -1,5 +1,5 @@
 // Signs a RADIUS packet and checks one: the Message-Authentication-Code attribute of MAC Type 2, HMAC-SHA-256 (request 8; source
-// document 004, section 3.3). The definitions are those of the crate `packet`.
+// document 004, section 3.3). The definitions are those of `packet_rules`.
 ghost use mathlib.Core.Path.{_≡_};
 ghost use Prim.Native.Nat.{_+_, _≤_};
 ghost use lib.ListN.{length, replicate};
@@ -7,7 +7,10 @@ ghost use lib.Seq.{paste};
 ghost use Rattle.refusal.specs.Answers.{checkedAs, answerOf};
 ghost use Rattle.hmac.specs.Rfc2104.{hmacSha256};
 ghost use Rattle.packet_rules.specs.Mac.{withMac, signAnswer, signBuffer, checkCheck};
-use packet::Place;
+
+mod attributes; // the walk through a packet's attributes, and its tests
+
+use crate::attributes::Place;
 use refusal::Checked;
 use refusal::Refusal;
 use refusal::Written;
@@ -43,7 +46,7 @@ pub fn sign(mac_key: &[u8], attribute_type: u8, packet: &mut [u8]) -> Written
     ensures answer { λ r. ⌜ answerOf r ≡ signAnswer (now («mac_key» .entry)) «attribute_type» (now (packet .entry)) ⌝ }
     ensures buffer { λ _. ⌜ now (packet .exit) ≡ signBuffer hmacSha256 (now («mac_key» .entry)) «attribute_type» (now (packet .entry)) ⌝ }
 {
-    match packet::mac_place(mac_key, attribute_type, packet) {
+    match crate::attributes::mac_place(mac_key, attribute_type, packet) {
         Place::Refused(why) => Written::Refused(why),
         Place::At(at) => {
             let mac = mac_of(mac_key, at, packet);
@@ -57,7 +60,7 @@ pub fn sign(mac_key: &[u8], attribute_type: u8, packet: &mut [u8]) -> Written
 pub fn check(mac_key: &[u8], attribute_type: u8, packet: &[u8]) -> Checked
     ensures { λ r. ⌜ checkedAs r ≡ checkCheck hmacSha256 (now («mac_key» .entry)) «attribute_type» (now (packet .entry)) ⌝ }
 {
-    match packet::mac_place(mac_key, attribute_type, packet) {
+    match crate::attributes::mac_place(mac_key, attribute_type, packet) {
         Place::Refused(why) => Checked::Failed(why),
         Place::At(at) => {
             let mac = mac_of(mac_key, at, packet);

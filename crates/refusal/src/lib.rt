@@ -9,6 +9,12 @@ ghost use Rattle.refusal.specs.Answers.{reasonOf, checkedAs, answerOf, a
 // Why a call refuses. A refusal is document 01's term: a numbered answer that leaves every lent buffer as it was. Each variant has the words of
 // its paper: 1 to 28 those of document 01, 29 to 50 those of document 02, with the request in brackets. No call gives a number of a request
 // that has not landed. `reasonOf` of specs/Answers.antt gives each its number, and the place that it carries.
+
+mod numbers; // the number and the place of a refusal
+
+pub use numbers::number;
+pub use numbers::place;
+
 pub enum Refusal {
     // root key (EMSK, VRK, VMSK) not 64 to 128 bytes
     RootKeyLength,

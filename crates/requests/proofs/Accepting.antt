@@ -9,9 +9,9 @@ use lib.Dec.{lit≤}
 use lib.ListN.{length}
 use Rattle.refusal.specs.Checks.{pass, within}
 use Rattle.refusal.proofs.Passing.{before-passed, last-passed, test-passed, within-low, within-high}
-use Rattle.charset.specs.Bytes.{every, labelByte}
-use Rattle.fixed_labels.specs.FixedLabels.{vrkLabel, dsrkLabel}
-use Rattle.fixed_labels.specs.Checks.{check31}
+use Rattle.labels.specs.Bytes.{every, labelByte}
+use Rattle.labels.specs.FixedLabels.{vrkLabel, dsrkLabel}
+use Rattle.labels.specs.FixedChecks.{check31}
 use Rattle.labels.proofs.Labels.{good-label}
 use Rattle.requests.specs.Requests.{Request, forUsage, forVrk, forDomain, labelOf, lengthOf, checkOf, Accepted}
 

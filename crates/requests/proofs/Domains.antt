@@ -7,8 +7,8 @@ use mathlib.Core.List.{List}
 use native.Mathlib.Omega.{arith}
 use lib.ListN.{length}
 use Rattle.slices.proofs.Truth.{same-truth}
-use Rattle.fixed_labels.specs.FixedLabels.{vrkLabel, dsrkLabel}
-use Rattle.fixed_labels.proofs.DomainLabel.{domain-label-alone}
+use Rattle.labels.specs.FixedLabels.{vrkLabel, dsrkLabel}
+use Rattle.labels.proofs.DomainLabel.{domain-label-alone}
 use Rattle.requests.specs.Requests.{Request, forUsage, forVrk, forDomain, labelOf, Accepted}
 use Rattle.requests.specs.Statements.{ForDomain, KindsApart, DomainsApart, YardsApart}
 use Rattle.requests.proofs.Accepting.{in-bounds}

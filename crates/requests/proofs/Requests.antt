@@ -7,11 +7,11 @@ use native.Mathlib.Nat.{not-suc-le-zero}
 use Rattle.refusal.specs.Checks.{pass, unless, _andThen_, within}
 use Rattle.refusal.proofs.Passing.{then-pass}
 use Rattle.slices.specs.Same.{sameList}
-use Rattle.charset.specs.Bytes.{every, scanFrom, labelByte, domainByte}
-use Rattle.fixed_labels.specs.FixedLabels.{vrkLabel, visitedReauthLabel, dsrkLabel, rrkLabel, exempt}
-use Rattle.fixed_labels.specs.Checks.{check31}
-use Rattle.identifiers.specs.Checks.{check8}
-use Rattle.label_syntax.specs.Syntax.{count, breaches}
+use Rattle.labels.specs.Bytes.{every, scanFrom, labelByte, domainByte}
+use Rattle.labels.specs.FixedLabels.{vrkLabel, visitedReauthLabel, dsrkLabel, rrkLabel, exempt}
+use Rattle.labels.specs.FixedChecks.{check31}
+use Rattle.labels.specs.IdentifiersChecks.{check8}
+use Rattle.labels.specs.Syntax.{count, breaches}
 use Rattle.labels.specs.Checks.{labelCheck, check32}
 use Rattle.labels.proofs.Labels.{fixed-labels-pass}
 use Rattle.hmac.specs.Rfc2104.{hmacSha256}

@@ -9,7 +9,7 @@ use native.Mathlib.Nat.{not-suc-le-zero}
 use native.Mathlib.Omega.{arith}
 use Rattle.refusal.specs.Checks.{within}
 use Rattle.slices.proofs.Truth.{and-left, and-right}
-use Rattle.charset.specs.Bytes.{every, labelByte}
+use Rattle.labels.specs.Bytes.{every, labelByte}
 use Rattle.hmac.specs.Rfc2104.{hmacSha256}
 use Rattle.hmac.proofs.Laws.{hmacSha256-length}
 use Rattle.prf_plus.proofs.Lists.{cancel-back}

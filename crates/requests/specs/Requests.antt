@@ -7,9 +7,9 @@ use mathlib.Core.List.{List, []}
 use mathlib.Core.Path.{_≡_}
 use Rattle.refusal.specs.Checks.{Check, pass, _andThen_, check1, check6}
 use Rattle.refusal.specs.Answers.{Answer, answerTo, bufferAfter}
-use Rattle.fixed_labels.specs.FixedLabels.{vrkLabel, dsrkLabel}
-use Rattle.fixed_labels.specs.Checks.{check31}
-use Rattle.identifiers.specs.Checks.{check8}
+use Rattle.labels.specs.FixedLabels.{vrkLabel, dsrkLabel}
+use Rattle.labels.specs.FixedChecks.{check31}
+use Rattle.labels.specs.IdentifiersChecks.{check8}
 use Rattle.labels.specs.Checks.{labelCheck}
 use Rattle.hmac.specs.Rfc2104.{hmacSha256}
 use Rattle.prf_plus.specs.PrfPlus.{blockCount, blockInput, prfPlus, check5}

@@ -12,7 +12,7 @@ use Rattle.slices.specs.Ascii.{ascii}
 use Rattle.refusal.specs.Checks.{refuse, bare, located}
 use Rattle.hmac.specs.Rfc2104.{hmacSha256}
 use Rattle.prf_plus.specs.PrfPlus.{blockCount, block, blocks}
-use Rattle.fixed_labels.specs.FixedLabels.{vrkLabel, dsrkLabel}
+use Rattle.labels.specs.FixedLabels.{vrkLabel, dsrkLabel}
 use Rattle.requests.specs.Requests.{Request, forUsage, forVrk, forDomain, labelOf, dataOf, lengthOf, checkOf, Accepted, BlockOf, textOf, inputOf, keyOf}
 
 -- Demand 3: for any EMSK, any two requests accepted under it and any block of each, the bytes handed to HMAC are equal exactly when

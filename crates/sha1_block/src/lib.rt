@@ -6,17 +6,21 @@ ghost use lib.ListN.{getD, length, set};
 ghost use Rattle.fips180.specs.Words.{word};
 ghost use Rattle.fips180.specs.Sha1 as Sha1;
 ghost use Rattle.fips180.specs.Window.{window};
-use sha1_round::kept;
-use sha1_round::next_word;
-use sha1_round::variables_of;
-use sha1_rounds::rounds_0_to_15;
-use sha1_rounds::rounds_16_to_19;
-use sha1_rounds::rounds_20_to_31;
-use sha1_rounds::rounds_32_to_39;
-use sha1_rounds::rounds_40_to_47;
-use sha1_rounds::rounds_48_to_59;
-use sha1_rounds::rounds_60_to_63;
-use sha1_rounds::rounds_64_to_79;
+
+mod round; // a word of the schedule and a round
+mod window; // the rounds between two refills of the window, of one function each
+
+use crate::round::kept;
+use crate::round::next_word;
+use crate::round::variables_of;
+use crate::window::rounds_0_to_15;
+use crate::window::rounds_16_to_19;
+use crate::window::rounds_20_to_31;
+use crate::window::rounds_32_to_39;
+use crate::window::rounds_40_to_47;
+use crate::window::rounds_48_to_59;
+use crate::window::rounds_60_to_63;
+use crate::window::rounds_64_to_79;
 
 // Word t of a block (5.2.1).
 fn word(b: &[u8], t: usize) -> u32

@@ -10,10 +10,14 @@ ghost use Rattle.sha256_block.specs.Fips180 as Fips180;
 ghost use Rattle.sha256.specs.Stream.{progress, started, startedAfter, absorbed, finished};
 ghost use Rattle.fips180.specs.Internal.{begunBlock};
 ghost use Rattle.sha256.specs.Internal.{parts, closing, partAt};
+
+mod value; // the hash value: the first one, those after whole blocks, and its bytes
+
+use crate::value::H0;
+use crate::value::of_blocks;
+use crate::value::to_bytes;
 use sha256_block::compress_blocks;
-use sha256_value::H0;
-use sha256_value::of_blocks;
-use sha256_value::to_bytes;
+pub use value::of_block;
 
 // A hash in progress: the hash value after the whole blocks absorbed, the block that is being filled, and the count of all bytes.
 pub struct Sha256 {

@@ -1,3 +1,4 @@
+pub mod Rounds
 pub mod Fips180
 pub mod Statements
 pub mod Internal

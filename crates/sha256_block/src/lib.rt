@@ -6,9 +6,14 @@ ghost use lib.ListN.{getD, length, set};
 ghost use Rattle.fips180.specs.Words.{word};
 ghost use Rattle.fips180.specs.Sha256 as Sha256;
 ghost use Rattle.sha256_block.specs.Internal as Internal;
-use sha256_constants::constant;
-use sha256_round::next_word;
-use sha256_rounds::sixteen;
+
+mod constants; // the constants, looked up
+mod round; // a word of the schedule and a round
+mod window; // sixteen rounds: those over one window of the schedule
+
+use crate::constants::constant;
+use crate::round::next_word;
+use crate::window::sixteen;
 
 // Word t of a block (5.2.1).
 fn word(b: &[u8], t: usize) -> u32

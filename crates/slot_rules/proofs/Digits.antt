@@ -12,7 +12,7 @@ use lib.Bits.{bitAnd, bitOr, or-mod, or-shr, or-zero-r, and-mod, and-shr}
 use lib.Count.{ones, ones-step, trailingZeros, under}
 use lib.Dec.{eqb}
 use lib.ListN.{length, getD, set, replicate, length-map}
-use lib.Pow.{pow-pos, pow-mono, pow-lt, pow-add, shr-shr, low, field, mod-mod-pow}
+use lib.Pow.{pow-mono, pow-lt, pow-add, shr-shr, field, mod-mod-pow}
 use Rattle.slot_rules.specs.Table.{hasDigit, Slot, free, holding, slotOf, slotsFrom, lowestFree, liveCount, freed, digit, countGone, wordGone}
 
 -- a list has the length of what is mapped from it
@@ -34,27 +34,14 @@ module _ (k w : ℕ) (h : w < 2 ^ suc k) where
 -- ---- a digit alone, and in halves of 32
 
 -- one shifted within a half
-one-shifted : (i : ℕ) → i < 32 → 1 * 2 ^ i % 2 ^ 32 ≡ 2 ^ i
-one-shifted i h = let e : 1 * 2 ^ i ≡ 2 ^ i = omega arith in ap (λ (n : ℕ). n % 2 ^ 32) e ∙ mod-eq-of-lt (pow-lt h)
+pub power-low : (i : ℕ) → i < 32 → 1 * 2 ^ i % 2 ^ 32 ≡ 2 ^ i
+power-low i h = let e : 1 * 2 ^ i ≡ 2 ^ i = omega arith in ap (λ (n : ℕ). n % 2 ^ 32) e ∙ mod-eq-of-lt (pow-lt h)
 
-pub power-small : (i : ℕ) → i < 64 → 2 ^ i % 2 ^ 64 ≡ 2 ^ i
-power-small i h = mod-eq-of-lt (pow-lt h)
-
-pub power-low : (i : ℕ) → i < 32 → 1 * 2 ^ i % 2 ^ 32 ≡ 2 ^ i % 2 ^ 64
-power-low i h = let l : i < 64 = omega arith in one-shifted i h ∙ sym (power-small i l)
-
-pub power-high : (i : ℕ) → 32 ≤ i → i < 64 → 1 * 2 ^ (i - 32) % 2 ^ 32 * 2 ^ 32 ≡ 2 ^ i % 2 ^ 64
+pub power-high : (i : ℕ) → 32 ≤ i → i < 64 → 1 * 2 ^ (i - 32) % 2 ^ 32 * 2 ^ 32 ≡ 2 ^ i
 power-high i l h =
     let k : i - 32 < 32 = omega arith in
     let e : (i - 32) + 32 ≡ i = omega arith in
-    ap (λ (n : ℕ). n * 2 ^ 32) (one-shifted (i - 32) k) ∙ sym (pow-add 2 (i - 32) 32) ∙ ap (λ (n : ℕ). 2 ^ n) e ∙ sym (power-small i h)
-
-pub power-none : (i : ℕ) → 64 ≤ i → 2 ^ i % 2 ^ 64 ≡ 0
-power-none i h =
-    let e : (i - 64) + 64 ≡ i = omega arith in
-    let z : 2 ^ (i - 64) * 2 ^ 64 ≡ 2 ^ (i - 64) * 2 ^ 64 + 0 = omega arith in
-    ap (λ (n : ℕ). 2 ^ n % 2 ^ 64) (sym e) ∙ ap (λ (n : ℕ). n % 2 ^ 64) (pow-add 2 (i - 64) 64) ∙ ap (λ (n : ℕ). n % 2 ^ 64) z
-    ∙ low (2 ^ (i - 64)) 64 {lo = 0} (pow-pos 64)
+    ap (λ (n : ℕ). n * 2 ^ 32) (power-low (i - 32) k) ∙ sym (pow-add 2 (i - 32) 32) ∙ ap (λ (n : ℕ). 2 ^ n) e
 
 low-digit : (w i : ℕ) → i < 32 → w % 2 ^ 32 / 2 ^ i % 2 ≡ w / 2 ^ i % 2
 low-digit w i h =

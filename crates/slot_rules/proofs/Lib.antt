@@ -2,6 +2,5 @@ pub mod Digits
 pub mod Tables
 pub mod Sound
 pub mod Statements
-pub mod Rows
 pub mod Steps
 pub mod Stored

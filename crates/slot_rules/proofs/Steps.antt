@@ -10,7 +10,7 @@ use native.Mathlib.Omega.{arith}
 use borrow.Author.Tests.{lt-ltb, le-ltb, ltb-true, eqb-true, eqb-false, ne-eqb}
 use lib.Count.{ones, trailingZeros}
 use lib.Dec.{ltb, eqb}
-use lib.ListN.{length, getD, set, replicate, List·getD-eq-default}
+use lib.ListN.{length, getD, set, List·getD-eq-default}
 use lib.Seq.{getD-set-same, getD-set-other}
 use Rattle.slices.proofs.Truth.{and-left}
 use Rattle.slot_rules.specs.declared.Name.{Name}
@@ -209,12 +209,6 @@ module _ (w : ℕ) (names : List Name) (parents : List ℕ) (b : w < 2 ^ 64) (l 
 
 -- ---- the steps of all slots in a list
 
--- inside a list the entry is the same whatever stands for those outside
-pub inside-any : (l : List ℕ) (i d e : ℕ) → i < length l → getD l i d ≡ getD l i e
-inside-any [] i d e h = absurd (omega arith)
-inside-any (x ∷ l) zero d e h = refl
-inside-any (x ∷ l) (suc i) d e h = inside-any l i d e (omega arith)
-
 pub same-ways : (g f : ℕ → ℕ) → ((j : ℕ) → g j ≡ f j) → (n s : ℕ) → reachesBy g n s ≡ reachesBy f n s
 unfolding reachesBy
 same-ways g f e n s =
@@ -224,55 +218,34 @@ same-ways g f e n s =
     ap (λ (c : Bool). eqb s n || c)
     (ap₂ _||_ (ap (λ (x : ℕ). eqb x n) one) (ap₂ _||_ (ap (λ (x : ℕ). eqb x n) two) (ap (λ (x : ℕ). eqb x n) three)))
 
--- the list as far as it is filled: from slot s on it has 255
+-- the list as far as it is filled
 abbrev pub Filled : ℕ → List ℕ → ℕ → List ℕ → Type 0
-Filled w parents s steps = (j : ℕ) → getD steps j 255 ≡ cond (ltb j s) (stepFrom w parents j) 255
+Filled w parents s steps = (j : ℕ) → j < s → getD steps j 0 ≡ stepFrom w parents j
 
-all-none : (k j : ℕ) → _≡_ {A = ℕ} (getD (replicate k 255) j 255) 255
-all-none zero j = refl
-all-none (suc k) zero = refl
-all-none (suc k) (suc j) = all-none k j
-
-pub filled-none : (w : ℕ) (parents : List ℕ) → Filled w parents 0 (replicate 64 255)
-filled-none w parents j = all-none 64 j ∙ ap (λ (b : Bool). cond b (stepFrom w parents j) 255) (sym (le-ltb j 0 (omega arith)))
-
-same-side : (j s : ℕ) → (j ≡ s → ⊥) → ltb j s ≡ ltb j (s + 1)
-same-side j s h = go (decLt j s)
+pub filled-next : (w : ℕ) (parents steps : List ℕ) (s : ℕ) → s < 64 → length steps ≡ 64 → Filled w parents s steps
+    → Filled w parents (s + 1) (set steps s (cond (eqb (w / 2 ^ s % 2) 1) (getD parents s 0) 255))
+unfolding stepFrom
+filled-next w parents steps s h l f j k = go (eqb j s) refl
   where
-    go : Dec (j < s) → ltb j s ≡ ltb j (s + 1)
-    go (yes l) = let m : j < s + 1 = omega arith in lt-ltb j s l ∙ sym (lt-ltb j (s + 1) m)
-    go (no g) = let l : s ≤ j = omega arith in let m : s + 1 ≤ j = omega arith in le-ltb j s l ∙ sym (le-ltb j (s + 1) m)
+    p : ℕ
+    p = cond (eqb (w / 2 ^ s % 2) 1) (getD parents s 0) 255
 
-module _ (w : ℕ) (parents steps : List ℕ) (s : ℕ) (h : s < 64) (l : length steps ≡ 64) (f : Filled w parents s steps) where
-  -- any other entry is as it was
-  other : (j : ℕ) → (j ≡ s → ⊥) → getD steps j 255 ≡ cond (ltb j (s + 1)) (stepFrom w parents j) 255
-  other j g = f j ∙ ap (λ (b : Bool). cond b (stepFrom w parents j) 255) (same-side j s g)
-
-  now-in : ltb s (s + 1) ≡ true
-  now-in = lt-ltb s (s + 1) (omega arith)
-
-  inside : s < length steps
-  inside = omega arith
-
-  pub filled-next : Filled w parents (s + 1) (set steps s (cond (eqb (w / 2 ^ s % 2) 1) (getD parents s 0) 255))
-  unfolding stepFrom
-  filled-next j = go (eqb j s) refl
-    where
-      p : ℕ
-      p = cond (eqb (w / 2 ^ s % 2) 1) (getD parents s 0) 255
-
-      go : (b : Bool) → eqb j s ≡ b → getD (set steps s p) j 255 ≡ cond (ltb j (s + 1)) (stepFrom w parents j) 255
-      go true q =
-          ap (λ (i : ℕ). getD (set steps s p) i 255) (eqb-true j s q)
-          ∙ getD-set-same steps s p 255 inside
-          ∙ sym (ap (λ (i : ℕ). cond (ltb i (s + 1)) (stepFrom w parents i) 255) (eqb-true j s q) ∙ simp (now-in, lt-ltb s 64 h))
-      go false q = getD-set-other steps s j p 255 (eqb-false j s q) ∙ other j (eqb-false j s q)
+    go : (b : Bool) → eqb j s ≡ b → getD (set steps s p) j 0 ≡ stepFrom w parents j
+    go true q =
+        let inside : s < length steps = omega arith in
+        ap (λ (i : ℕ). getD (set steps s p) i 0) (eqb-true j s q)
+        ∙ getD-set-same steps s p 0 inside
+        ∙ sym (ap (stepFrom w parents) (eqb-true j s q) ∙ simp (lt-ltb s 64 h))
+    go false q =
+        let other = eqb-false j s q in
+        let before : j < s = omega arith in
+        getD-set-other steps s j p 0 other ∙ f j before
 
 -- filled whole, the list has the step of every number
 pub filled-whole : (w : ℕ) (parents steps : List ℕ) → Filled w parents 64 steps → (j : ℕ) → stepIn steps j ≡ stepFrom w parents j
 unfolding stepFrom
-filled-whole w parents steps f j = f j ∙ go (ltb j 64)
+filled-whole w parents steps f j = go (decLt j 64)
   where
-    go : (b : Bool) → cond b (cond (b && eqb (w / 2 ^ j % 2) 1) (getD parents j 0) 255) 255 ≡ cond (b && eqb (w / 2 ^ j % 2) 1) (getD parents j 0) 255
-    go true = refl
-    go false = refl
+    go : Dec (j < 64) → stepIn steps j ≡ stepFrom w parents j
+    go (yes h) = ap (λ (b : Bool). cond b (getD steps j 0) 255) (lt-ltb j 64 h) ∙ f j h
+    go (no g) = let past : 64 ≤ j = omega arith in simp (le-ltb j 64 past)

@@ -3,28 +3,26 @@
 use mathlib.Core.Path.{_≡_, refl, sym, ap, ap₂, _∙_}
 use mathlib.Core.Bool.{Bool, true, false}
 use mathlib.Core.List.{List}
-use Prim.Native.Nat.{ℕ, _-_, _^_, _≤_, _<_}
+use Prim.Native.Nat.{ℕ, _-_, _^_, _<_}
 use native.Mathlib.Omega.{arith}
 use borrow.Author.Tests.{ltb-true, ne-eqb}
-use lib.Bits.{bitAnd, bitOr}
+use lib.Bits.{bitOr}
 use lib.Count.{ones, trailingZeros}
 use lib.Dec.{ltb, eqb}
 use lib.ListN.{length, set}
-use lib.Seq.{set-out}
 use Rattle.refusal.specs.Checks.{Reason, Check, pass, refuse, bare, unless, _andThen_}
-use Rattle.refusal.specs.Answers.{Answer, wrote, refused, answerTo, afterCheck}
+use Rattle.refusal.specs.Answers.{wrote, refused, answerTo}
 use Rattle.refusal.proofs.Passing.{before-passed, last-passed, test-passed, test-holds}
 use Rattle.slot_rules.specs.declared.Name.{Name}
 use Rattle.slot_rules.specs.declared.Slots.{Slots}
 use Rattle.slot_rules.specs.declared.Parent.{Parent}
 use Rattle.slot_rules.specs.declared.Parent.the-variants.{Root, Below}
-use Rattle.slot_rules.specs.Table.{hasDigit, holding, slotsFrom, lowestFree, liveCount, isLive, freed, countGone, wordGone}
-use Rattle.slot_rules.specs.Parents.{Key, goesWith, parentLive, rootNear}
+use Rattle.slot_rules.specs.Table.{hasDigit, holding, slotsFrom, lowestFree, liveCount, isLive, countGone, wordGone}
+use Rattle.slot_rules.specs.Parents.{goesWith, parentLive, rootNear}
 use Rattle.slot_rules.specs.Calls.{check46, check47, check48, check49, putCheck, putAnswer, putTable, dropAnswer, dropTable}
-use Rattle.slot_rules.specs.Stored.{tableOf, parentOf, byteOf, keysOf, namesOf, withTaken, withKey, taking, freeing, putStored, goneIn, dropStored}
+use Rattle.slot_rules.specs.Stored.{tableOf, parentOf, byteOf, keysOf, taking, freeing, goneWith, putStored, dropStored}
 use Rattle.slot_rules.specs.Internal.{stepFrom, stepIn, reachesBy, rootWithinTwoBy}
 use Rattle.slot_rules.proofs.Digits.{put-law, freed-law, count-law, word-same}
-use Rattle.slot_rules.proofs.Rows.{Fits, names-length, names-put}
 use Rattle.slot_rules.proofs.Steps.{table, keys, below, keys-set, same-ways}
 use Rattle.slot_rules.proofs.Steps
 
@@ -57,40 +55,45 @@ module _ (p : Parent) (h : (q : ℕ) → p ≡ Below q → q < 64) where
       go Root h = omega arith
       go (Below q) h = let l : q < 64 = h q refl in omega arith
 
--- slots as they are stored
+-- slots as they are stored: a word of 64 digits, 64 names, 64 parents
+pub record Fits (s : Slots) : Type 0 where
+  pub bits : s .taken < 2 ^ 64
+  pub names : length (s .names) ≡ 64
+  pub parents : length (s .parents) ≡ 64
+
 module _ (s : Slots) (f : Fits s) where
   b : s .taken < 2 ^ 64
   b = f .bits
 
-  l : length (namesOf s) ≡ 64
-  l = names-length s f
+  l : length (s .names) ≡ 64
+  l = f .names
 
   m : length (s .parents) ≡ 64
   m = f .parents
 
   pub counted : ones (s .taken) ≡ liveCount (tableOf s)
-  counted = Steps.counted (s .taken) (namesOf s) (s .parents) b l m
+  counted = Steps.counted (s .taken) (s .names) (s .parents) b l m
 
   pub lowest : trailingZeros 64 ((2 ^ 64 - 1) - s .taken) ≡ lowestFree (tableOf s)
   unfolding table keys
-  lowest = Steps.lowest (s .taken) (namesOf s) (s .parents) b l m
+  lowest = Steps.lowest (s .taken) (s .names) (s .parents) b l m
 
   size : length (tableOf s) ≡ 64
   unfolding table keys
-  size = Steps.long (s .taken) (namesOf s) (s .parents) b l m
+  size = Steps.long (s .taken) (s .names) (s .parents) b l m
 
   pub live : (n : ℕ) → isLive (tableOf s) n ≡ hasDigit (s .taken) n
   unfolding table keys
-  live n = Steps.live-of (s .taken) (namesOf s) (s .parents) b l m n
+  live n = Steps.live-of (s .taken) (s .names) (s .parents) b l m n
 
   pub live-below : (n : ℕ) → isLive (tableOf s) n ≡ true → n < 64
   live-below n e = below (s .taken) n (sym (live n) ∙ e)
 
-  keys-size : length (keysOf (namesOf s) (s .parents)) ≡ 64
+  keys-size : length (keysOf (s .names) (s .parents)) ≡ 64
   unfolding keys
-  keys-size = Steps.size (s .taken) (namesOf s) (s .parents) b l m
+  keys-size = Steps.size (s .taken) (s .names) (s .parents) b l m
 
-  keys-inside : (i : ℕ) → i < 64 → i < length (keysOf (namesOf s) (s .parents))
+  keys-inside : (i : ℕ) → i < 64 → i < length (keysOf (s .names) (s .parents))
   keys-inside i h = let z = keys-size in omega arith
 
   -- 46 asks for a slot below 64
@@ -102,7 +105,7 @@ module _ (s : Slots) (f : Fits s) where
 
   pub near : (p : ℕ) → rootNear (tableOf s) (Below p) ≡ rootWithinTwoBy (s .taken) (s .parents) p
   unfolding table keys
-  near p = Steps.near-of (s .taken) (namesOf s) (s .parents) b l m p
+  near p = Steps.near-of (s .taken) (s .names) (s .parents) b l m p
 
   pub parent-checked : (p : ℕ)
       → (unless (hasDigit (s .taken) p) (bare 48) andThen unless (rootWithinTwoBy (s .taken) (s .parents) p) (bare 49))
@@ -122,10 +125,6 @@ module _ (s : Slots) (f : Fits s) where
     pub parent-below : (q : ℕ) → p ≡ Below q → q < 64
     parent-below q z = live-below q (sym (ap (parentLive (tableOf s)) z) ∙ parent-lives)
 
-  names-taken : (i : ℕ) (x : Name) (p : Parent) → namesOf (taking s i x p) ≡ set (namesOf s) i x
-  unfolding namesOf
-  names-taken i x p = names-put i x s (byteOf p) f
-
   pub put-stored : (x : Name) (p : Parent) → tableOf (putStored s x p) ≡ putTable (tableOf s) x p
   unfolding putStored putTable
   put-stored x p = go (putCheck (tableOf s) p) refl
@@ -134,50 +133,36 @@ module _ (s : Slots) (f : Fits s) where
       go pass e =
           let i : ℕ = lowestFree (tableOf s) in
           let h : lowestFree (tableOf s) < 64 = room p e in
-          let inside : lowestFree (tableOf s) < length (namesOf s) = omega (arith, l) in
+          let inside : lowestFree (tableOf s) < length (s .names) = omega (arith, l) in
           simp e
-          (ap (λ (names : List Name). slotsFrom (bitOr (s .taken) (2 ^ i)) (keysOf names (set (s .parents) i (byteOf p)))) (names-taken i x p)
-          ∙ ap (slotsFrom (bitOr (s .taken) (2 ^ i))) (keys-set (namesOf s) (s .parents) i x (byteOf p) (l ∙ sym m) inside)
-          ∙ put-law (keysOf (namesOf s) (s .parents)) (s .taken) i (record { name = x; parent = parentOf (byteOf p) }) (keys-inside i h)
+          (ap (slotsFrom (bitOr (s .taken) (2 ^ i))) (keys-set (s .names) (s .parents) i x (byteOf p) (l ∙ sym m) inside)
+          ∙ put-law (keysOf (s .names) (s .parents)) (s .taken) i (record { name = x; parent = parentOf (byteOf p) }) (keys-inside i h)
           ∙ ap (λ (q : Parent). set (tableOf s) i (holding (record { name = x; parent = q }))) (byte-back p (parent-below p e)))
       go (refuse y) e = simp e
 
   -- ---- a drop
 
   -- the word of those that reach a live slot by the steps of this list
-  pub gone-live : (n : ℕ) (steps : List ℕ) → hasDigit (s .taken) n ≡ true → ((j : ℕ) → stepIn steps j ≡ stepFrom (s .taken) (s .parents) j)
-      → wordGone (reachesBy (stepIn steps) n) 0 64 ≡ goneIn s n
-  unfolding goneIn check47 table keys
+  pub gone-live : (n : ℕ) (steps : List ℕ) → isLive (tableOf s) n ≡ true → ((j : ℕ) → stepIn steps j ≡ stepFrom (s .taken) (s .parents) j)
+      → wordGone (reachesBy (stepIn steps) n) 0 64 ≡ goneWith s n
+  unfolding table keys
   gone-live n steps e g =
       word-same _ _ (λ j. same-ways (stepIn steps) (stepFrom (s .taken) (s .parents)) g n j
-      ∙ sym (Steps.goes-of (s .taken) (namesOf s) (s .parents) b l m n j e)) 0 64
-      ∙ sym (ap (λ (c : Check). afterCheck c (wordGone (goesWith (tableOf s) n) 0 64) 0) (test-holds _ _ (live n ∙ e)))
-
-  pub gone-none : (n : ℕ) → hasDigit (s .taken) n ≡ false → 0 ≡ goneIn s n
-  unfolding goneIn check47
-  gone-none n e = sym (ap (λ (c : Check). afterCheck c (wordGone (goesWith (tableOf s) n) 0 64) 0) (test-fails _ _ (live n ∙ e)))
-
-  gone-by : (n : ℕ) → check47 (tableOf s) n ≡ pass → goneIn s n ≡ wordGone (goesWith (tableOf s) n) 0 64
-  unfolding goneIn
-  gone-by n e = rw e
+      ∙ sym (Steps.goes-of (s .taken) (s .names) (s .parents) b l m n j (sym (live n) ∙ e))) 0 64
 
   pub drop-stored : (n : ℕ) → tableOf (dropStored s n) ≡ dropTable (tableOf s) n
-  unfolding dropStored dropTable namesOf
+  unfolding dropStored dropTable
   drop-stored n = go (check47 (tableOf s) n) refl
     where
       go : (c : Check) → check47 (tableOf s) n ≡ c → tableOf (dropStored s n) ≡ dropTable (tableOf s) n
-      go pass e =
-          simp e
-          (ap (λ (g : ℕ). slotsFrom (bitAnd (s .taken) ((2 ^ 64 - 1) - g)) (keysOf (namesOf s) (s .parents))) (gone-by n e)
-          ∙ rw keys-size at (freed-law (goesWith (tableOf s) n) (keysOf (namesOf s) (s .parents)) (s .taken) 0))
+      go pass e = simp e (rw keys-size at (freed-law (goesWith (tableOf s) n) (keysOf (s .names) (s .parents)) (s .taken) 0))
       go (refuse y) e = simp e
 
-  pub drop-count : (n : ℕ) → isLive (tableOf s) n ≡ true → wrote (ones (goneIn s n)) ≡ dropAnswer (tableOf s) n
+  pub drop-count : (n : ℕ) → isLive (tableOf s) n ≡ true → wrote (ones (goneWith s n)) ≡ dropAnswer (tableOf s) n
   unfolding dropAnswer check47
   drop-count n e =
-      let c : check47 (tableOf s) n ≡ pass = test-holds _ _ e in
-      ap wrote (ap ones (gone-by n c) ∙ count-law (goesWith (tableOf s) n) 0 64 ∙ ap (countGone (goesWith (tableOf s) n) 0) (sym size))
-      ∙ sym (ap (λ (d : Check). answerTo d (countGone (goesWith (tableOf s) n) 0 (length (tableOf s)))) c)
+      ap wrote (count-law (goesWith (tableOf s) n) 0 64 ∙ ap (countGone (goesWith (tableOf s) n) 0) (sym size))
+      ∙ sym (ap (λ (d : Check). answerTo d (countGone (goesWith (tableOf s) n) 0 (length (tableOf s)))) (test-holds _ _ e))
 
 -- ---- the other cases of the calls
 
@@ -190,23 +175,20 @@ module _ (s : Slots) (p : Parent) where
   unfolding putAnswer
   put-none y h = rw h
 
-  -- by what changes, whatever the name is
-  pub put-takes : (w i q : ℕ) → i ≡ lowestFree (tableOf s) → putCheck (tableOf s) p ≡ pass → w ≡ bitOr (s .taken) (2 ^ i) → q ≡ byteOf p
-      → (x : Name) → withKey (withTaken s w) i x q ≡ putStored s x p
+  pub put-takes : (r : Slots) (i : ℕ) (x : Name) → i ≡ lowestFree (tableOf s) → putCheck (tableOf s) p ≡ pass → r ≡ taking s i x p → r ≡ putStored s x p
   unfolding putStored
-  put-takes w i q e h t k x = rw h ((λ j. withKey (withTaken s (t j)) i x (k j)) ∙ ap (λ (n : ℕ). taking s n x p) e)
+  put-takes r i x e h q = rw h (q ∙ ap (λ (n : ℕ). taking s n x p) e)
 
-  -- 64 is no slot's place
-  pub put-leaves : (q : ℕ) (y : Reason) → putCheck (tableOf s) p ≡ refuse y → length (s .parents) ≤ 64 → (x : Name) → withKey s 64 x q ≡ putStored s x p
+  pub put-leaves : (y : Reason) (x : Name) → putCheck (tableOf s) p ≡ refuse y → s ≡ putStored s x p
   unfolding putStored
-  put-leaves q y h m x = rw h (rw (set-out (s .parents) 64 q m))
+  put-leaves y x h = rw h
 
 module _ (s : Slots) (n : ℕ) where
   pub drop-none : isLive (tableOf s) n ≡ false → refused (bare 47) ≡ dropAnswer (tableOf s) n
   unfolding dropAnswer check47
   drop-none e = rw (test-fails (isLive (tableOf s) n) (bare 47) e)
 
-  pub drop-frees : (r : Slots) → isLive (tableOf s) n ≡ true → r ≡ freeing s (goneIn s n) → r ≡ dropStored s n
+  pub drop-frees : (r : Slots) → isLive (tableOf s) n ≡ true → r ≡ freeing s (goneWith s n) → r ≡ dropStored s n
   unfolding dropStored check47
   drop-frees r e q = rw (test-holds (isLive (tableOf s) n) (bare 47) e) q
 

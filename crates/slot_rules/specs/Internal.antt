@@ -4,7 +4,7 @@ use Prim.Native.Nat.{ℕ}
 use mathlib.Core.Path.{_≡_}
 use mathlib.Core.Bool.{Bool, cond, _&&_, _||_}
 use mathlib.Core.List.{List}
-use lib.Dec.{eqb}
+use lib.Dec.{ltb, eqb}
 use lib.ListN.{getD}
 use Rattle.slot_rules.specs.Table.{hasDigit}
 
@@ -14,7 +14,7 @@ stepFrom w parents s = cond (hasDigit w s) (getD parents s 0) 255
 
 -- the same, read in a list of 64 such bytes
 abbrev pub stepIn : List ℕ → ℕ → ℕ
-stepIn steps s = getD steps s 255
+stepIn steps s = cond (ltb s 64) (getD steps s 0) 255
 
 -- a list that has the step of every number
 abbrev pub HasSteps : List ℕ → ℕ → List ℕ → Type 0

@@ -14,19 +14,10 @@ pub enum Parent {
 }
 
 // Sixty-four slots: a word with a bit for each that is taken, slot 0 the lowest; a name for each; the number of its parent for each, 255 for none.
-// The name and the parent of a free slot count for nothing. The names stand in eight rows, slots 0 to 7 in the first, and each row is a field of its
-// own: x86-64 and Cortex-M copy 64 bytes without a call of memcpy, and the compiler handles each field by itself, so that a put has less on its stack
-// than with one array. C has the same bytes as an array of 64 names.
+// The name and the parent of a free slot count for nothing.
 #[repr(C)]
 pub struct Slots {
     pub taken: u64,
-    pub row0: [Name; 8],
-    pub row1: [Name; 8],
-    pub row2: [Name; 8],
-    pub row3: [Name; 8],
-    pub row4: [Name; 8],
-    pub row5: [Name; 8],
-    pub row6: [Name; 8],
-    pub row7: [Name; 8],
+    pub names: [Name; 64],
     pub parents: [u8; 64],
 }

@@ -250,10 +250,10 @@ fn bytes(s: [[u8; 4]; 4]) -> [u8; 16] {
 // Encrypts a block, and decrypts the result.
 fn cipher(name: &[u8], key: [u8; 16], block: [u8; 16]) {
     let mut schedule = [[[0u8; 4]; 4]; 11];
-    aes_keys::expand_key(columns(key), &mut schedule);
+    aes128::expand_key(columns(key), &mut schedule);
     let hidden = aes128::encrypt(&schedule, columns(block));
     line(name, &bytes(hidden));
-    aes_keys::invert_keys(&mut schedule);
+    aes128::invert_keys(&mut schedule);
     let shown = aes128::decrypt(&schedule, hidden);
     line(name, &bytes(shown));
 }
@@ -327,13 +327,13 @@ fn fips_197() {
 fn wrap(name: &[u8], key: &[u8]) {
     let kek = [0, 1, 2, 3, 4, 5, 6, 7, 8, 9, 10, 11, 12, 13, 14, 15];
     let mut wrapped = [0u8; 200];
-    let Written::Wrote(n) = keywrap_wrap::wrap(kek, key, &mut wrapped) else {
+    let Written::Wrote(n) = keywrap_aes::wrap(kek, key, &mut wrapped) else {
         return;
     };
     let m = within(n, 200);
     line(name, &wrapped[..m]);
     let mut back = [0u8; 200];
-    let Written::Wrote(k) = keywrap_unwrap::unwrap(kek, &wrapped[..m], &mut back) else {
+    let Written::Wrote(k) = keywrap_aes::unwrap(kek, &wrapped[..m], &mut back) else {
         return;
     };
     let j = within(k, 200);

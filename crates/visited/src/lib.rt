@@ -3,10 +3,10 @@
 ghost use mathlib.Core.Path.{_≡_};
 ghost use lib.ListN.{length};
 ghost use Rattle.refusal.specs.Checks.{_andThen_, check1};
-ghost use Rattle.refusal.specs.Answers.{checkedAs, answerOf, answerTo, bufferAfter};
-ghost use Rattle.identifiers.specs.Checks.{check7, check8};
+ghost use Rattle.refusal.specs.Answers.{checkedAs, answerOf};
+ghost use Rattle.labels.specs.IdentifiersChecks.{check7, check8};
 ghost use Rattle.requests.specs.Requests.{forVrk, requestAnswer, requestBuffer};
-ghost use Rattle.visited.specs.Visited.{vmskCheck, vmskKey, reauthCheck, reauthKey};
+ghost use Rattle.visited.specs.Visited.{vmskAnswer, vmskBuffer, reauthAnswer, reauthBuffer};
 use refusal::Checked;
 use refusal::Written;
 
@@ -25,8 +25,8 @@ fn check_visited(vrk: &[u8], server: &[u8], domain: &[u8]) -> Checked
     ensures { λ r. ⌜ checkedAs r ≡ (check1 (now (vrk .entry)) andThen check7 (now (server .entry)) andThen check8 (now (domain .entry))) ⌝ }
 {
     let key = refusal::check_root_key(vrk);
-    let id = identifiers::check_server_id(server);
-    let realm = identifiers::check_domain(domain);
+    let id = labels::check_server_id(server);
+    let realm = labels::check_domain(domain);
     refusal::then_check(refusal::then_check(key, id), realm)
 }
 
@@ -37,8 +37,8 @@ pub fn visited_master_key<'a>(
     domain: &'a [u8],
     out: &mut [u8],
 ) -> Written
-    ensures answer { λ r. ⌜ answerOf r ≡ answerTo (vmskCheck (now (vrk .entry)) (now (server .entry)) (now (domain .entry)) (length (now (out .entry)))) 64 ⌝ }
-    ensures buffer { λ _. ⌜ now (out .exit) ≡ bufferAfter (vmskCheck (now (vrk .entry)) (now (server .entry)) (now (domain .entry)) (length (now (out .entry)))) 64 (vmskKey (now (vrk .entry)) (now (server .entry)) (now (domain .entry))) (now (out .entry)) ⌝ }
+    ensures answer { λ r. ⌜ answerOf r ≡ vmskAnswer (now (vrk .entry)) (now (server .entry)) (now (domain .entry)) (length (now (out .entry))) ⌝ }
+    ensures buffer { λ _. ⌜ now (out .exit) ≡ vmskBuffer (now (vrk .entry)) (now (server .entry)) (now (domain .entry)) (now (out .entry)) ⌝ }
 {
     let check = check_visited(vrk, server, domain);
     prf_plus::expand(check, vrk, server, domain, b"", b"", 64, out)
@@ -46,8 +46,8 @@ pub fn visited_master_key<'a>(
 
 // Writes the V-rRK. Its S is the label alone.
 pub fn visited_reauth_key(vmsk: &[u8], out: &mut [u8]) -> Written
-    ensures answer { λ r. ⌜ answerOf r ≡ answerTo (reauthCheck (now (vmsk .entry)) (length (now (out .entry)))) 64 ⌝ }
-    ensures buffer { λ _. ⌜ now (out .exit) ≡ bufferAfter (reauthCheck (now (vmsk .entry)) (length (now (out .entry)))) 64 (reauthKey (now (vmsk .entry))) (now (out .entry)) ⌝ }
+    ensures answer { λ r. ⌜ answerOf r ≡ reauthAnswer (now (vmsk .entry)) (length (now (out .entry))) ⌝ }
+    ensures buffer { λ _. ⌜ now (out .exit) ≡ reauthBuffer (now (vmsk .entry)) (now (out .entry)) ⌝ }
 {
     let check = refusal::check_root_key(vmsk);
     let label = b"EAP Re-authentication Root Key";

@@ -1,22 +1,13 @@
 -- `aes128::add_column` meets its contract.
 -- Assumes nothing.
 use mathlib.Core.Path.{_∙_}
-use Rattle.aes_word.proofs.Words.{added-columns}
+use Rattle.aes128.proofs.columns.Words.{added-columns}
 use borrow.Author.Needs.{needs}
 use Rattle.aes128.proofs.add_column.Statement.{statement}
 use Rattle.aes128.proofs.add_column.Tie as tie
-
-word-requires : tie.Need-word-requires
-word-requires c κs = search needs
-
-word-requires-2 : tie.Need-word-requires-2
-word-requires-2 c κs = search needs
-
-column-requires : tie.Need-column-requires
-column-requires c κs = search needs
 
 returns : tie.Need-returns
 returns c = c .column .ensures ∙ added-columns _ _ _ _ (c .before .before .word .ensures .1) (c .before .word2 .ensures .1)
 
 pub add-column-spec : {M : Type 1} → statement M
-add-column-spec = tie.close (tie.spec word-requires word-requires-2 column-requires returns)
+add-column-spec = tie.close (tie.spec (λ c κs. search needs) (λ c κs. search needs) (λ c κs. search needs) returns)

@@ -20,36 +20,6 @@ abbrev μ-loop : tie.MeasureT-loop
 loop-holds : tie.Need-loop-holds Inv-loop μ-loop
 loop-holds c = (omega arith, blank _ refl, λ k h. absurd (omega (arith, h)))
 
-mul-entry : tie.Need-mul-entry Inv-loop μ-loop
-mul-entry c = search needs
-
-mul-entry-2 : tie.Need-mul-entry-2 Inv-loop μ-loop
-mul-entry-2 c = search needs
-
-index-1-entry : tie.Need-index-1-entry Inv-loop μ-loop
-index-1-entry c = search needs
-
-index-2-entry : tie.Need-index-2-entry Inv-loop μ-loop
-index-2-entry c = search needs
-
-entry-requires : tie.Need-entry-requires Inv-loop μ-loop
-entry-requires c κs = search needs
-
-mul-w : tie.Need-mul-w Inv-loop μ-loop
-mul-w c = search needs
-
-index-1-w : tie.Need-index-1-w Inv-loop μ-loop
-index-1-w c = search needs
-
-index-2-w : tie.Need-index-2-w Inv-loop μ-loop
-index-2-w c = search needs
-
-add-i : tie.Need-add-i Inv-loop μ-loop
-add-i c = search needs
-
-loop-less : tie.Need-loop-less Inv-loop μ-loop
-loop-less c = search needs
-
 loop-again : tie.Need-loop-again Inv-loop μ-loop
 loop-again c =
     let p = c .before .before .before in
@@ -66,19 +36,6 @@ returns c =
 pub each-inv-sub-spec : {M : Type 1} → statement M
 each-inv-sub-spec =
     tie.close
-    (tie.spec
-    Inv-loop
-    μ-loop
-    loop-holds
-    mul-entry
-    mul-entry-2
-    index-1-entry
-    index-2-entry
-    entry-requires
-    mul-w
-    index-1-w
-    index-2-w
-    add-i
-    loop-less
-    loop-again
-    returns)
+    (tie.spec Inv-loop μ-loop loop-holds (λ c. search needs) (λ c. search needs) (λ c. search needs) (λ c. search needs)
+    (λ c κs. search needs) (λ c. search needs) (λ c. search needs) (λ c. search needs) (λ c. search needs)
+    (λ c. search needs) loop-again returns)

@@ -5,14 +5,8 @@ use borrow.Author.Needs.{needs}
 use Rattle.aes128.proofs.sub_bytes.Statement.{statement}
 use Rattle.aes128.proofs.sub_bytes.Tie as tie
 
-wide-state-requires : tie.Need-wide-state-requires
-wide-state-requires c κs = search needs
-
-each-sub-requires : tie.Need-each-sub-requires
-each-sub-requires c κs = search needs
-
 returns : tie.Need-returns
 returns c = sub-by _ _ (c .before .wide-state .ensures .0) (c .before .wide-state .ensures .1) _ (c .each-sub .ensures)
 
 pub sub-bytes-spec : {M : Type 1} → statement M
-sub-bytes-spec = tie.close (tie.spec wide-state-requires each-sub-requires returns)
+sub-bytes-spec = tie.close (tie.spec (λ c κs. search needs) (λ c κs. search needs) returns)

@@ -6,30 +6,6 @@ use borrow.Author.Needs.{needs}
 use Rattle.aes128.proofs.wide_state.Statement.{statement}
 use Rattle.aes128.proofs.wide_state.Tie as tie
 
-array-copy-out-wide-column : tie.Need-array-copy-out-wide-column
-array-copy-out-wide-column c = search needs
-
-wide-column-requires : tie.Need-wide-column-requires
-wide-column-requires c κs = search needs
-
-array-copy-out-wide-column-2 : tie.Need-array-copy-out-wide-column-2
-array-copy-out-wide-column-2 c = search needs
-
-wide-column-requires-2 : tie.Need-wide-column-requires-2
-wide-column-requires-2 c κs = search needs
-
-array-copy-out-wide-column-3 : tie.Need-array-copy-out-wide-column-3
-array-copy-out-wide-column-3 c = search needs
-
-wide-column-requires-3 : tie.Need-wide-column-requires-3
-wide-column-requires-3 c κs = search needs
-
-array-copy-out-wide-column-4 : tie.Need-array-copy-out-wide-column-4
-array-copy-out-wide-column-4 c = search needs
-
-wide-column-requires-4 : tie.Need-wide-column-requires-4
-wide-column-requires-4 c κs = search needs
-
 returns : tie.Need-returns
 returns c =
     let a = c .before .before .before .before .before .before .wide-column .ensures in
@@ -41,13 +17,5 @@ returns c =
 pub wide-state-spec : {M : Type 1} → statement M
 wide-state-spec =
     tie.close
-    (tie.spec
-    array-copy-out-wide-column
-    wide-column-requires
-    array-copy-out-wide-column-2
-    wide-column-requires-2
-    array-copy-out-wide-column-3
-    wide-column-requires-3
-    array-copy-out-wide-column-4
-    wide-column-requires-4
-    returns)
+    (tie.spec (λ c. search needs) (λ c κs. search needs) (λ c. search needs) (λ c κs. search needs) (λ c. search needs)
+    (λ c κs. search needs) (λ c. search needs) (λ c κs. search needs) returns)

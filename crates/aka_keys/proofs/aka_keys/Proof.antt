@@ -5,20 +5,11 @@ use denote.Ref.{now}
 use lib.ListN.{length}
 use Rattle.refusal.specs.Answers.{checkedAs}
 use Rattle.refusal.proofs.Answering.{passed, refused-so, answer-by}
-use Rattle.aka_keys.specs.Rfc5448.{akaCheck}
+use Rattle.aka_keys.specs.Rfc5448.{akaCheck, akaAnswer, akaBuffer}
 use Rattle.aka_keys.proofs.Deriving.{all-checks, key-lengths, tests-again, material-buffer}
 use borrow.Author.Needs.{needs}
 use Rattle.aka_keys.proofs.aka_keys.Statement.{statement}
 use Rattle.aka_keys.proofs.aka_keys.Tie as tie
-
-check-inputs-requires : tie.Need-check-inputs-requires
-check-inputs-requires c κs = search needs
-
-check-room-requires : tie.Need-check-room-requires
-check-room-requires c κs = search needs
-
-then-check-requires : tie.Need-then-check-requires
-then-check-requires c κs = search needs
 
 -- what all the tests came to
 all-tests : (c : tie.After-then-check)
@@ -26,33 +17,17 @@ all-tests : (c : tie.After-then-check)
     checkedAs (c .then-check .result) ≡ akaCheck (now (a .ck)) (now (a .ik)) (now (a .name)) (now (a .sqn-xor-ak)) (now (a .identity)) (length (now (a .out)))
 all-tests c = all-checks _ _ _ _ _ _ (c .then-check .ensures) (c .before .before .check-inputs .ensures) (c .before .check-room .ensures)
 
-enum-known-check : tie.Need-enum-known-check
-enum-known-check c = search needs
-
-enum-told : tie.Need-enum-told
-enum-told c = search needs
-
-slice-aggregate-put-expansion-key : tie.Need-slice-aggregate-put-expansion-key
-slice-aggregate-put-expansion-key c = search needs
-
 put-expansion-key-requires : tie.Need-put-expansion-key-requires
 put-expansion-key-requires c κs =
     let k = key-lengths _ _ _ _ _ _ (passed (all-tests (c .before .before .before)) (c .before .enum-told .given .1)) in
     (k .0, (k .1, refl))
 
-slice-aggregate-expanded : tie.Need-slice-aggregate-expanded
-slice-aggregate-expanded c = search needs
-
-expanded-requires : tie.Need-expanded-requires
-expanded-requires c κs = search needs
-
 returns : tie.Need-returns
+unfolding akaAnswer akaBuffer
 returns c = refused-so _ _ _ (all-tests (c .before .before .before)) (c .before .check .given .1)
 
-same-length : tie.Need-same-length
-same-length c = search needs
-
 returns-2 : tie.Need-returns-2
+unfolding akaAnswer akaBuffer
 returns-2 c =
     let e = c .before .before in
     let key = c .before .before .before .before .before .before in
@@ -66,16 +41,6 @@ returns-2 c =
 pub aka-keys-spec : {M : Type 1} → statement M
 aka-keys-spec =
     tie.close
-    (tie.spec
-    check-inputs-requires
-    check-room-requires
-    then-check-requires
-    enum-known-check
-    enum-told
-    slice-aggregate-put-expansion-key
-    put-expansion-key-requires
-    slice-aggregate-expanded
-    expanded-requires
-    returns
-    same-length
-    returns-2)
+    (tie.spec (λ c κs. search needs) (λ c κs. search needs) (λ c κs. search needs) (λ c. search needs)
+    (λ c. search needs) (λ c. search needs) put-expansion-key-requires (λ c. search needs) (λ c κs. search needs)
+    returns (λ c. search needs) returns-2)

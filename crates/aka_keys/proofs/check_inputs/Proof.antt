@@ -8,27 +8,6 @@ use Rattle.aka_keys.specs.Rfc5448.{inputCheck}
 use Rattle.aka_keys.proofs.check_inputs.Statement.{statement}
 use Rattle.aka_keys.proofs.check_inputs.Tie as tie
 
-unless-requires : tie.Need-unless-requires
-unless-requires c κs = search needs
-
-in-range-requires : tie.Need-in-range-requires
-in-range-requires c κs = search needs
-
-unless-requires-2 : tie.Need-unless-requires-2
-unless-requires-2 c κs = search needs
-
-in-range-requires-2 : tie.Need-in-range-requires-2
-in-range-requires-2 c κs = search needs
-
-unless-requires-3 : tie.Need-unless-requires-3
-unless-requires-3 c κs = search needs
-
-then-check-requires : tie.Need-then-check-requires
-then-check-requires c κs = search needs
-
-then-check-requires-2 : tie.Need-then-check-requires-2
-then-check-requires-2 c κs = search needs
-
 -- the tests in their order
 lengths-first : (c : tie.After-then-check) → checkedAs (c .then-check .result) ≡ (checkedAs (c .before .before .before .before .before .unless .result) andThen checkedAs (c .before .before .before .unless2 .result))
 lengths-first c = c .then-check .ensures
@@ -48,12 +27,5 @@ returns c =
 pub check-inputs-spec : {M : Type 1} → statement M
 check-inputs-spec =
     tie.close
-    (tie.spec
-    unless-requires
-    in-range-requires
-    unless-requires-2
-    in-range-requires-2
-    unless-requires-3
-    then-check-requires
-    then-check-requires-2
-    returns)
+    (tie.spec (λ c κs. search needs) (λ c κs. search needs) (λ c κs. search needs) (λ c κs. search needs)
+    (λ c κs. search needs) (λ c κs. search needs) (λ c κs. search needs) returns)

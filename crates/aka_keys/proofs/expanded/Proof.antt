@@ -10,21 +10,6 @@ use borrow.Author.Needs.{needs}
 use Rattle.aka_keys.proofs.expanded.Statement.{statement}
 use Rattle.aka_keys.proofs.expanded.Tie as tie
 
-slice-aggregate-expand : tie.Need-slice-aggregate-expand
-slice-aggregate-expand c = search needs
-
-slice-aggregate-expand-2 : tie.Need-slice-aggregate-expand-2
-slice-aggregate-expand-2 c = search needs
-
-slice-aggregate-expand-3 : tie.Need-slice-aggregate-expand-3
-slice-aggregate-expand-3 c = search needs
-
-expand-requires : tie.Need-expand-requires
-expand-requires c κs = search needs
-
-same-length : tie.Need-same-length
-same-length c = search needs
-
 returns : tie.Need-returns
 returns c =
     let e = c .before .before in
@@ -34,10 +19,5 @@ returns c =
 pub expanded-spec : {M : Type 1} → statement M
 expanded-spec =
     tie.close
-    (tie.spec
-    slice-aggregate-expand
-    slice-aggregate-expand-2
-    slice-aggregate-expand-3
-    expand-requires
-    same-length
+    (tie.spec (λ c. search needs) (λ c. search needs) (λ c. search needs) (λ c κs. search needs) (λ c. search needs)
     returns)

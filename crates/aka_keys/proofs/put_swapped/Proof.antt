@@ -10,30 +10,6 @@ use borrow.Author.Needs.{needs}
 use Rattle.aka_keys.proofs.put_swapped.Statement.{statement}
 use Rattle.aka_keys.proofs.put_swapped.Tie as tie
 
-sub-join : tie.Need-sub-join
-sub-join c = search needs
-
-part-join-start : tie.Need-part-join-start
-part-join-start c = search needs
-
-part-join-end : tie.Need-part-join-end
-part-join-end c = search needs
-
-sub-join-2 : tie.Need-sub-join-2
-sub-join-2 c = search needs
-
-part-join-start-2 : tie.Need-part-join-start-2
-part-join-start-2 c = search needs
-
-part-join-end-2 : tie.Need-part-join-end-2
-part-join-end-2 c = search needs
-
-join-requires : tie.Need-join-requires
-join-requires c κs = search needs
-
-same-length : tie.Need-same-length
-same-length c = search needs
-
 returns : tie.Need-returns
 returns c =
     let entered = c .before .before .before .before .before .before .before .before in
@@ -43,13 +19,5 @@ returns c =
 pub put-swapped-spec : {M : Type 1} → statement M
 put-swapped-spec =
     tie.close
-    (tie.spec
-    sub-join
-    part-join-start
-    part-join-end
-    sub-join-2
-    part-join-start-2
-    part-join-end-2
-    join-requires
-    same-length
-    returns)
+    (tie.spec (λ c. search needs) (λ c. search needs) (λ c. search needs) (λ c. search needs) (λ c. search needs)
+    (λ c. search needs) (λ c κs. search needs) (λ c. search needs) returns)

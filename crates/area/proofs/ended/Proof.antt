@@ -6,12 +6,6 @@ use borrow.Author.Needs.{needs}
 use Rattle.area.proofs.ended.Statement.{statement}
 use Rattle.area.proofs.ended.Tie as tie
 
-enum-told : tie.Need-enum-told
-enum-told c = search needs
-
-enum-known-name : tie.Need-enum-known-name
-enum-known-name c = search needs
-
 returns : tie.Need-returns
 returns c = (omega arith, λ kept h. rw (c .enum-told .given .1))
 
@@ -22,4 +16,4 @@ returns-3 : tie.Need-returns-3
 returns-3 c = (omega arith, λ kept h. rw (c .before .before .name .given .1) (some-offer _ _ _ kept h (c .if1 .left)))
 
 pub ended-spec : {M : Type 1} → statement M
-ended-spec = tie.close (tie.spec enum-told enum-known-name returns returns-2 returns-3)
+ended-spec = tie.close (tie.spec (λ c. search needs) (λ c. search needs) returns returns-2 returns-3)

@@ -7,21 +7,6 @@ use borrow.Author.Needs.{needs}
 use Rattle.area.proofs.is_own_name.Statement.{statement}
 use Rattle.area.proofs.is_own_name.Tie as tie
 
-add-end : tie.Need-add-end
-add-end c = search needs
-
-sub-same-fields : tie.Need-sub-same-fields
-sub-same-fields c = search needs
-
-part-same-fields-start : tie.Need-part-same-fields-start
-part-same-fields-start c = search needs
-
-part-same-fields-end : tie.Need-part-same-fields-end
-part-same-fields-end c = search needs
-
-same-fields-requires : tie.Need-same-fields-requires
-same-fields-requires c κs = search needs
-
 returns : tie.Need-returns
 returns c =
     let a = c .before .before .before .before .before .args in
@@ -31,10 +16,5 @@ returns c =
 pub is-own-name-spec : {M : Type 1} → statement M
 is-own-name-spec =
     tie.close
-    (tie.spec
-    add-end
-    sub-same-fields
-    part-same-fields-start
-    part-same-fields-end
-    same-fields-requires
+    (tie.spec (λ c. search needs) (λ c. search needs) (λ c. search needs) (λ c. search needs) (λ c κs. search needs)
     returns)

@@ -35,26 +35,8 @@ returns c =
     let no-room : length (now (a .out)) < 17 = omega (arith, c .if1 .taken) in
     too-little (a .way) (now (a .area)) (now (a .own-name)) (now (a .out)) no-room
 
-slice-aggregate-walk : tie.Need-slice-aggregate-walk
-slice-aggregate-walk c = search needs
-
-walk-requires : tie.Need-walk-requires
-walk-requires c κs = search needs
-
-enum-known-why : tie.Need-enum-known-why
-enum-known-why c = search needs
-
-refusal-at-requires : tie.Need-refusal-at-requires
-refusal-at-requires c κs = search needs
-
-enum-known-count : tie.Need-enum-known-count
-enum-known-count c = search needs
-
 is-own-name-requires : tie.Need-is-own-name-requires
 is-own-name-requires c κs = name-within _ (sym (read (c .before)))
-
-allows-requires : tie.Need-allows-requires
-allows-requires c κs = search needs
 
 returns-2 : tie.Need-returns-2
 returns-2 c =
@@ -68,17 +50,11 @@ array-share-prefix-kept c = let k = c .before .before .before .before in omega (
 slice-aggregate-copy-values : tie.Need-slice-aggregate-copy-values
 slice-aggregate-copy-values c = sym (counted (c .before .before .before .before .before))
 
-copy-values-requires : tie.Need-copy-values-requires
-copy-values-requires c κs = search needs
-
 returns-3 : tie.Need-returns-3
 returns-3 c =
     let k = c .before .before .before .before .before in
     let a = k .before .before .before .before .before .before .args in
     rw (c .refusal-at .ensures) (refused-so (a .way) (now (a .area)) (now (a .own-name)) (now (a .out)) (k .before .before .if1 .left) _ (rw (c .before .before .why .given .1) at (k .walk .ensures .1)))
-
-same-length : tie.Need-same-length
-same-length c = search needs
 
 returns-4 : tie.Need-returns-4
 returns-4 c =
@@ -95,19 +71,6 @@ returns-4 c =
 pub read-area-spec : {M : Type 1} → statement M
 read-area-spec =
     tie.close
-    (tie.spec
-    returns
-    slice-aggregate-walk
-    walk-requires
-    enum-known-why
-    refusal-at-requires
-    enum-known-count
-    is-own-name-requires
-    allows-requires
-    returns-2
-    array-share-prefix-kept
-    slice-aggregate-copy-values
-    copy-values-requires
-    returns-3
-    same-length
-    returns-4)
+    (tie.spec returns (λ c. search needs) (λ c κs. search needs) (λ c. search needs) (λ c κs. search needs)
+    (λ c. search needs) is-own-name-requires (λ c κs. search needs) returns-2 array-share-prefix-kept
+    slice-aggregate-copy-values (λ c κs. search needs) returns-3 (λ c. search needs) returns-4)

@@ -11,7 +11,7 @@ use lib.ListN.{length, take, drop, set, length-set}
 use Rattle.refusal.specs.Checks.{located}
 use Rattle.area_format.specs.Area.{standing, refusal, readOn, attributes, attributesFrom}
 use Rattle.area_format.specs.declared.Name.the-variants.{Missing}
-use Rattle.area_reader.proofs.Onward.{Met-next, next}
+use Rattle.area.proofs.reader.Onward.{Met-next, next}
 use Rattle.area.proofs.Keeping.{offer-kept, offer-refused}
 use Rattle.area.proofs.Walking.{ReadTo, starts, ends, goes-past, goes-on}
 use Rattle.area.proofs.walk.Statement.{statement}
@@ -38,15 +38,6 @@ on k =
 loop-holds : tie.Need-loop-holds Inv-loop μ-loop
 loop-holds c = (omega arith, omega arith, refl, starts (now (c .before .before .args .area)) (now (c .before .before .args .kept)))
 
-read-at-requires : tie.Need-read-at-requires Inv-loop μ-loop
-read-at-requires c κs = search needs
-
-enum-told : tie.Need-enum-told Inv-loop μ-loop
-enum-told c = search needs
-
-ended-requires : tie.Need-ended-requires Inv-loop μ-loop
-ended-requires c κs = search needs
-
 returns : tie.Need-returns Inv-loop μ-loop
 returns c =
     let l = c .before .before .before .before .loop in
@@ -55,18 +46,9 @@ returns c =
     let room : l .count ≤ length (l .kept) = omega (arith, c .before .before .before .before .before .before .before .pre) in
     (omega arith, c .ended .ensures .1 (l .kept) room ∙ sym (ends (now (a .area)) (l .at) (l .count) (l .name) (l .kept) (l .inv .3) (sym (s .ensures) ∙ c .before .enum-told .given .1)))
 
-enum-known-met : tie.Need-enum-known-met Inv-loop μ-loop
-enum-known-met c = search needs
-
-enum-known-met-2 : tie.Need-enum-known-met-2 Inv-loop μ-loop
-enum-known-met-2 c = search needs
-
 returns-3 : tie.Need-returns-3 Inv-loop μ-loop
 unfolding readOn
 returns-3 c = (omega arith, sym (rw (c .before .met2 .given .1) at (on (c .before .before .before .before))))
-
-enum-told-3 : tie.Need-enum-told-3 Inv-loop μ-loop
-enum-told-3 c = search needs
 
 loop-less : tie.Need-loop-less Inv-loop μ-loop
 loop-less c = let k = c .before .before .before in omega (arith, met k .ahead, met k .within)
@@ -75,26 +57,11 @@ loop-again : tie.Need-loop-again Inv-loop μ-loop
 unfolding readOn
 loop-again c = let k = c .before .before .before in (met k .within, k .before .before .before .loop .inv .1, k .before .before .before .loop .inv .2, rw (c .enum-told3 .given .1) at (on k))
 
-enum-known-met-3 : tie.Need-enum-known-met-3 Inv-loop μ-loop
-enum-known-met-3 c = search needs
-
 returns-4 : tie.Need-returns-4 Inv-loop μ-loop
 returns-4 c =
     let k = c .before .before .before .before .before in
     let l = k .before .before .before .loop in
     (omega arith, sym (rw (c .before .before .met3 .given .1) at (on k) ∙ offer-refused (l .count) (l .at) _ (l .kept) (l .name) _ (omega arith) (c .if1 .taken)))
-
-cast-kept : tie.Need-cast-kept Inv-loop μ-loop
-cast-kept c = search needs
-
-mul-kept : tie.Need-mul-kept Inv-loop μ-loop
-mul-kept c = search needs
-
-slice-write-kept : tie.Need-slice-write-kept Inv-loop μ-loop
-slice-write-kept c = search needs
-
-add-count : tie.Need-add-count Inv-loop μ-loop
-add-count c = search needs
 
 loop-less-2 : tie.Need-loop-less-2 Inv-loop μ-loop
 loop-less-2 c = let k = c .before .before .before .before .before in omega (arith, met k .ahead, met k .within)
@@ -109,15 +76,6 @@ loop-again-2 c =
     met-offer ∙ offer-kept (l .count) (l .at) _ (l .kept) (l .name) _ (omega arith) (omega arith) in
     (met k .within, omega arith, length-set (l .kept) (l .count) _ ∙ l .inv .2, one-more)
 
-enum-known-met-4 : tie.Need-enum-known-met-4 Inv-loop μ-loop
-enum-known-met-4 c = search needs
-
-enum-told-4 : tie.Need-enum-told-4 Inv-loop μ-loop
-enum-told-4 c = search needs
-
-add-start : tie.Need-add-start Inv-loop μ-loop
-add-start c = omega arith
-
 loop-less-3 : tie.Need-loop-less-3 Inv-loop μ-loop
 loop-less-3 c = let k = c .before .before .before .before .before .before in omega (arith, met k .ahead, met k .within)
 
@@ -127,9 +85,6 @@ loop-again-3 c =
     let k = c .before .before .before .before .before .before in
     let l = k .before .before .before .loop in
     (met k .within, l .inv .1, l .inv .2, rw (c .before .before .before .met4 .given .1, c .enum-told4 .given .1) at (on k))
-
-enum-told-5 : tie.Need-enum-told-5 Inv-loop μ-loop
-enum-told-5 c = search needs
 
 returns-5 : tie.Need-returns-5 Inv-loop μ-loop
 unfolding readOn
@@ -147,9 +102,6 @@ same-length-4 c = c .before .before .before .before .before .before .before .bef
 same-length-5 : tie.Need-same-length-5 Inv-loop μ-loop
 same-length-5 c = c .before .before .before .before .before .before .before .before .before .loop .inv .2
 
-enum-told-2 : tie.Need-enum-told-2 Inv-loop μ-loop
-enum-told-2 c = search needs
-
 same-length-2 : tie.Need-same-length-2 Inv-loop μ-loop
 same-length-2 c = c .before .before .before .loop .inv .2
 
@@ -165,39 +117,8 @@ returns-2 c =
 pub walk-spec : {M : Type 1} → statement M
 walk-spec =
     tie.close
-    (tie.spec
-    Inv-loop
-    μ-loop
-    loop-holds
-    read-at-requires
-    enum-told
-    ended-requires
-    same-length
-    returns
-    enum-told-2
-    same-length-2
-    returns-2
-    enum-known-met
-    enum-known-met-2
-    same-length-3
-    returns-3
-    enum-told-3
-    loop-less
-    loop-again
-    enum-known-met-3
-    same-length-4
-    returns-4
-    cast-kept
-    mul-kept
-    slice-write-kept
-    add-count
-    loop-less-2
-    loop-again-2
-    enum-known-met-4
-    enum-told-4
-    add-start
-    loop-less-3
-    loop-again-3
-    enum-told-5
-    same-length-5
-    returns-5)
+    (tie.spec Inv-loop μ-loop loop-holds (λ c κs. search needs) (λ c. search needs) (λ c κs. search needs) same-length
+    returns (λ c. search needs) same-length-2 returns-2 (λ c. search needs) (λ c. search needs) same-length-3 returns-3
+    (λ c. search needs) loop-less loop-again (λ c. search needs) same-length-4 returns-4 (λ c. search needs)
+    (λ c. search needs) (λ c. search needs) (λ c. search needs) loop-less-2 loop-again-2 (λ c. search needs)
+    (λ c. search needs) (λ c. omega arith) loop-less-3 loop-again-3 (λ c. search needs) same-length-5 returns-5)

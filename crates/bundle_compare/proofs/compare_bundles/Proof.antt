@@ -10,45 +10,15 @@ use borrow.Author.Needs.{needs}
 use Rattle.bundle_compare.proofs.compare_bundles.Statement.{statement}
 use Rattle.bundle_compare.proofs.compare_bundles.Tie as tie
 
-slice-aggregate-find-kinds : tie.Need-slice-aggregate-find-kinds
-slice-aggregate-find-kinds c = search needs
-
-slice-aggregate-find-kinds-2 : tie.Need-slice-aggregate-find-kinds-2
-slice-aggregate-find-kinds-2 c = search needs
-
-find-kinds-requires : tie.Need-find-kinds-requires
-find-kinds-requires c κs = search needs
-
-enum-known-why : tie.Need-enum-known-why
-enum-known-why c = search needs
-
-enum-told : tie.Need-enum-told
-enum-told c = search needs
-
 -- both files pass, and the arrays hold the kinds of their lines
 told : (c : tie.After-enum-told) → let x = c .before .before .before .before .before .before .before .before .before .before .args in let r = c .before .before .before .before .find-kinds .last in Told (now (x .first)) (now (x .second)) (r .1 .1 .0) (r .1 .1 .1 .0)
 told c = let k = c .before .before .before .before .find-kinds .ensures in told-by _ _ (replicate 64 0) (replicate 64 0) _ _ refl refl (sym (k .0) ∙ ap checkedAs (c .enum-told .given .1)) (k .1 .0) (k .1 .1)
 
-number-at-requires : tie.Need-number-at-requires
-number-at-requires c κs = search needs
-
-slice-aggregate-count-kind : tie.Need-slice-aggregate-count-kind
-slice-aggregate-count-kind c = search needs
-
 count-kind-requires : tie.Need-count-kind-requires
 count-kind-requires c κs = let t = told (c .before .before) in (omega (arith, c .before .number-at .ensures .0), omega (arith, c .before .number-at .ensures .0))
 
-slice-aggregate-count-kind-2 : tie.Need-slice-aggregate-count-kind-2
-slice-aggregate-count-kind-2 c = search needs
-
 count-kind-requires-2 : tie.Need-count-kind-requires-2
 count-kind-requires-2 c κs = let t = told (c .before .before .before .before) in (omega (arith, c .before .before .before .number-at .ensures .0), omega (arith, c .before .before .before .number-at .ensures .0))
-
-slice-aggregate-count-kind-3 : tie.Need-slice-aggregate-count-kind-3
-slice-aggregate-count-kind-3 c = search needs
-
-number-at-requires-2 : tie.Need-number-at-requires-2
-number-at-requires-2 c κs = search needs
 
 count-kind-requires-3 : tie.Need-count-kind-requires-3
 count-kind-requires-3 c κs = let t = told (c .before .before .before .before .before .before .before) in (omega (arith, c .number-at2 .ensures .0), omega (arith, c .number-at2 .ensures .0))
@@ -65,14 +35,8 @@ add-size-2 c = omega (arith, counts-few _ _ _ _ _ _ _ (counted c))
 mul-size : tie.Need-mul-size
 mul-size c = omega (arith, counts-few _ _ _ _ _ _ _ (counted c))
 
-cast-size : tie.Need-cast-size
-cast-size c = search needs
-
 returns : tie.Need-returns
 returns c = compare-refused _ _ _ (no-room _ _ _ _ _ _ _ (counted (c .before)) _ (c .if1 .taken))
-
-slice-aggregate-put-entries : tie.Need-slice-aggregate-put-entries
-slice-aggregate-put-entries c = search needs
 
 put-entries-requires : tie.Need-put-entries-requires
 put-entries-requires c κs =
@@ -81,9 +45,6 @@ put-entries-requires c κs =
     let p = t .first-passes in
     let q = t .second-passes in
     (search needs, (omega arith, omega (arith, c .before .before .if1 .left, bytes-long _ _ _ _ _ _ _ k)))
-
-slice-aggregate-put-entries-2 : tie.Need-slice-aggregate-put-entries-2
-slice-aggregate-put-entries-2 c = search needs
 
 put-entries-requires-2 : tie.Need-put-entries-requires-2
 put-entries-requires-2 c κs =
@@ -98,38 +59,14 @@ put-entries-requires-2 c κs =
 returns-2 : tie.Need-returns-2
 returns-2 c = compare-refused _ _ _ (refused-early _ _ _ (sym (c .before .before .before .before .before .find-kinds .ensures .0) ∙ ap checkedAs (c .before .why .given .1)))
 
-same-length : tie.Need-same-length
-same-length c = search needs
-
 returns-3 : tie.Need-returns-3
 returns-3 c = compared _ _ _ _ _ _ _ (counted (c .before .before .before .before .before .before .before .before .before .before .before)) _ _ _ _ _ (c .before .before .before .before .before .before .before .before .before .before .if1 .left) (c .before .before .before .before .before .before .before .put-entries .ensures) (c .before .before .put-entries2 .ensures)
 
 pub compare-bundles-spec : {M : Type 1} → statement M
 compare-bundles-spec =
     tie.close
-    (tie.spec
-    slice-aggregate-find-kinds
-    slice-aggregate-find-kinds-2
-    find-kinds-requires
-    enum-known-why
-    enum-told
-    number-at-requires
-    slice-aggregate-count-kind
-    count-kind-requires
-    slice-aggregate-count-kind-2
-    count-kind-requires-2
-    slice-aggregate-count-kind-3
-    number-at-requires-2
-    count-kind-requires-3
-    add-size
-    add-size-2
-    mul-size
-    cast-size
-    returns
-    slice-aggregate-put-entries
-    put-entries-requires
-    slice-aggregate-put-entries-2
-    put-entries-requires-2
-    returns-2
-    same-length
-    returns-3)
+    (tie.spec (λ c. search needs) (λ c. search needs) (λ c κs. search needs) (λ c. search needs) (λ c. search needs)
+    (λ c κs. search needs) (λ c. search needs) count-kind-requires (λ c. search needs) count-kind-requires-2
+    (λ c. search needs) (λ c κs. search needs) count-kind-requires-3 add-size add-size-2 mul-size (λ c. search needs)
+    returns (λ c. search needs) put-entries-requires (λ c. search needs) put-entries-requires-2 returns-2
+    (λ c. search needs) returns-3)

@@ -19,24 +19,12 @@ abbrev μ-loop : tie.MeasureT-loop
 loop-holds : tie.Need-loop-holds Inv-loop μ-loop
 loop-holds c = (omega arith, count-start _ _)
 
-shared-slice-read-one-of : tie.Need-shared-slice-read-one-of Inv-loop μ-loop
-shared-slice-read-one-of c = omega arith
-
-one-of-requires : tie.Need-one-of-requires Inv-loop μ-loop
-one-of-requires c κs = search needs
-
 -- the count after one line more
 next : (c : tie.After-one-of Inv-loop μ-loop) → let l = c .before .before .before .loop in let x = c .before .before .before .before .before .args in l .count + c .one-of .result ≡ countTo (x .wanted) (now (x .kinds)) (l .i + 1)
 next c = let l = c .before .before .before .loop in count-on _ _ (l .i) _ _ (l .inv .1) (c .one-of .ensures)
 
 add-count : tie.Need-add-count Inv-loop μ-loop
 add-count c = let l = c .before .before .before .loop in let x = c .before .before .before .before .before .args in omega (arith, next c, count-few (x .wanted) (now (x .kinds)) (l .i + 1))
-
-add-i : tie.Need-add-i Inv-loop μ-loop
-add-i c = omega arith
-
-loop-less : tie.Need-loop-less Inv-loop μ-loop
-loop-less c = omega arith
 
 loop-again : tie.Need-loop-again Inv-loop μ-loop
 loop-again c = (omega arith, next c)
@@ -47,14 +35,5 @@ returns c = let l = c .before .loop in l .inv .1 ∙ ap (countTo _ _) (omega ari
 pub count-kind-spec : {M : Type 1} → statement M
 count-kind-spec =
     tie.close
-    (tie.spec
-    Inv-loop
-    μ-loop
-    loop-holds
-    shared-slice-read-one-of
-    one-of-requires
-    add-count
-    add-i
-    loop-less
-    loop-again
-    returns)
+    (tie.spec Inv-loop μ-loop loop-holds (λ c. omega arith) (λ c κs. search needs) add-count (λ c. omega arith)
+    (λ c. omega arith) loop-again returns)

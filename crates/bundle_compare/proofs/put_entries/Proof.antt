@@ -19,9 +19,6 @@ Inv-loop file kinds from out₀ n place₀ i₀ out place i = (i ≤ n) × Liste
 abbrev μ-loop : tie.MeasureT-loop
 μ-loop file kinds from out₀ n place₀ i₀ out place i = n - i
 
-number-at-requires : tie.Need-number-at-requires Inv-loop μ-loop
-number-at-requires c κs = search needs
-
 loop-holds : tie.Need-loop-holds Inv-loop μ-loop
 loop-holds c = (omega arith, listed-start _ _ _ _)
 
@@ -44,9 +41,6 @@ add-end c = omega (arith, small c)
 shared-slice-read-put-entry : tie.Need-shared-slice-read-put-entry Inv-loop μ-loop
 shared-slice-read-put-entry c = omega (arith, small (c .before), c .before .before .before .before .before .before .before .pre .1 .0)
 
-sub-put-entry : tie.Need-sub-put-entry Inv-loop μ-loop
-sub-put-entry c = omega arith
-
 part-put-entry-start : tie.Need-part-put-entry-start Inv-loop μ-loop
 part-put-entry-start c = omega (arith, small (c .before))
 
@@ -58,12 +52,6 @@ put-entry-requires c κs =
     let k = c .before .before .before in
     let l = k .before .loop in
     listed-room _ _ _ _ _ _ (l .i) _ _ (small k .0) (line-id _ (l .i)) (k .before .before .before .before .before .before .pre .1 .1) (l .inv .1)
-
-add-i : tie.Need-add-i Inv-loop μ-loop
-add-i c = omega arith
-
-loop-less : tie.Need-loop-less Inv-loop μ-loop
-loop-less c = omega arith
 
 loop-again : tie.Need-loop-again Inv-loop μ-loop
 loop-again c =
@@ -81,21 +69,6 @@ returns c = let l = c .before .loop in listed-end _ _ _ _ _ (l .i) _ _ (omega (a
 pub put-entries-spec : {M : Type 1} → statement M
 put-entries-spec =
     tie.close
-    (tie.spec
-    Inv-loop
-    μ-loop
-    number-at-requires
-    loop-holds
-    mul-at
-    add-at
-    add-end
-    shared-slice-read-put-entry
-    sub-put-entry
-    part-put-entry-start
-    part-put-entry-end
-    put-entry-requires
-    add-i
-    loop-less
-    loop-again
-    same-length
-    returns)
+    (tie.spec Inv-loop μ-loop (λ c κs. search needs) loop-holds mul-at add-at add-end shared-slice-read-put-entry
+    (λ c. omega arith) part-put-entry-start part-put-entry-end put-entry-requires (λ c. omega arith) (λ c. omega arith)
+    loop-again same-length returns)

@@ -23,17 +23,11 @@ room c = entry-room _ _ _ _ (c .if1 .left) (c .before .before .before .pre)
 slice-write-out : tie.Need-slice-write-out
 slice-write-out c = omega (arith, room c)
 
-add-start : tie.Need-add-start
-add-start c = search needs
-
 sub-copy : tie.Need-sub-copy
 sub-copy c = simp length-set (omega (arith, room c))
 
 part-copy-start : tie.Need-part-copy-start
 part-copy-start c = simp length-set (omega (arith, room c))
-
-part-copy-end : tie.Need-part-copy-end
-part-copy-end c = search needs
 
 copy-requires : tie.Need-copy-requires
 copy-requires c κs =
@@ -41,9 +35,6 @@ copy-requires c κs =
     let r = room (c .before) in
     let n = length-set (now (x .out)) (x .at) (x .kind) in
     search needs
-
-add-result : tie.Need-add-result
-add-result c = search needs
 
 done : (c : tie.After-slice-known2) → let x = c .before .before .before .before .before .before .before .args in (x .at + 1 + length (now (x .id)) ≡ x .at + length (written (listed (x .kind) (now (x .id)) []))) × (putMid (x .at + 1) (length (set (now (x .out)) (x .at) (x .kind)) - (x .at + 1)) (set (now (x .out)) (x .at) (x .kind)) (c .before .before .copy .last .1 .0) ≡ take (x .at) (now (x .out)) ++ (written (listed (x .kind) (now (x .id)) []) ++ drop (x .at + 1 + length (now (x .id))) (now (x .out))))
 done c =
@@ -63,14 +54,5 @@ returns-2 c = done c
 pub put-entry-spec : {M : Type 1} → statement M
 put-entry-spec =
     tie.close
-    (tie.spec
-    returns
-    slice-write-out
-    add-start
-    sub-copy
-    part-copy-start
-    part-copy-end
-    copy-requires
-    add-result
-    same-length
-    returns-2)
+    (tie.spec returns slice-write-out (λ c. search needs) sub-copy part-copy-start (λ c. search needs) copy-requires
+    (λ c. search needs) same-length returns-2)

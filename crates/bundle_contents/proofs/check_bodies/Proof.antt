@@ -9,7 +9,7 @@ use borrow.Author.Needs.{needs}
 use Rattle.refusal.specs.Answers.{checkedAs}
 use Rattle.bundle_rules.specs.Bundle.{linesFrom, bodiesCheck}
 use Rattle.bundle_contents.specs.Internal.{Inside}
-use Rattle.bundle_numbers.proofs.Numbers.{number-of-line}
+use Rattle.bundle_contents.proofs.Numbers.{number-of-line}
 use Rattle.bundle_contents.proofs.Bodies.{inside-here, inside-on, bodies-stop, bodies-on, bodies-done, body-told}
 use Rattle.bundle_contents.proofs.check_bodies.Statement.{statement}
 use Rattle.bundle_contents.proofs.check_bodies.Tie as tie
@@ -23,9 +23,6 @@ abbrev μ-loop : tie.MeasureT-loop
 loop-holds : tie.Need-loop-holds Inv-loop μ-loop
 loop-holds c = (omega arith, rw sub-zero (c .before .pre .1 .1), rw sub-zero)
 
-lines-length-requires : tie.Need-lines-length-requires Inv-loop μ-loop
-lines-length-requires c κs = search needs
-
 add-at : tie.Need-add-at Inv-loop μ-loop
 add-at c = omega (arith, c .lines-length .ensures)
 
@@ -35,17 +32,8 @@ add-id-end c = omega (arith, c .lines-length .ensures)
 add-number-at : tie.Need-add-number-at Inv-loop μ-loop
 add-number-at c = omega (arith, c .lines-length .ensures)
 
-number-at-requires : tie.Need-number-at-requires Inv-loop μ-loop
-number-at-requires c κs = search needs
-
 add-number-at-2 : tie.Need-add-number-at-2 Inv-loop μ-loop
 add-number-at-2 c = omega (arith, c .before .lines-length .ensures)
-
-number-at-requires-2 : tie.Need-number-at-requires-2 Inv-loop μ-loop
-number-at-requires-2 c κs = search needs
-
-add-end : tie.Need-add-end Inv-loop μ-loop
-add-end c = omega arith
 
 sub-check-body : tie.Need-sub-check-body Inv-loop μ-loop
 sub-check-body c = omega (arith, c .before .before .lines-length .ensures)
@@ -56,12 +44,6 @@ part-check-body-start c = omega (arith, c .before .before .lines-length .ensures
 part-check-body-end : tie.Need-part-check-body-end Inv-loop μ-loop
 part-check-body-end c = omega (arith, c .before .before .lines-length .ensures)
 
-sub-check-body-2 : tie.Need-sub-check-body-2 Inv-loop μ-loop
-sub-check-body-2 c = omega arith
-
-part-check-body-start-2 : tie.Need-part-check-body-start-2 Inv-loop μ-loop
-part-check-body-start-2 c = omega arith
-
 part-check-body-end-2 : tie.Need-part-check-body-end-2 Inv-loop μ-loop
 part-check-body-end-2 c =
     let l = c .before .before .before .before .before .loop in
@@ -70,12 +52,6 @@ part-check-body-end-2 c =
     let offset = number-of-line f 18 (l .i) _ (omega arith) line (c .before .before .number-at .ensures .0) in
     let size = number-of-line f 20 (l .i) _ (omega arith) line (c .before .number-at2 .ensures .0) in
     omega (arith, inside-here f (l .i) _ _ _ (omega arith) (l .inv .1) offset size)
-
-check-body-requires : tie.Need-check-body-requires Inv-loop μ-loop
-check-body-requires c κs = search needs
-
-enum-known-why : tie.Need-enum-known-why Inv-loop μ-loop
-enum-known-why c = search needs
 
 returns : tie.Need-returns Inv-loop μ-loop
 returns c =
@@ -86,15 +62,6 @@ returns c =
     let offset = number-of-line f 18 (l .i) _ (omega arith) line (k .before .before .number-at .ensures .0) in
     let size = number-of-line f 20 (l .i) _ (omega arith) line (k .before .number-at2 .ensures .0) in
     bodies-stop f (l .i) _ _ _ (omega arith) offset size (l .inv .2) (body-told f (l .i) _ (k .before .before .number-at .result) (k .before .number-at2 .result) (omega arith) line (c .before .before .before .check-body .ensures) ∙ ap checkedAs (c .before .why .given .1))
-
-enum-told : tie.Need-enum-told Inv-loop μ-loop
-enum-told c = search needs
-
-add-i : tie.Need-add-i Inv-loop μ-loop
-add-i c = omega arith
-
-loop-less : tie.Need-loop-less Inv-loop μ-loop
-loop-less c = omega arith
 
 loop-again : tie.Need-loop-again Inv-loop μ-loop
 loop-again c =
@@ -115,29 +82,7 @@ returns-2 c = let l = c .before .loop in bodies-done _ (l .i) _ (omega arith) (l
 pub check-bodies-spec : {M : Type 1} → statement M
 check-bodies-spec =
     tie.close
-    (tie.spec
-    Inv-loop
-    μ-loop
-    loop-holds
-    lines-length-requires
-    add-at
-    add-id-end
-    add-number-at
-    number-at-requires
-    add-number-at-2
-    number-at-requires-2
-    add-end
-    sub-check-body
-    part-check-body-start
-    part-check-body-end
-    sub-check-body-2
-    part-check-body-start-2
-    part-check-body-end-2
-    check-body-requires
-    enum-known-why
-    returns
-    enum-told
-    add-i
-    loop-less
-    loop-again
-    returns-2)
+    (tie.spec Inv-loop μ-loop loop-holds (λ c κs. search needs) add-at add-id-end add-number-at (λ c κs. search needs)
+    add-number-at-2 (λ c κs. search needs) (λ c. omega arith) sub-check-body part-check-body-start part-check-body-end
+    (λ c. omega arith) (λ c. omega arith) part-check-body-end-2 (λ c κs. search needs) (λ c. search needs) returns
+    (λ c. search needs) (λ c. omega arith) (λ c. omega arith) loop-again returns-2)

@@ -23,17 +23,11 @@ ended c = sym (c .before .last-end .ensures) ∙ c .if6 .left
 returns : tie.Need-returns
 returns c = bundle-short _ (c .if1 .taken)
 
-number-at-requires : tie.Need-number-at-requires
-number-at-requires c κs = search needs
-
 returns-2 : tie.Need-returns-2
 returns-2 c = bundle-none _ _ (c .before .number-at .ensures .0) (c .if2 .taken)
 
 returns-3 : tie.Need-returns-3
 returns-3 c = bundle-many _ _ (c .before .before .number-at .ensures .0) (c .if3 .taken)
-
-lines-length-requires : tie.Need-lines-length-requires
-lines-length-requires c κs = search needs
 
 add-contents : tie.Need-add-contents
 add-contents c = omega (arith, c .lines-length .ensures)
@@ -41,14 +35,8 @@ add-contents c = omega (arith, c .lines-length .ensures)
 returns-4 : tie.Need-returns-4
 returns-4 c = bundle-cut _ _ (c .before .before .before .before .number-at .ensures .0) (c .before .before .before .before .before .if1 .left) (c .before .before .before .if2 .left) (c .before .before .if3 .left) (omega (arith, c .if4 .taken, c .before .lines-length .ensures, c .before .before .if3 .left))
 
-follows-requires : tie.Need-follows-requires
-follows-requires c κs = search needs
-
 returns-5 : tie.Need-returns-5
 returns-5 c = bundle-gap _ _ (c .before .before .before .before .before .before .number-at .ensures .0) (c .before .before .before .before .before .before .before .if1 .left) (c .before .before .before .before .before .if2 .left) (c .before .before .before .before .if3 .left) (omega (arith, c .before .before .if4 .left, c .before .before .before .lines-length .ensures, c .before .before .before .before .if3 .left)) (sym (c .before .follows .ensures) ∙ not-true _ (c .if5 .taken))
-
-last-end-requires : tie.Need-last-end-requires
-last-end-requires c κs = search needs
 
 returns-6 : tie.Need-returns-6
 returns-6 c =
@@ -74,19 +62,6 @@ returns-8 c = bundle-bodies _ _ (c .before .before .before .before .before .befo
 pub check-bundle-spec : {M : Type 1} → statement M
 check-bundle-spec =
     tie.close
-    (tie.spec
-    returns
-    number-at-requires
-    returns-2
-    returns-3
-    lines-length-requires
-    add-contents
-    returns-4
-    follows-requires
-    returns-5
-    last-end-requires
-    returns-6
-    id-repeats-requires
-    returns-7
-    check-bodies-requires
-    returns-8)
+    (tie.spec returns (λ c κs. search needs) returns-2 returns-3 (λ c κs. search needs) add-contents returns-4
+    (λ c κs. search needs) returns-5 (λ c κs. search needs) returns-6 id-repeats-requires returns-7
+    check-bodies-requires returns-8)

@@ -18,40 +18,10 @@ abbrev μ-loop : tie.MeasureT-loop
 loop-holds : tie.Need-loop-holds Inv-loop μ-loop
 loop-holds c = (omega arith, rw sub-zero)
 
-mul-at : tie.Need-mul-at Inv-loop μ-loop
-mul-at c = omega arith
-
-add-at : tie.Need-add-at Inv-loop μ-loop
-add-at c = omega arith
-
-add-end : tie.Need-add-end Inv-loop μ-loop
-add-end c = omega arith
-
-sub-id-stands : tie.Need-sub-id-stands Inv-loop μ-loop
-sub-id-stands c = omega arith
-
-part-id-stands-start : tie.Need-part-id-stands-start Inv-loop μ-loop
-part-id-stands-start c = omega arith
-
-part-id-stands-end : tie.Need-part-id-stands-end Inv-loop μ-loop
-part-id-stands-end c = omega arith
-
-add-id-stands : tie.Need-add-id-stands Inv-loop μ-loop
-add-id-stands c = omega arith
-
-id-stands-requires : tie.Need-id-stands-requires Inv-loop μ-loop
-id-stands-requires c κs = omega arith
-
 returns : tie.Need-returns Inv-loop μ-loop
 returns c =
     let l = c .before .before .before .before .loop in
     sym (repeats-on _ (l .i) _ (omega arith) (c .before .id-stands .ensures) (c .if1 .taken) (l .inv .1))
-
-add-i : tie.Need-add-i Inv-loop μ-loop
-add-i c = omega arith
-
-loop-less : tie.Need-loop-less Inv-loop μ-loop
-loop-less c = omega arith
 
 loop-again : tie.Need-loop-again Inv-loop μ-loop
 loop-again c =
@@ -64,20 +34,6 @@ returns-2 c = let l = c .before .loop in repeats-not _ (l .i) _ (omega arith) (l
 pub id-repeats-spec : {M : Type 1} → statement M
 id-repeats-spec =
     tie.close
-    (tie.spec
-    Inv-loop
-    μ-loop
-    loop-holds
-    mul-at
-    add-at
-    add-end
-    sub-id-stands
-    part-id-stands-start
-    part-id-stands-end
-    add-id-stands
-    id-stands-requires
-    returns
-    add-i
-    loop-less
-    loop-again
-    returns-2)
+    (tie.spec Inv-loop μ-loop loop-holds (λ c. omega arith) (λ c. omega arith) (λ c. omega arith) (λ c. omega arith)
+    (λ c. omega arith) (λ c. omega arith) (λ c. omega arith) (λ c κs. omega arith) returns (λ c. omega arith)
+    (λ c. omega arith) loop-again returns-2)

@@ -17,37 +17,10 @@ abbrev μ-loop : tie.MeasureT-loop
 loop-holds : tie.Need-loop-holds Inv-loop μ-loop
 loop-holds c = (omega arith, refl)
 
-mul-at : tie.Need-mul-at Inv-loop μ-loop
-mul-at c = omega arith
-
-add-at : tie.Need-add-at Inv-loop μ-loop
-add-at c = omega arith
-
-add-end : tie.Need-add-end Inv-loop μ-loop
-add-end c = omega arith
-
-sub-same-id : tie.Need-sub-same-id Inv-loop μ-loop
-sub-same-id c = omega arith
-
-part-same-id-start : tie.Need-part-same-id-start Inv-loop μ-loop
-part-same-id-start c = omega arith
-
-part-same-id-end : tie.Need-part-same-id-end Inv-loop μ-loop
-part-same-id-end c = omega arith
-
-same-id-requires : tie.Need-same-id-requires Inv-loop μ-loop
-same-id-requires c κs = omega arith
-
 returns : tie.Need-returns Inv-loop μ-loop
 returns c =
     let l = c .before .before .before .before .loop in
     sym (stands-on _ _ (l .j) _ (omega arith) (c .before .same-id .ensures) (c .if1 .taken) (l .inv .1))
-
-add-j : tie.Need-add-j Inv-loop μ-loop
-add-j c = omega arith
-
-loop-less : tie.Need-loop-less Inv-loop μ-loop
-loop-less c = omega arith
 
 loop-again : tie.Need-loop-again Inv-loop μ-loop
 loop-again c =
@@ -60,19 +33,6 @@ returns-2 c = let l = c .before .loop in stands-not _ _ (l .j) _ (omega arith) (
 pub id-stands-spec : {M : Type 1} → statement M
 id-stands-spec =
     tie.close
-    (tie.spec
-    Inv-loop
-    μ-loop
-    loop-holds
-    mul-at
-    add-at
-    add-end
-    sub-same-id
-    part-same-id-start
-    part-same-id-end
-    same-id-requires
-    returns
-    add-j
-    loop-less
-    loop-again
+    (tie.spec Inv-loop μ-loop loop-holds (λ c. omega arith) (λ c. omega arith) (λ c. omega arith) (λ c. omega arith)
+    (λ c. omega arith) (λ c. omega arith) (λ c κs. omega arith) returns (λ c. omega arith) (λ c. omega arith) loop-again
     returns-2)

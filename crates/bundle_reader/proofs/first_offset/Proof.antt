@@ -8,12 +8,6 @@ use Rattle.bundle_reader.proofs.Reading.{start-at}
 use Rattle.bundle_reader.proofs.first_offset.Statement.{statement}
 use Rattle.bundle_reader.proofs.first_offset.Tie as tie
 
-number-at-requires : tie.Need-number-at-requires
-number-at-requires c κs = search needs
-
-least-requires : tie.Need-least-requires
-least-requires c κs = search needs
-
 returns : tie.Need-returns
 returns c =
     let file = now (c .before .before .before .args .file) in
@@ -21,4 +15,4 @@ returns c =
     start-at file offset (c .least .ensures)
 
 pub first-offset-spec : {M : Type 1} → statement M
-first-offset-spec = tie.close (tie.spec number-at-requires least-requires returns)
+first-offset-spec = tie.close (tie.spec (λ c κs. search needs) (λ c κs. search needs) returns)

@@ -7,7 +7,7 @@ use borrow.Author.Needs.{needs}
 use denote.Ref.{now}
 use lib.ListN.{length}
 use Rattle.bundle_rules.specs.Bundle.{contentsEnd, packed}
-use Rattle.bundle_packing.proofs.Walking.{Step, step, id-part, body-long}
+use Rattle.bundle_writer.proofs.packing.Walking.{Step, step, id-part, body-long}
 use Rattle.bundle_writer.proofs.Lines.{Lined, lined-start, lined-on, lined-end, lined-room, id-long}
 use Rattle.bundle_writer.proofs.put_lines.Statement.{statement}
 use Rattle.bundle_writer.proofs.put_lines.Tie as tie
@@ -20,18 +20,6 @@ abbrev μ-loop : tie.MeasureT-loop
 
 loop-holds : tie.Need-loop-holds Inv-loop μ-loop
 loop-holds c = lined-start _ _ _ (c .before .before .pre .0) refl
-
-sub-body-length : tie.Need-sub-body-length Inv-loop μ-loop
-sub-body-length c = omega arith
-
-part-body-length-start : tie.Need-part-body-length-start Inv-loop μ-loop
-part-body-length-start c = omega arith
-
-part-body-length-end : tie.Need-part-body-length-end Inv-loop μ-loop
-part-body-length-end c = omega arith
-
-body-length-requires : tie.Need-body-length-requires Inv-loop μ-loop
-body-length-requires c κs = search needs
 
 made : (c : tie.After-body-length Inv-loop μ-loop) → Step (now (c .before .before .before .before .before .before .args .attributes)) (c .before .before .before .loop .at) (c .body-length .result)
 made c = step _ _ _ (omega arith) (c .body-length .ensures)
@@ -53,9 +41,6 @@ add-end c = omega (arith, long c)
 
 add-offset : tie.Need-add-offset Inv-loop μ-loop
 add-offset c = omega (arith, long c, c .before .before .before .before .before .before .pre .1 .1)
-
-sub-put-line : tie.Need-sub-put-line Inv-loop μ-loop
-sub-put-line c = omega arith
 
 part-put-line-start : tie.Need-part-put-line-start Inv-loop μ-loop
 part-put-line-start c = omega (arith, long c)
@@ -95,24 +80,6 @@ returns c =
 pub put-lines-spec : {M : Type 1} → statement M
 put-lines-spec =
     tie.close
-    (tie.spec
-    Inv-loop
-    μ-loop
-    loop-holds
-    sub-body-length
-    part-body-length-start
-    part-body-length-end
-    body-length-requires
-    add-start
-    add-end
-    add-offset
-    sub-put-line
-    part-put-line-start
-    part-put-line-end
-    put-line-requires
-    add-at
-    add-place
-    loop-less
-    loop-again
-    same-length
-    returns)
+    (tie.spec Inv-loop μ-loop loop-holds (λ c. omega arith) (λ c. omega arith) (λ c. omega arith) (λ c κs. search needs)
+    add-start add-end add-offset (λ c. omega arith) part-put-line-start part-put-line-end put-line-requires add-at
+    add-place loop-less loop-again same-length returns)

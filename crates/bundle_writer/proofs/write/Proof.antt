@@ -15,15 +15,6 @@ use Rattle.bundle_writer.proofs.Writing.{frames-of, count-high, bytes-f
 use Rattle.bundle_writer.proofs.write.Statement.{statement}
 use Rattle.bundle_writer.proofs.write.Tie as tie
 
-check-packed-requires : tie.Need-check-packed-requires
-check-packed-requires c κs = search needs
-
-enum-known-why : tie.Need-enum-known-why
-enum-known-why c = search needs
-
-enum-known-n : tie.Need-enum-known-n
-enum-known-n c = search needs
-
 -- the attributes pass, and n is their count
 counted : (c : tie.After-known-told2) → let a = now (c .before .before .before .before .before .before .args .attributes) in (packedCheck a ≡ pass) × (c .before .n .given .0 .0 ≡ length (packed a))
 counted c = told-count _ _ _ (sym (ap answerOf (c .before .n .given .1)) ∙ c .before .before .before .check-packed .ensures)
@@ -31,9 +22,6 @@ counted c = told-count _ _ _ (sym (ap answerOf (c .before .n .given .1)) ∙ c .
 -- so that there are not many
 few : (c : tie.After-known-told2) → (c .before .n .given .0 .0 ≤ 64) × (length (now (c .before .before .before .before .before .before .args .attributes)) ≤ 16128)
 few c = let k = counted c in (omega (arith, k .1, count-high _ (k .0)), bytes-few _ (k .0))
-
-lines-length-requires : tie.Need-lines-length-requires
-lines-length-requires c κs = search needs
 
 -- where the contents end
 contents : (c : tie.After-lines-length) → 2 + c .lines-length .result ≡ contentsEnd (c .before .before .n .given .0 .0)
@@ -50,29 +38,14 @@ returns c =
     let k = counted (c .before .before) in
     write-refused _ _ (write-room _ _ _ (k .0) (k .1) (omega (arith, c .if1 .taken, contents (c .before))))
 
-be16-requires : tie.Need-be16-requires
-be16-requires c κs = search needs
-
-slice-aggregate-put-at : tie.Need-slice-aggregate-put-at
-slice-aggregate-put-at c = search needs
-
-put-at-requires : tie.Need-put-at-requires
-put-at-requires c κs = search needs
-
 put-lines-requires : tie.Need-put-lines-requires
 put-lines-requires c κs =
     let k = counted (c .before .before .before .before .before .before .before .before .before) in
     let n = count-length _ _ _ _ (c .before .before .before .before .before .before .be16 .ensures) (omega (arith, c .before .before .before .before .before .before .before .if1 .left)) (c .before .before .before .put-at .ensures) in
     (frames-of _ (k .0), (omega (arith, contents (c .before .before .before .before .before .before .before .before), k .1), omega (arith, c .before .before .before .before .before .before .before .if1 .left)))
 
-put-at-requires-2 : tie.Need-put-at-requires-2
-put-at-requires-2 c κs = search needs
-
 returns-2 : tie.Need-returns-2
 returns-2 c = write-refused _ _ (write-early _ _ (told-refusal _ _ _ (sym (ap answerOf (c .before .why .given .1)) ∙ c .before .before .before .check-packed .ensures)))
-
-same-length : tie.Need-same-length
-same-length c = search needs
 
 returns-3 : tie.Need-returns-3
 returns-3 c =
@@ -83,19 +56,6 @@ returns-3 c =
 pub write-spec : {M : Type 1} → statement M
 write-spec =
     tie.close
-    (tie.spec
-    check-packed-requires
-    enum-known-why
-    enum-known-n
-    lines-length-requires
-    add-contents
-    add-size
-    returns
-    be16-requires
-    slice-aggregate-put-at
-    put-at-requires
-    put-lines-requires
-    put-at-requires-2
-    returns-2
-    same-length
-    returns-3)
+    (tie.spec (λ c κs. search needs) (λ c. search needs) (λ c. search needs) (λ c κs. search needs) add-contents
+    add-size returns (λ c κs. search needs) (λ c. search needs) (λ c κs. search needs) put-lines-requires
+    (λ c κs. search needs) returns-2 (λ c. search needs) returns-3)

@@ -34,44 +34,17 @@ within c =
     let r = c .before .before .before .compare-bundles in
     within-room _ _ _ _ (rw (c .counts .given .1) at (r .ensures .0))
 
-slice-aggregate-compare-bundles : tie.Need-slice-aggregate-compare-bundles
-slice-aggregate-compare-bundles c = search needs
-
-compare-bundles-requires : tie.Need-compare-bundles-requires
-compare-bundles-requires c κs = search needs
-
-enum-known-why : tie.Need-enum-known-why
-enum-known-why c = search needs
-
-write-refusal-requires : tie.Need-write-refusal-requires
-write-refusal-requires c κs = search needs
-
-enum-known-counts : tie.Need-enum-known-counts
-enum-known-counts c = search needs
-
 add-entries : tie.Need-add-entries
 add-entries c = omega (arith, within (c .before .before))
 
 add-entries-2 : tie.Need-add-entries-2
 add-entries-2 c = omega (arith, within (c .before .before .before))
 
-cast-entries : tie.Need-cast-entries
-cast-entries c = search needs
-
-mul-end : tie.Need-mul-end
-mul-end c = search needs
-
 array-share-prefix-out : tie.Need-array-share-prefix-out
 array-share-prefix-out c = omega (arith, within (c .before .before .before))
 
 slice-aggregate-write-entries : tie.Need-slice-aggregate-write-entries
 slice-aggregate-write-entries c = sym (length-take-le _ _ (array-share-prefix-out (c .before)))
-
-write-entries-requires : tie.Need-write-entries-requires
-write-entries-requires c κs = search needs
-
-write-counts-requires : tie.Need-write-counts-requires
-write-counts-requires c κs = search needs
 
 returns : tie.Need-returns
 returns c = search needs
@@ -82,19 +55,6 @@ returns-2 c = search needs
 pub compare-spec : {M : Type 1} → statement M
 compare-spec =
     tie.close
-    (tie.spec
-    slice-aggregate-compare-bundles
-    compare-bundles-requires
-    enum-known-why
-    write-refusal-requires
-    enum-known-counts
-    add-entries
-    add-entries-2
-    cast-entries
-    mul-end
-    array-share-prefix-out
-    slice-aggregate-write-entries
-    write-entries-requires
-    write-counts-requires
-    returns
-    returns-2)
+    (tie.spec (λ c. search needs) (λ c κs. search needs) (λ c. search needs) (λ c κs. search needs) (λ c. search needs)
+    add-entries add-entries-2 (λ c. search needs) (λ c. search needs) array-share-prefix-out
+    slice-aggregate-write-entries (λ c κs. search needs) (λ c κs. search needs) returns returns-2)

@@ -4,21 +4,6 @@ use borrow.Author.Needs.{needs}
 use Rattle.handover.proofs.check_call.Statement.{statement}
 use Rattle.handover.proofs.check_call.Tie as tie
 
-unless-requires : tie.Need-unless-requires
-unless-requires c κs = search needs
-
-unless-requires-2 : tie.Need-unless-requires-2
-unless-requires-2 c κs = search needs
-
-then-check-requires : tie.Need-then-check-requires
-then-check-requires c κs = search needs
-
-check-room-requires : tie.Need-check-room-requires
-check-room-requires c κs = search needs
-
-then-check-requires-2 : tie.Need-then-check-requires-2
-then-check-requires-2 c κs = search needs
-
 returns : tie.Need-returns
 returns c =
     let p1 = c .before in
@@ -29,10 +14,5 @@ returns c =
 pub check-call-spec : {M : Type 1} → statement M
 check-call-spec =
     tie.close
-    (tie.spec
-    unless-requires
-    unless-requires-2
-    then-check-requires
-    check-room-requires
-    then-check-requires-2
-    returns)
+    (tie.spec (λ c κs. search needs) (λ c κs. search needs) (λ c κs. search needs) (λ c κs. search needs)
+    (λ c κs. search needs) returns)

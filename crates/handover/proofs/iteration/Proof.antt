@@ -9,16 +9,10 @@ use borrow.Author.Needs.{needs}
 use Rattle.handover.proofs.iteration.Statement.{statement}
 use Rattle.handover.proofs.iteration.Tie as tie
 
-compress-blocks-requires : tie.Need-compress-blocks-requires
-compress-blocks-requires c κs = search needs
-
-close-requires : tie.Need-close-requires
-close-requires c κs = search needs
-
 returns : tie.Need-returns
 returns c =
     let k = c .before .before .before .before in
     c .close .ensures ∙ ap (λ (v : List ℕ). hashAfter (k .args .keyed .outer) (digest v)) (c .before .compress-blocks .ensures)
 
 pub iteration-spec : {M : Type 1} → statement M
-iteration-spec = tie.close (tie.spec compress-blocks-requires close-requires returns)
+iteration-spec = tie.close (tie.spec (λ c κs. search needs) (λ c κs. search needs) returns)

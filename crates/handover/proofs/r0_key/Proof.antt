@@ -15,15 +15,6 @@ use borrow.Author.Needs.{needs}
 use Rattle.handover.proofs.r0_key.Statement.{statement}
 use Rattle.handover.proofs.r0_key.Tie as tie
 
-check-call-requires : tie.Need-check-call-requires
-check-call-requires c κs = search needs
-
-enum-known-why : tie.Need-enum-known-why
-enum-known-why c = search needs
-
-enum-told : tie.Need-enum-told
-enum-told c = search needs
-
 id-requires : tie.Need-id-requires
 unfolding r0Check
 id-requires c κs =
@@ -39,18 +30,12 @@ address-requires c κs =
     let a = k .before .before .before .before .before .args in
     r0-lengths (now (a .rrk)) (now (a .ad-id)) (now (a .spa)) (length (now (a .out))) (passed (k .check-call .ensures) (t .enum-told .given .1)) .1
 
-r0-text-requires : tie.Need-r0-text-requires
-r0-text-requires c κs = search needs
-
 slice-aggregate-derive : tie.Need-slice-aggregate-derive
 slice-aggregate-derive c =
     let t = c .before .before .before .before in
     let k = t .before .before in
     let a = k .before .before .before .before .before .args in
     sym (half-length (now (a .rrk)) (check34 (isId (now (a .ad-id)) && isSpa (now (a .spa)))) (check6 32 (length (now (a .out)))) (passed (k .check-call .ensures) (t .enum-told .given .1)))
-
-slice-aggregate-derive-2 : tie.Need-slice-aggregate-derive-2
-slice-aggregate-derive-2 c = search needs
 
 derive-requires : tie.Need-derive-requires
 unfolding r0Check
@@ -77,9 +62,6 @@ returns : tie.Need-returns
 unfolding r0Check
 returns c = refused-so 32 _ _ (c .before .before .before .check-call .ensures) (c .before .why .given .1)
 
-same-length : tie.Need-same-length
-same-length c = search needs
-
 returns-2 : tie.Need-returns-2
 unfolding r0Check
 returns-2 c =
@@ -102,16 +84,6 @@ returns-2 c =
 pub r0-key-spec : {M : Type 1} → statement M
 r0-key-spec =
     tie.close
-    (tie.spec
-    check-call-requires
-    enum-known-why
-    enum-told
-    id-requires
-    address-requires
-    r0-text-requires
-    slice-aggregate-derive
-    slice-aggregate-derive-2
-    derive-requires
-    returns
-    same-length
+    (tie.spec (λ c κs. search needs) (λ c. search needs) (λ c. search needs) id-requires address-requires
+    (λ c κs. search needs) slice-aggregate-derive (λ c. search needs) derive-requires returns (λ c. search needs)
     returns-2)

@@ -12,15 +12,6 @@ use borrow.Author.Needs.{needs}
 use Rattle.handover.proofs.r0_name.Statement.{statement}
 use Rattle.handover.proofs.r0_name.Tie as tie
 
-check-call-requires : tie.Need-check-call-requires
-check-call-requires c κs = search needs
-
-enum-known-why : tie.Need-enum-known-why
-enum-known-why c = search needs
-
-enum-told : tie.Need-enum-told
-enum-told c = search needs
-
 id-requires : tie.Need-id-requires
 unfolding r0NameCheck
 id-requires c κs =
@@ -36,18 +27,6 @@ address-requires c κs =
     let a = k .before .before .before .before .before .args in
     name-lengths (now (a .r0-key)) (now (a .ad-id)) (now (a .spa)) (length (now (a .out))) (passed (k .check-call .ensures) (t .enum-told .given .1)) .1
 
-name-text-requires : tie.Need-name-text-requires
-name-text-requires c κs = search needs
-
-slice-aggregate-digest-of-two : tie.Need-slice-aggregate-digest-of-two
-slice-aggregate-digest-of-two c = search needs
-
-digest-of-two-requires : tie.Need-digest-of-two-requires
-digest-of-two-requires c κs = search needs
-
-array-share-prefix-hash : tie.Need-array-share-prefix-hash
-array-share-prefix-hash c = search needs
-
 slice-aggregate-copy : tie.Need-slice-aggregate-copy
 slice-aggregate-copy c = sym (name-size _ (c .before .digest-of-two .ensures))
 
@@ -61,9 +40,6 @@ copy-requires c κs =
 returns : tie.Need-returns
 unfolding r0NameCheck
 returns c = refused-so 16 _ _ (c .before .before .before .check-call .ensures) (c .before .why .given .1)
-
-same-length : tie.Need-same-length
-same-length c = search needs
 
 returns-2 : tie.Need-returns-2
 unfolding r0NameCheck
@@ -83,18 +59,6 @@ returns-2 c =
 pub r0-name-spec : {M : Type 1} → statement M
 r0-name-spec =
     tie.close
-    (tie.spec
-    check-call-requires
-    enum-known-why
-    enum-told
-    id-requires
-    address-requires
-    name-text-requires
-    slice-aggregate-digest-of-two
-    digest-of-two-requires
-    array-share-prefix-hash
-    slice-aggregate-copy
-    copy-requires
-    returns
-    same-length
-    returns-2)
+    (tie.spec (λ c κs. search needs) (λ c. search needs) (λ c. search needs) id-requires address-requires
+    (λ c κs. search needs) (λ c. search needs) (λ c κs. search needs) (λ c. search needs) slice-aggregate-copy
+    copy-requires returns (λ c. search needs) returns-2)

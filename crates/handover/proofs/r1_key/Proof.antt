@@ -14,15 +14,6 @@ use borrow.Author.Needs.{needs}
 use Rattle.handover.proofs.r1_key.Statement.{statement}
 use Rattle.handover.proofs.r1_key.Tie as tie
 
-check-call-requires : tie.Need-check-call-requires
-check-call-requires c κs = search needs
-
-enum-known-why : tie.Need-enum-known-why
-enum-known-why c = search needs
-
-enum-told : tie.Need-enum-told
-enum-told c = search needs
-
 id-requires : tie.Need-id-requires
 unfolding r1Check
 id-requires c κs =
@@ -45,12 +36,6 @@ address-requires c κs =
     let k = t .before .before in
     let a = k .before .before .before .before .before .before .args in
     r1-lengths (now (a .r0-key)) (now (a .ad-id)) (now (a .an-id)) (now (a .spa)) (length (now (a .out))) (passed (k .check-call .ensures) (t .enum-told .given .1)) .2
-
-r1-text-requires : tie.Need-r1-text-requires
-r1-text-requires c κs = search needs
-
-slice-aggregate-derive : tie.Need-slice-aggregate-derive
-slice-aggregate-derive c = search needs
 
 derive-requires : tie.Need-derive-requires
 unfolding r1Check
@@ -79,9 +64,6 @@ returns : tie.Need-returns
 unfolding r1Check
 returns c = refused-so 32 _ _ (c .before .before .before .check-call .ensures) (c .before .why .given .1)
 
-same-length : tie.Need-same-length
-same-length c = search needs
-
 returns-2 : tie.Need-returns-2
 unfolding r1Check
 returns-2 c =
@@ -106,16 +88,5 @@ returns-2 c =
 pub r1-key-spec : {M : Type 1} → statement M
 r1-key-spec =
     tie.close
-    (tie.spec
-    check-call-requires
-    enum-known-why
-    enum-told
-    id-requires
-    id-requires-2
-    address-requires
-    r1-text-requires
-    slice-aggregate-derive
-    derive-requires
-    returns
-    same-length
-    returns-2)
+    (tie.spec (λ c κs. search needs) (λ c. search needs) (λ c. search needs) id-requires id-requires-2 address-requires
+    (λ c κs. search needs) (λ c. search needs) derive-requires returns (λ c. search needs) returns-2)

@@ -9,15 +9,6 @@ use borrow.Author.Needs.{needs}
 use Rattle.hmac.proofs.hash_after.Statement.{statement}
 use Rattle.hmac.proofs.hash_after.Tie as tie
 
-after-requires : tie.Need-after-requires
-after-requires c κs = search needs
-
-absorb-requires : tie.Need-absorb-requires
-absorb-requires c κs = search needs
-
-finish-requires : tie.Need-finish-requires
-finish-requires c κs = search needs
-
 returns : tie.Need-returns
 unfolding hashAfterBy
 returns c =
@@ -25,4 +16,4 @@ returns c =
     c .finish .ensures ∙ ap finished (c .before .absorb .ensures ∙ ap (λ (s : Progress). absorbed s message) (c .before .before .after .ensures))
 
 pub hash-after-spec : {M : Type 1} → statement M
-hash-after-spec = tie.close (tie.spec after-requires absorb-requires finish-requires returns)
+hash-after-spec = tie.close (tie.spec (λ c κs. search needs) (λ c κs. search needs) (λ c κs. search needs) returns)

@@ -6,14 +6,8 @@ use borrow.Author.Needs.{needs}
 use Rattle.hmac.proofs.key_value.Statement.{statement}
 use Rattle.hmac.proofs.key_value.Tie as tie
 
-masked-requires : tie.Need-masked-requires
-masked-requires c κs = search needs
-
-of-block-requires : tie.Need-of-block-requires
-of-block-requires c κs = search needs
-
 returns : tie.Need-returns
 returns c = c .of-block .ensures ∙ ap (compress H0) (c .before .masked .ensures)
 
 pub key-value-spec : {M : Type 1} → statement M
-key-value-spec = tie.close (tie.spec masked-requires of-block-requires returns)
+key-value-spec = tie.close (tie.spec (λ c κs. search needs) (λ c κs. search needs) returns)

@@ -12,21 +12,6 @@ use borrow.Author.Needs.{needs}
 use Rattle.hmac.proofs.mac.Statement.{statement}
 use Rattle.hmac.proofs.mac.Tie as tie
 
-key-block-requires : tie.Need-key-block-requires
-key-block-requires c κs = search needs
-
-key-value-requires : tie.Need-key-value-requires
-key-value-requires c κs = search needs
-
-hash-after-requires : tie.Need-hash-after-requires
-hash-after-requires c κs = search needs
-
-key-value-requires-2 : tie.Need-key-value-requires-2
-key-value-requires-2 c κs = search needs
-
-outer-hash-requires : tie.Need-outer-hash-requires
-outer-hash-requires c κs = search needs
-
 -- what was hashed under each value of the key
 hashed-in : (c : tie.After-hash-after) → c .hash-after .result ≡ hashAfter (c .before .key-value .result) (now (c .before .before .before .before .before .args .message))
 hashed-in c = c .hash-after .ensures
@@ -50,10 +35,5 @@ returns c =
 pub mac-spec : {M : Type 1} → statement M
 mac-spec =
     tie.close
-    (tie.spec
-    key-block-requires
-    key-value-requires
-    hash-after-requires
-    key-value-requires-2
-    outer-hash-requires
-    returns)
+    (tie.spec (λ c κs. search needs) (λ c κs. search needs) (λ c κs. search needs) (λ c κs. search needs)
+    (λ c κs. search needs) returns)

@@ -8,24 +8,6 @@ use borrow.Author.Needs.{needs}
 use Rattle.hmac.proofs.mac_of_parts.Statement.{statement}
 use Rattle.hmac.proofs.mac_of_parts.Tie as tie
 
-key-block-requires : tie.Need-key-block-requires
-key-block-requires c κs = search needs
-
-key-value-requires : tie.Need-key-value-requires
-key-value-requires c κs = search needs
-
-after-requires : tie.Need-after-requires
-after-requires c κs = search needs
-
-finish-with-five-requires : tie.Need-finish-with-five-requires
-finish-with-five-requires c κs = search needs
-
-key-value-requires-2 : tie.Need-key-value-requires-2
-key-value-requires-2 c κs = search needs
-
-outer-hash-requires : tie.Need-outer-hash-requires
-outer-hash-requires c κs = search needs
-
 returns : tie.Need-returns
 returns c =
     let hashed = c .before .before in
@@ -40,11 +22,5 @@ returns c =
 pub mac-of-parts-spec : {M : Type 1} → statement M
 mac-of-parts-spec =
     tie.close
-    (tie.spec
-    key-block-requires
-    key-value-requires
-    after-requires
-    finish-with-five-requires
-    key-value-requires-2
-    outer-hash-requires
-    returns)
+    (tie.spec (λ c κs. search needs) (λ c κs. search needs) (λ c κs. search needs) (λ c κs. search needs)
+    (λ c κs. search needs) (λ c κs. search needs) returns)

@@ -5,12 +5,9 @@ use borrow.Author.Needs.{needs}
 use Rattle.hmac.proofs.outer_hash.Statement.{statement}
 use Rattle.hmac.proofs.outer_hash.Tie as tie
 
-digest-after-requires : tie.Need-digest-after-requires
-digest-after-requires c κs = search needs
-
 returns : tie.Need-returns
 unfolding hashAfterBy
 returns c = c .digest-after .ensures
 
 pub outer-hash-spec : {M : Type 1} → statement M
-outer-hash-spec = tie.close (tie.spec digest-after-requires returns)
+outer-hash-spec = tie.close (tie.spec (λ c κs. search needs) returns)

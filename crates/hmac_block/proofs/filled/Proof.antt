@@ -7,14 +7,8 @@ use borrow.Author.Needs.{needs}
 use Rattle.hmac_block.proofs.filled.Statement.{statement}
 use Rattle.hmac_block.proofs.filled.Tie as tie
 
-least-requires : tie.Need-least-requires
-least-requires c κs = search needs
-
 slice-aggregate-copy : tie.Need-slice-aggregate-copy
 slice-aggregate-copy c = sym (part-length _ _ (c .before .least .ensures))
-
-slice-aggregate-copy-2 : tie.Need-slice-aggregate-copy-2
-slice-aggregate-copy-2 c = search needs
 
 copy-requires : tie.Need-copy-requires
 copy-requires c κs = part-fits _ _ (c .before .before .least .ensures)
@@ -25,6 +19,4 @@ returns c =
     part-filled (now (k .before .before .args .s)) _ (k .least .ensures) (c .before .copy .ensures .1)
 
 pub filled-spec : {M : Type 1} → statement M
-filled-spec =
-    tie.close
-    (tie.spec least-requires slice-aggregate-copy slice-aggregate-copy-2 copy-requires returns)
+filled-spec = tie.close (tie.spec (λ c κs. search needs) slice-aggregate-copy (λ c. search needs) copy-requires returns)

@@ -6,12 +6,6 @@ use borrow.Author.Needs.{needs}
 use Rattle.hmac_sha1.proofs.mac.Statement.{statement}
 use Rattle.hmac_sha1.proofs.mac.Tie as tie
 
-new-requires : tie.Need-new-requires
-new-requires c κs = search needs
-
-mac-of-requires : tie.Need-mac-of-requires
-mac-of-requires c κs = search needs
-
 returns : tie.Need-returns
 returns c =
     let k = c .before in
@@ -19,4 +13,4 @@ returns c =
     mac-by-values (now (a .key)) (now (a .message)) (k .new .ensures .0) (k .new .ensures .1) (c .mac-of .ensures)
 
 pub mac-spec : {M : Type 1} → statement M
-mac-spec = tie.close (tie.spec new-requires mac-of-requires returns)
+mac-spec = tie.close (tie.spec (λ c κs. search needs) (λ c κs. search needs) returns)

@@ -10,9 +10,6 @@ use borrow.Author.Needs.{needs}
 use Rattle.key_frame.proofs.check_frame.Statement.{statement}
 use Rattle.key_frame.proofs.check_frame.Tie as tie
 
-length-holds-requires : tie.Need-length-holds-requires
-length-holds-requires c κs = search needs
-
 held : (c : tie.Then1) → lengthHolds (now (c .before .before .before .args .attribute)) ≡ true
 held c = sym (c .before .length-holds .ensures) ∙ c .if1 .taken
 
@@ -26,5 +23,4 @@ returns-2 : tie.Need-returns-2
 returns-2 c = frame-refused _ (sym (c .before .length-holds .ensures) ∙ c .if1 .left)
 
 pub check-frame-spec : {M : Type 1} → statement M
-check-frame-spec =
-    tie.close (tie.spec length-holds-requires check-header-requires returns returns-2)
+check-frame-spec = tie.close (tie.spec (λ c κs. search needs) check-header-requires returns returns-2)

@@ -13,15 +13,6 @@ use Rattle.key_frame.proofs.length_holds.Tie as tie
 returns : tie.Need-returns
 returns c = no-length _ (c .if1 .taken)
 
-shared-slice-read-count : tie.Need-shared-slice-read-count
-shared-slice-read-count c = search needs
-
-count-requires : tie.Need-count-requires
-count-requires c κs = search needs
-
-is-wrappable-requires : tie.Need-is-wrappable-requires
-is-wrappable-requires c κs = search needs
-
 returns-2 : tie.Need-returns-2
 returns-2 c =
     let a = now (c .before .before .before .before .before .args .attribute) in
@@ -31,4 +22,4 @@ returns-2 c =
 
 pub length-holds-spec : {M : Type 1} → statement M
 length-holds-spec =
-    tie.close (tie.spec returns shared-slice-read-count count-requires is-wrappable-requires returns-2)
+    tie.close (tie.spec returns (λ c. search needs) (λ c κs. search needs) (λ c κs. search needs) returns-2)

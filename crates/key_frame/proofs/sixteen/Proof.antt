@@ -6,14 +6,8 @@ use borrow.Author.Needs.{needs}
 use Rattle.key_frame.proofs.sixteen.Statement.{statement}
 use Rattle.key_frame.proofs.sixteen.Tie as tie
 
-least-requires : tie.Need-least-requires
-least-requires c κs = search needs
-
 slice-aggregate-copy : tie.Need-slice-aggregate-copy
 slice-aggregate-copy c = taken-count (now (c .before .before .before .args .s)) _ (c .before .least .ensures)
-
-slice-aggregate-copy-2 : tie.Need-slice-aggregate-copy-2
-slice-aggregate-copy-2 c = search needs
 
 copy-requires : tie.Need-copy-requires
 copy-requires c κs = taken-fits (now (c .before .before .before .before .args .s)) _ (c .before .before .least .ensures)
@@ -25,5 +19,4 @@ returns c =
 
 pub sixteen-spec : {M : Type 1} → statement M
 sixteen-spec =
-    tie.close
-    (tie.spec least-requires slice-aggregate-copy slice-aggregate-copy-2 copy-requires returns)
+    tie.close (tie.spec (λ c κs. search needs) slice-aggregate-copy (λ c. search needs) copy-requires returns)

@@ -4,18 +4,6 @@ use mathlib.Core.Path.{refl}
 use Rattle.key_name.proofs.check_inputs.Statement.{statement}
 use Rattle.key_name.proofs.check_inputs.Tie as tie
 
-in-range-requires : tie.Need-in-range-requires
-in-range-requires c κs = tt
-
-unless-requires : tie.Need-unless-requires
-unless-requires c κs = tt
-
-check-label-requires : tie.Need-check-label-requires
-check-label-requires c κs = tt
-
-then-check-requires : tie.Need-then-check-requires
-then-check-requires c κs = tt
-
 returns : tie.Need-returns
 returns c =
     let p1 = c .before in
@@ -24,6 +12,4 @@ returns c =
     rw (c .then-check .ensures, p2 .unless .ensures, p1 .check-label .ensures, p3 .in-range .ensures) refl
 
 pub check-inputs-spec : {M : Type 1} → statement M
-check-inputs-spec =
-    tie.close
-    (tie.spec in-range-requires unless-requires check-label-requires then-check-requires returns)
+check-inputs-spec = tie.close (tie.spec (λ c κs. tt) (λ c κs. tt) (λ c κs. tt) (λ c κs. tt) returns)

@@ -4,41 +4,23 @@ use mathlib.Core.Path.{refl, sym, ap, _∙_}
 use borrow.Author.Needs.{needs}
 use denote.Ref.{now}
 use Rattle.refusal.specs.Answers.{checkedAs}
+use Rattle.key_name.specs.Ndf64.{nameAnswer, nameBuffer}
 use Rattle.key_name.proofs.Names.{name-size, refused-first, name-put}
 use Rattle.key_name.proofs.key_name.Statement.{statement}
 use Rattle.key_name.proofs.key_name.Tie as tie
 
-check-inputs-requires : tie.Need-check-inputs-requires
-check-inputs-requires c κs = tt
-
-enum-known-why : tie.Need-enum-known-why
-enum-known-why c = search needs
-
-enum-told : tie.Need-enum-told
-enum-told c = search needs
-
-digest-of-two-requires : tie.Need-digest-of-two-requires
-digest-of-two-requires c κs = tt
-
-array-share-prefix-hash : tie.Need-array-share-prefix-hash
-array-share-prefix-hash c = search needs
-
 slice-aggregate-put : tie.Need-slice-aggregate-put
 slice-aggregate-put c = sym (name-size _ (c .before .digest-of-two .ensures))
 
-put-requires : tie.Need-put-requires
-put-requires c κs = tt
-
 returns : tie.Need-returns
+unfolding nameAnswer nameBuffer
 returns c =
     let k = c .before .before .before in
     let s = k .before .before .before .before .args in
     rw (refused-first (now (s .session)) (now (s .label)) (now (s .out)) (sym (k .check-inputs .ensures) ∙ ap checkedAs (c .before .why .given .1))) (refl, refl)
 
-same-length : tie.Need-same-length
-same-length c = search needs
-
 returns-2 : tie.Need-returns-2
+unfolding nameAnswer nameBuffer
 returns-2 c =
     let p = c .before .before in
     let h = p .before .before .before in
@@ -50,14 +32,5 @@ returns-2 c =
 pub key-name-spec : {M : Type 1} → statement M
 key-name-spec =
     tie.close
-    (tie.spec
-    check-inputs-requires
-    enum-known-why
-    enum-told
-    digest-of-two-requires
-    array-share-prefix-hash
-    slice-aggregate-put
-    put-requires
-    returns
-    same-length
-    returns-2)
+    (tie.spec (λ c κs. tt) (λ c. search needs) (λ c. search needs) (λ c κs. tt) (λ c. search needs) slice-aggregate-put
+    (λ c κs. tt) returns (λ c. search needs) returns-2)

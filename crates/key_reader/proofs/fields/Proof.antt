@@ -10,39 +10,6 @@ use borrow.Author.Needs.{needs}
 use Rattle.key_reader.proofs.fields.Statement.{statement}
 use Rattle.key_reader.proofs.fields.Tie as tie
 
-sub-sixteen : tie.Need-sub-sixteen
-sub-sixteen c = search needs
-
-part-sixteen-start : tie.Need-part-sixteen-start
-part-sixteen-start c = search needs
-
-part-sixteen-end : tie.Need-part-sixteen-end
-part-sixteen-end c = search needs
-
-sixteen-requires : tie.Need-sixteen-requires
-sixteen-requires c κs = search needs
-
-sub-sixteen-2 : tie.Need-sub-sixteen-2
-sub-sixteen-2 c = search needs
-
-part-sixteen-start-2 : tie.Need-part-sixteen-start-2
-part-sixteen-start-2 c = search needs
-
-part-sixteen-end-2 : tie.Need-part-sixteen-end-2
-part-sixteen-end-2 c = search needs
-
-sixteen-requires-2 : tie.Need-sixteen-requires-2
-sixteen-requires-2 c κs = search needs
-
-shared-slice-read-t12 : tie.Need-shared-slice-read-t12
-shared-slice-read-t12 c = search needs
-
-number-at-requires : tie.Need-number-at-requires
-number-at-requires c κs = search needs
-
-number-at-requires-2 : tie.Need-number-at-requires-2
-number-at-requires-2 c κs = search needs
-
 returns : tie.Need-returns
 unfolding fieldsIn
 returns c =
@@ -64,16 +31,6 @@ returns c =
 pub fields-spec : {M : Type 1} → statement M
 fields-spec =
     tie.close
-    (tie.spec
-    sub-sixteen
-    part-sixteen-start
-    part-sixteen-end
-    sixteen-requires
-    sub-sixteen-2
-    part-sixteen-start-2
-    part-sixteen-end-2
-    sixteen-requires-2
-    shared-slice-read-t12
-    number-at-requires
-    number-at-requires-2
-    returns)
+    (tie.spec (λ c. search needs) (λ c. search needs) (λ c. search needs) (λ c κs. search needs) (λ c. search needs)
+    (λ c. search needs) (λ c. search needs) (λ c κs. search needs) (λ c. search needs) (λ c κs. search needs)
+    (λ c κs. search needs) returns)

@@ -14,24 +14,6 @@ use borrow.Author.Needs.{needs}
 use Rattle.key_reader.proofs.read.Statement.{statement}
 use Rattle.key_reader.proofs.read.Tie as tie
 
-unless-requires : tie.Need-unless-requires
-unless-requires c κs = search needs
-
-check-frame-requires : tie.Need-check-frame-requires
-check-frame-requires c κs = search needs
-
-then-check-requires : tie.Need-then-check-requires
-then-check-requires c κs = search needs
-
-enum-known-check : tie.Need-enum-known-check
-enum-known-check c = search needs
-
-not-read-requires : tie.Need-not-read-requires
-not-read-requires c κs = search needs
-
-enum-told : tie.Need-enum-told
-enum-told c = search needs
-
 -- what the tests before the unwrapping came to
 tests : (c : tie.After-then-check) → let x = c .before .before .before .before .before .before .args in checkedAs (c .then-check .result) ≡ (check22 (now (x .kek)) andThen frameCheck (now (x .attribute)))
 tests c =
@@ -41,29 +23,11 @@ tests c =
 ready-at : (c : tie.After-enum-told) → let x = c .before .before .before .before .before .before .before .before .args in Ready (now (x .kek)) (now (x .attribute))
 ready-at c = ready _ _ (passed (tests (c .before .before)) (c .enum-told .given .1))
 
-sixteen-requires : tie.Need-sixteen-requires
-sixteen-requires c κs = search needs
-
 sub-unwrap : tie.Need-sub-unwrap
 sub-unwrap c = let r = ready-at (c .before) in omega (arith, r .long)
 
 part-unwrap-start : tie.Need-part-unwrap-start
 part-unwrap-start c = let r = ready-at (c .before) in omega (arith, r .long)
-
-part-unwrap-end : tie.Need-part-unwrap-end
-part-unwrap-end c = search needs
-
-unwrap-requires : tie.Need-unwrap-requires
-unwrap-requires c κs = search needs
-
-enum-known-answer : tie.Need-enum-known-answer
-enum-known-answer c = search needs
-
-not-read-requires-2 : tie.Need-not-read-requires-2
-not-read-requires-2 c κs = search needs
-
-enum-known-answer-2 : tie.Need-enum-known-answer-2
-enum-known-answer-2 c = search needs
 
 fields-requires : tie.Need-fields-requires
 fields-requires c κs = let r = ready-at (c .before .before .before .before .before .before .before .before .before) in omega (arith, r .long)
@@ -73,17 +37,11 @@ returns c =
     let t = c .before .before .before .before in
     refused-early _ _ _ _ (sym (tests t) ∙ ap checkedAs (c .before .before .check .given .1)) (c .not-read .ensures .0) (c .not-read .ensures .1)
 
-same-length : tie.Need-same-length
-same-length c = search needs
-
 returns-2 : tie.Need-returns-2
 returns-2 c =
     let u = c .before .before .before .before .before .before in
     let s = u .before .before .before in
     refused-late _ _ _ _ (ready-at (s .before)) (s .sixteen .ensures) (u .unwrap .ensures .0) (u .unwrap .ensures .1) (c .before .before .answer .given .1) (c .not-read2 .ensures .0) (c .not-read2 .ensures .1)
-
-same-length-2 : tie.Need-same-length-2
-same-length-2 c = search needs
 
 returns-3 : tie.Need-returns-3
 returns-3 c =
@@ -94,24 +52,7 @@ returns-3 c =
 pub read-spec : {M : Type 1} → statement M
 read-spec =
     tie.close
-    (tie.spec
-    unless-requires
-    check-frame-requires
-    then-check-requires
-    enum-known-check
-    not-read-requires
-    enum-told
-    sixteen-requires
-    sub-unwrap
-    part-unwrap-start
-    part-unwrap-end
-    unwrap-requires
-    enum-known-answer
-    not-read-requires-2
-    enum-known-answer-2
-    fields-requires
-    returns
-    same-length
-    returns-2
-    same-length-2
-    returns-3)
+    (tie.spec (λ c κs. search needs) (λ c κs. search needs) (λ c κs. search needs) (λ c. search needs)
+    (λ c κs. search needs) (λ c. search needs) (λ c κs. search needs) sub-unwrap part-unwrap-start (λ c. search needs)
+    (λ c κs. search needs) (λ c. search needs) (λ c κs. search needs) (λ c. search needs) fields-requires returns
+    (λ c. search needs) returns-2 (λ c. search needs) returns-3)

@@ -10,21 +10,6 @@ use borrow.Author.Needs.{needs}
 use Rattle.key_writer.proofs.check_named.Statement.{statement}
 use Rattle.key_writer.proofs.check_named.Tie as tie
 
-unless-requires : tie.Need-unless-requires
-unless-requires c κs = search needs
-
-unless-requires-2 : tie.Need-unless-requires-2
-unless-requires-2 c κs = search needs
-
-then-check-requires : tie.Need-then-check-requires
-then-check-requires c κs = search needs
-
-unless-requires-3 : tie.Need-unless-requires-3
-unless-requires-3 c κs = search needs
-
-then-check-requires-2 : tie.Need-then-check-requires-2
-then-check-requires-2 c κs = search needs
-
 returns : tie.Need-returns
 returns c =
     let kek = c .before in
@@ -39,10 +24,5 @@ returns c =
 pub check-named-spec : {M : Type 1} → statement M
 check-named-spec =
     tie.close
-    (tie.spec
-    unless-requires
-    unless-requires-2
-    then-check-requires
-    unless-requires-3
-    then-check-requires-2
-    returns)
+    (tie.spec (λ c κs. search needs) (λ c κs. search needs) (λ c κs. search needs) (λ c κs. search needs)
+    (λ c κs. search needs) returns)

@@ -7,50 +7,11 @@ use borrow.Author.Needs.{needs}
 use Rattle.key_writer.proofs.put_header.Statement.{statement}
 use Rattle.key_writer.proofs.put_header.Tie as tie
 
-slice-aggregate-put-at : tie.Need-slice-aggregate-put-at
-slice-aggregate-put-at c = search needs
-
-put-at-requires : tie.Need-put-at-requires
-put-at-requires c κs = search needs
-
-be32-requires : tie.Need-be32-requires
-be32-requires c κs = search needs
-
-slice-aggregate-put-at-2 : tie.Need-slice-aggregate-put-at-2
-slice-aggregate-put-at-2 c = search needs
-
-put-at-requires-2 : tie.Need-put-at-requires-2
-put-at-requires-2 c κs = search needs
-
 slice-aggregate-put-at-3 : tie.Need-slice-aggregate-put-at-3
 slice-aggregate-put-at-3 c = search needs
 
-put-at-requires-3 : tie.Need-put-at-requires-3
-put-at-requires-3 c κs = search needs
-
 slice-aggregate-put-at-4 : tie.Need-slice-aggregate-put-at-4
 slice-aggregate-put-at-4 c = search needs
-
-put-at-requires-4 : tie.Need-put-at-requires-4
-put-at-requires-4 c κs = search needs
-
-be32-requires-2 : tie.Need-be32-requires-2
-be32-requires-2 c κs = search needs
-
-slice-aggregate-put-at-5 : tie.Need-slice-aggregate-put-at-5
-slice-aggregate-put-at-5 c = search needs
-
-put-at-requires-5 : tie.Need-put-at-requires-5
-put-at-requires-5 c κs = search needs
-
-slice-aggregate-put-at-6 : tie.Need-slice-aggregate-put-at-6
-slice-aggregate-put-at-6 c = search needs
-
-put-at-requires-6 : tie.Need-put-at-requires-6
-put-at-requires-6 c κs = search needs
-
-same-length : tie.Need-same-length
-same-length c = search needs
 
 returns : tie.Need-returns
 returns c =
@@ -76,20 +37,7 @@ returns c =
 pub put-header-spec : {M : Type 1} → statement M
 put-header-spec =
     tie.close
-    (tie.spec
-    slice-aggregate-put-at
-    put-at-requires
-    be32-requires
-    slice-aggregate-put-at-2
-    put-at-requires-2
-    slice-aggregate-put-at-3
-    put-at-requires-3
-    slice-aggregate-put-at-4
-    put-at-requires-4
-    be32-requires-2
-    slice-aggregate-put-at-5
-    put-at-requires-5
-    slice-aggregate-put-at-6
-    put-at-requires-6
-    same-length
-    returns)
+    (tie.spec (λ c. search needs) (λ c κs. search needs) (λ c κs. search needs) (λ c. search needs)
+    (λ c κs. search needs) slice-aggregate-put-at-3 (λ c κs. search needs) slice-aggregate-put-at-4
+    (λ c κs. search needs) (λ c κs. search needs) (λ c. search needs) (λ c κs. search needs) (λ c. search needs)
+    (λ c κs. search needs) (λ c. search needs) returns)

@@ -13,42 +13,9 @@ use borrow.Author.Needs.{needs}
 use Rattle.key_writer.proofs.write.Statement.{statement}
 use Rattle.key_writer.proofs.write.Tie as tie
 
-check-named-requires : tie.Need-check-named-requires
-check-named-requires c κs = search needs
-
-enum-known-check : tie.Need-enum-known-check
-enum-known-check c = search needs
-
-enum-told : tie.Need-enum-told
-enum-told c = search needs
-
-least-requires : tie.Need-least-requires
-least-requires c κs = search needs
-
 -- the tests before the wrapping pass
 ok : (c : tie.After-enum-told) → let x = c .before .before .before .before .before .before .before .before .args in named (fieldsOf (x .attribute-type) (x .app-id) (now (x .kek-id)) (now (x .key-id)) (x .lifetime)) (now (x .kek)) ≡ pass
 ok c = passed (c .before .before .check-named .ensures) (c .enum-told .given .1)
-
-sixteen-requires : tie.Need-sixteen-requires
-sixteen-requires c κs = search needs
-
-sub-wrap : tie.Need-sub-wrap
-sub-wrap c = search needs
-
-part-wrap-start : tie.Need-part-wrap-start
-part-wrap-start c = search needs
-
-part-wrap-end : tie.Need-part-wrap-end
-part-wrap-end c = search needs
-
-wrap-requires : tie.Need-wrap-requires
-wrap-requires c κs = search needs
-
-enum-known-wrapped : tie.Need-enum-known-wrapped
-enum-known-wrapped c = search needs
-
-enum-known-wrapped-2 : tie.Need-enum-known-wrapped-2
-enum-known-wrapped-2 c = search needs
 
 add-all : tie.Need-add-all
 add-all c =
@@ -66,12 +33,6 @@ cast-put-header c =
     let x = t .before .before .before .before .before .before .before .before .args in
     omega (arith, length-small (fieldsOf (x .attribute-type) (x .app-id) (now (x .kek-id)) (now (x .key-id)) (x .lifetime)) (now (x .kek)) (now (x .key)) (now (x .out)) (ok t) _ (l .least .ensures) _ (sym (ap answerOf (c .before .wrapped2 .given .1)) ∙ w .wrap .ensures .0))
 
-sixteen-requires-2 : tie.Need-sixteen-requires-2
-sixteen-requires-2 c κs = search needs
-
-sixteen-requires-3 : tie.Need-sixteen-requires-3
-sixteen-requires-3 c κs = search needs
-
 put-header-requires : tie.Need-put-header-requires
 put-header-requires c κs =
     let told = c .before .before .before in
@@ -84,9 +45,6 @@ put-header-requires c κs =
 returns : tie.Need-returns
 returns c = refused-named (fieldsOf _ _ _ _ _) _ _ _ _ (sym (c .before .before .before .check-named .ensures) ∙ ap checkedAs (c .before .check .given .1))
 
-same-length : tie.Need-same-length
-same-length c = search needs
-
 returns-2 : tie.Need-returns-2
 returns-2 c =
     let w = c .before .before .before .before .before in
@@ -94,9 +52,6 @@ returns-2 c =
     let t = l .before in
     let x = t .before .before .before .before .before .before .before .before .args in
     refused-wrap (fieldsOf (x .attribute-type) (x .app-id) (now (x .kek-id)) (now (x .key-id)) (x .lifetime)) (now (x .kek)) (now (x .key)) (now (x .out)) (ok t) _ (l .least .ensures) _ _ (sym (ap answerOf (c .before .wrapped .given .1)) ∙ w .wrap .ensures .0) (w .wrap .ensures .1)
-
-same-length-2 : tie.Need-same-length-2
-same-length-2 c = search needs
 
 returns-3 : tie.Need-returns-3
 returns-3 c =
@@ -111,25 +66,7 @@ returns-3 c =
 pub write-spec : {M : Type 1} → statement M
 write-spec =
     tie.close
-    (tie.spec
-    check-named-requires
-    enum-known-check
-    enum-told
-    least-requires
-    sixteen-requires
-    sub-wrap
-    part-wrap-start
-    part-wrap-end
-    wrap-requires
-    enum-known-wrapped
-    enum-known-wrapped-2
-    add-all
-    cast-put-header
-    sixteen-requires-2
-    sixteen-requires-3
-    put-header-requires
-    returns
-    same-length
-    returns-2
-    same-length-2
-    returns-3)
+    (tie.spec (λ c κs. search needs) (λ c. search needs) (λ c. search needs) (λ c κs. search needs)
+    (λ c κs. search needs) (λ c. search needs) (λ c. search needs) (λ c. search needs) (λ c κs. search needs)
+    (λ c. search needs) (λ c. search needs) add-all cast-put-header (λ c κs. search needs) (λ c κs. search needs)
+    put-header-requires returns (λ c. search needs) returns-2 (λ c. search needs) returns-3)

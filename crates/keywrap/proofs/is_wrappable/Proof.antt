@@ -9,12 +9,9 @@ use borrow.Author.Needs.{needs}
 use Rattle.keywrap.proofs.is_wrappable.Statement.{statement}
 use Rattle.keywrap.proofs.is_wrappable.Tie as tie
 
-in-range-requires : tie.Need-in-range-requires
-in-range-requires c κs = search needs
-
 returns : tie.Need-returns
 unfolding wrappable
 returns c = ap (λ (b : Bool). b && eqb (c .before .args .n % 8) 0) (c .in-range .ensures)
 
 pub is-wrappable-spec : {M : Type 1} → statement M
-is-wrappable-spec = tie.close (tie.spec in-range-requires returns)
+is-wrappable-spec = tie.close (tie.spec (λ c κs. search needs) returns)

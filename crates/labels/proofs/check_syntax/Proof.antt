@@ -6,17 +6,8 @@ use Rattle.labels.proofs.Labels.{no-breach, on-breach}
 use Rattle.labels.proofs.check_syntax.Statement.{statement}
 use Rattle.labels.proofs.check_syntax.Tie as tie
 
-is-breach-requires : tie.Need-is-breach-requires
-is-breach-requires c κs = tt
-
 returns : tie.Need-returns
 returns c = no-breach _ (c .before .before .before .pre) (c .before .is-breach .ensures) (not-true _ (c .if1 .taken))
-
-is-exempt-requires : tie.Need-is-exempt-requires
-is-exempt-requires c κs = tt
-
-unless-requires : tie.Need-unless-requires
-unless-requires c κs = tt
 
 returns-2 : tie.Need-returns-2
 returns-2 c =
@@ -24,5 +15,4 @@ returns-2 c =
     on-breach _ (b .before .before .pre) (b .is-breach .ensures) (not-false _ (c .before .before .if1 .left)) (c .before .is-exempt .ensures) (c .unless .ensures)
 
 pub check-syntax-spec : {M : Type 1} → statement M
-check-syntax-spec =
-    tie.close (tie.spec is-breach-requires returns is-exempt-requires unless-requires returns-2)
+check-syntax-spec = tie.close (tie.spec (λ c κs. tt) returns (λ c κs. tt) (λ c κs. tt) returns-2)

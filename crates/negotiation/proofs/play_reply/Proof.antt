@@ -18,35 +18,11 @@ fits c =
     let kept = q .answer .kept .1 .1 .0 in
     omega arith
 
-slice-aggregate-answer : tie.Need-slice-aggregate-answer
-slice-aggregate-answer c = search needs
-
-answer-requires : tie.Need-answer-requires
-answer-requires c κs = search needs
-
-enum-known-why : tie.Need-enum-known-why
-enum-known-why c = search needs
-
-slice-aggregate-say : tie.Need-slice-aggregate-say
-slice-aggregate-say c = search needs
-
-say-requires : tie.Need-say-requires
-say-requires c κs = search needs
-
-say-refused-requires : tie.Need-say-refused-requires
-say-refused-requires c κs = search needs
-
-enum-known-count : tie.Need-enum-known-count
-enum-known-count c = search needs
-
 array-share-prefix-renewed : tie.Need-array-share-prefix-renewed
 array-share-prefix-renewed c = fits (c .before)
 
 slice-aggregate-play-sent : tie.Need-slice-aggregate-play-sent
 slice-aggregate-play-sent c = sym (length-take-le _ _ (fits (c .before .before)))
-
-play-sent-requires : tie.Need-play-sent-requires
-play-sent-requires c κs = search needs
 
 returns : tie.Need-returns
 returns c = search needs
@@ -57,16 +33,6 @@ returns-2 c = search needs
 pub play-reply-spec : {M : Type 1} → statement M
 play-reply-spec =
     tie.close
-    (tie.spec
-    slice-aggregate-answer
-    answer-requires
-    enum-known-why
-    slice-aggregate-say
-    say-requires
-    say-refused-requires
-    enum-known-count
-    array-share-prefix-renewed
-    slice-aggregate-play-sent
-    play-sent-requires
-    returns
-    returns-2)
+    (tie.spec (λ c. search needs) (λ c κs. search needs) (λ c. search needs) (λ c. search needs) (λ c κs. search needs)
+    (λ c κs. search needs) (λ c. search needs) array-share-prefix-renewed slice-aggregate-play-sent
+    (λ c κs. search needs) returns returns-2)

@@ -15,21 +15,6 @@ abbrev μ-loop : tie.MeasureT-loop
 loop-holds : tie.Need-loop-holds Inv-loop μ-loop
 loop-holds c = search needs
 
-mul-say-value : tie.Need-mul-say-value Inv-loop μ-loop
-mul-say-value c = search needs
-
-shared-slice-read-say-value : tie.Need-shared-slice-read-say-value Inv-loop μ-loop
-shared-slice-read-say-value c = search needs
-
-say-value-requires : tie.Need-say-value-requires Inv-loop μ-loop
-say-value-requires c κs = search needs
-
-add-i : tie.Need-add-i Inv-loop μ-loop
-add-i c = search needs
-
-loop-less : tie.Need-loop-less Inv-loop μ-loop
-loop-less c = search needs
-
 loop-again : tie.Need-loop-again Inv-loop μ-loop
 loop-again c = search needs
 
@@ -39,14 +24,5 @@ returns c = search needs
 pub say-list-spec : {M : Type 1} → statement M
 say-list-spec =
     tie.close
-    (tie.spec
-    Inv-loop
-    μ-loop
-    loop-holds
-    mul-say-value
-    shared-slice-read-say-value
-    say-value-requires
-    add-i
-    loop-less
-    loop-again
-    returns)
+    (tie.spec Inv-loop μ-loop loop-holds (λ c. search needs) (λ c. search needs) (λ c κs. search needs)
+    (λ c. search needs) (λ c. search needs) loop-again returns)

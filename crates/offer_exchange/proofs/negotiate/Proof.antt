@@ -10,7 +10,7 @@ use lib.Seq.{length-take-le}
 use Rattle.refusal.specs.Answers.{answerOf}
 use Rattle.offer_rules.specs.Answers.{ask, firstRound}
 use Rattle.offer_rules.proofs.Rounds.{wrote-fits}
-use Rattle.offer_peer.specs.Answers.{firstRoundOf}
+use Rattle.offers.specs.Answers.{firstRoundOf}
 use Rattle.offer_rules.specs.Negotiation.{negotiated, negotiatedBuffer}
 use Rattle.offer_exchange.proofs.Steps.{unasked, server-refused, server-wrote}
 use Rattle.offer_exchange.proofs.negotiate.Statement.{statement}
@@ -28,15 +28,6 @@ fits c =
     let kept = q .answer .kept .1 .1 .0 in
     omega arith
 
-choose-requires : tie.Need-choose-requires
-choose-requires c κs = search needs
-
-enum-known-first : tie.Need-enum-known-first
-enum-known-first c = search needs
-
-value-named-requires : tie.Need-value-named-requires
-value-named-requires c κs = search needs
-
 returns : tie.Need-returns
 unfolding negotiated negotiatedBuffer
 returns c =
@@ -45,35 +36,17 @@ returns c =
     let u = unasked (p .choose .result) (c .before .match .keys2) (now (a .offered)) (now (a .renewed)) in
     rw (← p .choose .ensures) (c .value-named .ensures ∙ u .0, u .1)
 
-answer-requires : tie.Need-answer-requires
-answer-requires c κs = search needs
-
-enum-known-why : tie.Need-enum-known-why
-enum-known-why c = search needs
-
-enum-known-count : tie.Need-enum-known-count
-enum-known-count c = search needs
-
 slice-reshare-prefix-recheck : tie.Need-slice-reshare-prefix-recheck
 slice-reshare-prefix-recheck c = fits (c .before)
 
 slice-aggregate-recheck : tie.Need-slice-aggregate-recheck
 slice-aggregate-recheck c = sym (length-take-le _ _ (fits (c .before .before)))
 
-recheck-requires : tie.Need-recheck-requires
-recheck-requires c κs = search needs
-
-same-length : tie.Need-same-length
-same-length c = search needs
-
 returns-2 : tie.Need-returns-2
 returns-2 c =
     let q = c .before .before .before .before .before in
     let a = q .before .before .before .before .before .before .before .before .before .args in
     server-refused (now (a .offered)) (now (a .supported)) (now (a .renewed)) _ _ _ (asks q) (q .answer .ensures .1) (sym (q .answer .ensures .0) ∙ ap answerOf (c .before .why .given .1))
-
-same-length-2 : tie.Need-same-length-2
-same-length-2 c = search needs
 
 returns-3 : tie.Need-returns-3
 returns-3 c =
@@ -85,18 +58,6 @@ returns-3 c =
 pub negotiate-spec : {M : Type 1} → statement M
 negotiate-spec =
     tie.close
-    (tie.spec
-    choose-requires
-    enum-known-first
-    value-named-requires
-    returns
-    answer-requires
-    enum-known-why
-    enum-known-count
-    slice-reshare-prefix-recheck
-    slice-aggregate-recheck
-    recheck-requires
-    same-length
-    returns-2
-    same-length-2
-    returns-3)
+    (tie.spec (λ c κs. search needs) (λ c. search needs) (λ c κs. search needs) returns (λ c κs. search needs)
+    (λ c. search needs) (λ c. search needs) slice-reshare-prefix-recheck slice-aggregate-recheck (λ c κs. search needs)
+    (λ c. search needs) returns-2 (λ c. search needs) returns-3)

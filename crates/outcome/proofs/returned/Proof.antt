@@ -1,25 +1,17 @@
 -- `outcome::returned` meets its contract.
 -- Assumes nothing.
-use mathlib.Core.Path.{refl, _∙_}
+use mathlib.Core.Path.{_∙_}
 use borrow.Author.Needs.{needs}
 use Rattle.outcome.proofs.returned.Statement.{statement}
 use Rattle.outcome.proofs.returned.Tie as tie
 
-enum-known-answer : tie.Need-enum-known-answer
-enum-known-answer c = search needs
-
-enum-known-answer-2 : tie.Need-enum-known-answer-2
-enum-known-answer-2 c = search needs
-
-refused-requires : tie.Need-refused-requires
-refused-requires c κs = search needs
-
 returns : tie.Need-returns
-returns c = rw (c .before .answer .given .1) refl
+returns c = c .accepted .ensures ∙ rw (c .before .before .answer .given .1)
 
 returns-2 : tie.Need-returns-2
 returns-2 c = c .refused .ensures ∙ rw (c .before .before .answer2 .given .1)
 
 pub returned-spec : {M : Type 1} → statement M
 returned-spec =
-    tie.close (tie.spec enum-known-answer enum-known-answer-2 refused-requires returns returns-2)
+    tie.close
+    (tie.spec (λ c. search needs) (λ c κs. search needs) (λ c. search needs) (λ c κs. search needs) returns returns-2)

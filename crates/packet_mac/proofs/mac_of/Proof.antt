@@ -11,35 +11,8 @@ use borrow.Author.Needs.{needs}
 use Rattle.packet_mac.proofs.mac_of.Statement.{statement}
 use Rattle.packet_mac.proofs.mac_of.Tie as tie
 
-add-mac-of-parts : tie.Need-add-mac-of-parts
-add-mac-of-parts c = search needs
-
 slice-aggregate-mac-of-parts : tie.Need-slice-aggregate-mac-of-parts
 slice-aggregate-mac-of-parts c = simp length-take (omega arith)
-
-slice-aggregate-mac-of-parts-2 : tie.Need-slice-aggregate-mac-of-parts-2
-slice-aggregate-mac-of-parts-2 c = search needs
-
-add-mac-of-parts-2 : tie.Need-add-mac-of-parts-2
-add-mac-of-parts-2 c = search needs
-
-sub-mac-of-parts : tie.Need-sub-mac-of-parts
-sub-mac-of-parts c = search needs
-
-part-mac-of-parts-start : tie.Need-part-mac-of-parts-start
-part-mac-of-parts-start c = search needs
-
-part-mac-of-parts-end : tie.Need-part-mac-of-parts-end
-part-mac-of-parts-end c = search needs
-
-slice-aggregate-mac-of-parts-3 : tie.Need-slice-aggregate-mac-of-parts-3
-slice-aggregate-mac-of-parts-3 c = search needs
-
-slice-aggregate-mac-of-parts-4 : tie.Need-slice-aggregate-mac-of-parts-4
-slice-aggregate-mac-of-parts-4 c = search needs
-
-mac-of-parts-requires : tie.Need-mac-of-parts-requires
-mac-of-parts-requires c κs = search needs
 
 returns : tie.Need-returns
 returns c =
@@ -49,15 +22,6 @@ returns c =
 pub mac-of-spec : {M : Type 1} → statement M
 mac-of-spec =
     tie.close
-    (tie.spec
-    add-mac-of-parts
-    slice-aggregate-mac-of-parts
-    slice-aggregate-mac-of-parts-2
-    add-mac-of-parts-2
-    sub-mac-of-parts
-    part-mac-of-parts-start
-    part-mac-of-parts-end
-    slice-aggregate-mac-of-parts-3
-    slice-aggregate-mac-of-parts-4
-    mac-of-parts-requires
-    returns)
+    (tie.spec (λ c. search needs) slice-aggregate-mac-of-parts (λ c. search needs) (λ c. search needs)
+    (λ c. search needs) (λ c. search needs) (λ c. search needs) (λ c. search needs) (λ c. search needs)
+    (λ c κs. search needs) returns)

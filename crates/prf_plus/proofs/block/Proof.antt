@@ -6,18 +6,6 @@ use borrow.Author.Needs.{needs}
 use Rattle.prf_plus.proofs.block.Statement.{statement}
 use Rattle.prf_plus.proofs.block.Tie as tie
 
-after-requires : tie.Need-after-requires
-after-requires c κs = search needs
-
-slice-aggregate-finish-with : tie.Need-slice-aggregate-finish-with
-slice-aggregate-finish-with c = search needs
-
-finish-with-requires : tie.Need-finish-with-requires
-finish-with-requires c κs = search needs
-
-close-requires : tie.Need-close-requires
-close-requires c κs = search needs
-
 returns : tie.Need-returns
 returns c =
     let a = c .before .before .before .before .before .before .before .before .before .before .args in
@@ -26,9 +14,4 @@ returns c =
 pub block-spec : {M : Type 1} → statement M
 block-spec =
     tie.close
-    (tie.spec
-    after-requires
-    slice-aggregate-finish-with
-    finish-with-requires
-    close-requires
-    returns)
+    (tie.spec (λ c κs. search needs) (λ c. search needs) (λ c κs. search needs) (λ c κs. search needs) returns)

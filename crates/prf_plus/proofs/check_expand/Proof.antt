@@ -8,18 +8,6 @@ use borrow.Author.Needs.{needs}
 use Rattle.prf_plus.proofs.check_expand.Statement.{statement}
 use Rattle.prf_plus.proofs.check_expand.Tie as tie
 
-in-range-requires : tie.Need-in-range-requires
-in-range-requires c κs = search needs
-
-unless-requires : tie.Need-unless-requires
-unless-requires c κs = search needs
-
-check-room-requires : tie.Need-check-room-requires
-check-room-requires c κs = search needs
-
-then-check-requires : tie.Need-then-check-requires
-then-check-requires c κs = search needs
-
 -- the tests in their order
 ordered : (c : tie.After-then-check) → (checkedAs (c .before .before .unless .result) andThen checkedAs (c .before .check-room .result)) ≡ checkedAs (c .then-check .result)
 ordered c = sym (c .then-check .ensures)
@@ -31,4 +19,4 @@ returns c = rw (← ordered c, c .before .before .unless .ensures, c .before .ch
 pub check-expand-spec : {M : Type 1} → statement M
 check-expand-spec =
     tie.close
-    (tie.spec in-range-requires unless-requires check-room-requires then-check-requires returns)
+    (tie.spec (λ c κs. search needs) (λ c κs. search needs) (λ c κs. search needs) (λ c κs. search needs) returns)

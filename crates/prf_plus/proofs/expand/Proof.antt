@@ -13,18 +13,6 @@ use borrow.Author.Needs.{needs}
 use Rattle.prf_plus.proofs.expand.Statement.{statement}
 use Rattle.prf_plus.proofs.expand.Tie as tie
 
-check-expand-requires : tie.Need-check-expand-requires
-check-expand-requires c κs = search needs
-
-then-check-requires : tie.Need-then-check-requires
-then-check-requires c κs = search needs
-
-enum-known-why : tie.Need-enum-known-why
-enum-known-why c = search needs
-
-enum-told : tie.Need-enum-told
-enum-told c = search needs
-
 -- where the call's tests pass, those of the expansion do
 fits : (first : Check) (n room : ℕ) → (first andThen expandCheck n room) ≡ pass → (n ≤ 8160) × (n ≤ room)
 fits first n room e = let b = expand-passed n room (last-passed first _ e) in (b .most, b .fits)
@@ -44,9 +32,6 @@ returns c =
     let k = c .before .before .before in
     rw (all-tests _ (sym (ordered k)) (k .before .check-expand .ensures) (ap checkedAs (c .before .why .given .1))) (refl, refl)
 
-same-length : tie.Need-same-length
-same-length c = search needs
-
 returns-2 : tie.Need-returns-2
 returns-2 c =
     let k = c .before .before .before .before .before .before in
@@ -55,12 +40,5 @@ returns-2 c =
 pub expand-spec : {M : Type 1} → statement M
 expand-spec =
     tie.close
-    (tie.spec
-    check-expand-requires
-    then-check-requires
-    enum-known-why
-    enum-told
-    fill-requires
-    returns
-    same-length
-    returns-2)
+    (tie.spec (λ c κs. search needs) (λ c κs. search needs) (λ c. search needs) (λ c. search needs) fill-requires
+    returns (λ c. search needs) returns-2)

@@ -27,53 +27,14 @@ Inv-loop key a b c d n out₀ k i₀ from₀ at₀ out i from at =
 abbrev μ-loop : tie.MeasureT-loop
 μ-loop key a b c d n out₀ k i₀ from₀ at₀ out i from at = n - at
 
-new-requires : tie.Need-new-requires Inv-loop μ-loop
-new-requires c κs = search needs
-
 loop-holds : tie.Need-loop-holds Inv-loop μ-loop
 loop-holds c = (omega arith, omega arith, omega arith, refl, refl)
-
-add-next : tie.Need-add-next Inv-loop μ-loop
-add-next c = search needs
-
-cast-number : tie.Need-cast-number Inv-loop μ-loop
-cast-number c = search needs
-
-sub-block : tie.Need-sub-block Inv-loop μ-loop
-sub-block c = search needs
-
-part-block-start : tie.Need-part-block-start Inv-loop μ-loop
-part-block-start c = search needs
-
-part-block-end : tie.Need-part-block-end Inv-loop μ-loop
-part-block-end c = search needs
-
-block-requires : tie.Need-block-requires Inv-loop μ-loop
-block-requires c κs = search needs
-
-sub-least : tie.Need-sub-least Inv-loop μ-loop
-sub-least c = search needs
-
-least-requires : tie.Need-least-requires Inv-loop μ-loop
-least-requires c κs = search needs
-
-array-share-prefix-t : tie.Need-array-share-prefix-t Inv-loop μ-loop
-array-share-prefix-t c = search needs
 
 slice-aggregate-copy : tie.Need-slice-aggregate-copy Inv-loop μ-loop
 slice-aggregate-copy c =
     let t = c .before .before .block .result in
     let l : length t ≡ 32 = search needs in
     sym (length-take-le _ t (omega arith))
-
-sub-copy : tie.Need-sub-copy Inv-loop μ-loop
-sub-copy c = search needs
-
-part-copy-start : tie.Need-part-copy-start Inv-loop μ-loop
-part-copy-start c = search needs
-
-part-copy-end : tie.Need-part-copy-end Inv-loop μ-loop
-part-copy-end c = search needs
 
 copy-requires : tie.Need-copy-requires Inv-loop μ-loop
 copy-requires c κs =
@@ -122,9 +83,6 @@ loop-again c =
       next-out hmacSha256 hmacSha256-length key text (now (s .out)) (l .out) _ t (l .i) m (l .at) full (omega arith) (l .inv .4) b copied,
     )
 
-same-length : tie.Need-same-length Inv-loop μ-loop
-same-length c = search needs
-
 returns : tie.Need-returns Inv-loop μ-loop
 unfolding prfPlus blockCount
 returns c =
@@ -137,27 +95,7 @@ returns c =
 pub fill-spec : {M : Type 1} → statement M
 fill-spec =
     tie.close
-    (tie.spec
-    Inv-loop
-    μ-loop
-    new-requires
-    loop-holds
-    add-next
-    cast-number
-    sub-block
-    part-block-start
-    part-block-end
-    block-requires
-    sub-least
-    least-requires
-    array-share-prefix-t
-    slice-aggregate-copy
-    sub-copy
-    part-copy-start
-    part-copy-end
-    copy-requires
-    add-at
-    loop-less
-    loop-again
-    same-length
-    returns)
+    (tie.spec Inv-loop μ-loop (λ c κs. search needs) loop-holds (λ c. search needs) (λ c. search needs)
+    (λ c. search needs) (λ c. search needs) (λ c. search needs) (λ c κs. search needs) (λ c. search needs)
+    (λ c κs. search needs) (λ c. search needs) slice-aggregate-copy (λ c. search needs) (λ c. search needs)
+    (λ c. search needs) copy-requires add-at loop-less loop-again (λ c. search needs) returns)

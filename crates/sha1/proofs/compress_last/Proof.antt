@@ -9,14 +9,8 @@ use borrow.Author.Needs.{needs}
 use Rattle.sha1.proofs.compress_last.Statement.{statement}
 use Rattle.sha1.proofs.compress_last.Tie as tie
 
-put-length-requires : tie.Need-put-length-requires
-put-length-requires c κs = search needs
-
-compress-blocks-requires : tie.Need-compress-blocks-requires
-compress-blocks-requires c κs = search needs
-
 returns : tie.Need-returns
 returns c = c .compress-blocks .ensures ∙ one-block compress _ _ (length-kept (now (c .before .before .before .before .before .args .block)) (c .before .before .before .before .before .args .count) (c .before .before .before .before .before .pre) (c .before .before .before .put-length .ensures)) ∙ ap (compress (c .before .before .before .before .before .args .h)) (c .before .before .before .put-length .ensures)
 
 pub compress-last-spec : {M : Type 1} → statement M
-compress-last-spec = tie.close (tie.spec put-length-requires compress-blocks-requires returns)
+compress-last-spec = tie.close (tie.spec (λ c κs. search needs) (λ c κs. search needs) returns)

@@ -10,15 +10,6 @@ use borrow.Author.Needs.{needs}
 use Rattle.sha1.proofs.digest.Statement.{statement}
 use Rattle.sha1.proofs.digest.Tie as tie
 
-new-requires : tie.Need-new-requires
-new-requires c κs = search needs
-
-value-with-requires : tie.Need-value-with-requires
-value-with-requires c κs = search needs
-
-to-bytes-requires : tie.Need-to-bytes-requires
-to-bytes-requires c κs = search needs
-
 returns : tie.Need-returns
 returns c =
     let m = now (c .before .before .before .before .args .message) in
@@ -26,4 +17,4 @@ returns c =
     ∙ sym (finished-value (absorbed started m)) ∙ digest-law m
 
 pub digest-spec : {M : Type 1} → statement M
-digest-spec = tie.close (tie.spec new-requires value-with-requires to-bytes-requires returns)
+digest-spec = tie.close (tie.spec (λ c κs. search needs) (λ c κs. search needs) (λ c κs. search needs) returns)

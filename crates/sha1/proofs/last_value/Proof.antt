@@ -9,19 +9,10 @@ use borrow.Author.Needs.{needs}
 use Rattle.sha1.proofs.last_value.Statement.{statement}
 use Rattle.sha1.proofs.last_value.Tie as tie
 
-compress-last-requires : tie.Need-compress-last-requires
-compress-last-requires c κs = search needs
-
 returns : tie.Need-returns
 returns c = λ x lx eb.
     let a = c .before .before .before .args in
     marked-one compress (a .h) x (a .count) lx eb (c .before .before .if1 .taken) (c .compress-last .ensures)
-
-compress-blocks-requires : tie.Need-compress-blocks-requires
-compress-blocks-requires c κs = search needs
-
-compress-last-requires-2 : tie.Need-compress-last-requires-2
-compress-last-requires-2 c κs = search needs
 
 returns-2 : tie.Need-returns-2
 returns-2 c = λ x lx eb.
@@ -32,10 +23,4 @@ returns-2 c = λ x lx eb.
 
 pub last-value-spec : {M : Type 1} → statement M
 last-value-spec =
-    tie.close
-    (tie.spec
-    compress-last-requires
-    returns
-    compress-blocks-requires
-    compress-last-requires-2
-    returns-2)
+    tie.close (tie.spec (λ c κs. search needs) returns (λ c κs. search needs) (λ c κs. search needs) returns-2)

@@ -9,19 +9,9 @@ use borrow.Author.Needs.{needs}
 use Rattle.sha1.proofs.marked_digest.Statement.{statement}
 use Rattle.sha1.proofs.marked_digest.Tie as tie
 
-slice-aggregate-put-digest : tie.Need-slice-aggregate-put-digest
-slice-aggregate-put-digest c = search needs
-
-put-digest-requires : tie.Need-put-digest-requires
-put-digest-requires c κs = search needs
-
-array-write-block : tie.Need-array-write-block
-array-write-block c = search needs
-
 returns : tie.Need-returns
 unfolding digest
 returns c = ap (λ (b : List ℕ). set b 20 0x80) (c .before .put-digest .ensures)
 
 pub marked-digest-spec : {M : Type 1} → statement M
-marked-digest-spec =
-    tie.close (tie.spec slice-aggregate-put-digest put-digest-requires array-write-block returns)
+marked-digest-spec = tie.close (tie.spec (λ c. search needs) (λ c κs. search needs) (λ c. search needs) returns)

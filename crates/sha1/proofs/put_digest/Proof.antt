@@ -19,21 +19,6 @@ abbrev μ-loop : tie.MeasureT-loop
 loop-holds : tie.Need-loop-holds Inv-loop μ-loop
 loop-holds c = (omega arith, c .before .pre, refl, none-written _ _)
 
-mul-be32 : tie.Need-mul-be32 Inv-loop μ-loop
-mul-be32 c = search needs
-
-array-read-be32 : tie.Need-array-read-be32 Inv-loop μ-loop
-array-read-be32 c = search needs
-
-be32-requires : tie.Need-be32-requires Inv-loop μ-loop
-be32-requires c κs = search needs
-
-mul-put : tie.Need-mul-put Inv-loop μ-loop
-mul-put c = search needs
-
-slice-aggregate-put : tie.Need-slice-aggregate-put Inv-loop μ-loop
-slice-aggregate-put c = search needs
-
 put-requires : tie.Need-put-requires Inv-loop μ-loop
 put-requires c κs =
     let p = c .before .before .before .before in
@@ -41,12 +26,6 @@ put-requires c κs =
     let v = p .loop .inv in
     let few : 4 * p .loop .j + 4 ≤ length (p .loop .bytes) = omega (arith, v .1, v .2) in
     omega arith
-
-add-j : tie.Need-add-j Inv-loop μ-loop
-add-j c = search needs
-
-loop-less : tie.Need-loop-less Inv-loop μ-loop
-loop-less c = search needs
 
 loop-again : tie.Need-loop-again Inv-loop μ-loop
 loop-again c =
@@ -68,18 +47,6 @@ returns c =
 pub put-digest-spec : {M : Type 1} → statement M
 put-digest-spec =
     tie.close
-    (tie.spec
-    Inv-loop
-    μ-loop
-    loop-holds
-    mul-be32
-    array-read-be32
-    be32-requires
-    mul-put
-    slice-aggregate-put
-    put-requires
-    add-j
-    loop-less
-    loop-again
-    same-length
+    (tie.spec Inv-loop μ-loop loop-holds (λ c. search needs) (λ c. search needs) (λ c κs. search needs)
+    (λ c. search needs) (λ c. search needs) put-requires (λ c. search needs) (λ c. search needs) loop-again same-length
     returns)

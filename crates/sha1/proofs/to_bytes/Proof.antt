@@ -7,14 +7,8 @@ use borrow.Author.Needs.{needs}
 use Rattle.sha1.proofs.to_bytes.Statement.{statement}
 use Rattle.sha1.proofs.to_bytes.Tie as tie
 
-slice-aggregate-put-digest : tie.Need-slice-aggregate-put-digest
-slice-aggregate-put-digest c = search needs
-
-put-digest-requires : tie.Need-put-digest-requires
-put-digest-requires c κs = search needs
-
 returns : tie.Need-returns
 returns c = c .before .put-digest .ensures ∙ append-nil (digest _)
 
 pub to-bytes-spec : {M : Type 1} → statement M
-to-bytes-spec = tie.close (tie.spec slice-aggregate-put-digest put-digest-requires returns)
+to-bytes-spec = tie.close (tie.spec (λ c. search needs) (λ c κs. search needs) returns)

@@ -5,12 +5,9 @@ use borrow.Author.Needs.{needs}
 use Rattle.sha1.proofs.value_after.Statement.{statement}
 use Rattle.sha1.proofs.value_after.Tie as tie
 
-compress-blocks-requires : tie.Need-compress-blocks-requires
-compress-blocks-requires c κs = search needs
-
 returns : tie.Need-returns
 unfolding H0
 returns c = c .compress-blocks .ensures
 
 pub value-after-spec : {M : Type 1} → statement M
-value-after-spec = tie.close (tie.spec compress-blocks-requires returns)
+value-after-spec = tie.close (tie.spec (λ c κs. search needs) returns)

@@ -18,11 +18,8 @@ returns c =
     let none : 0 ≡ length (now (a .message)) / 64 = omega arith in
     ap (λ (n : ℕ). blocks n (a .h) (now (a .message))) none
 
-compress-blocks-requires : tie.Need-compress-blocks-requires
-compress-blocks-requires c κs = search needs
-
 returns-2 : tie.Need-returns-2
 returns-2 c = search needs
 
 pub whole-spec : {M : Type 1} → statement M
-whole-spec = tie.close (tie.spec returns compress-blocks-requires returns-2)
+whole-spec = tie.close (tie.spec returns (λ c κs. search needs) returns-2)

@@ -8,57 +8,6 @@ use borrow.Author.Needs.{needs}
 use Rattle.sha1_block.proofs.compress.Statement.{statement}
 use Rattle.sha1_block.proofs.compress.Tie as tie
 
-load-requires : tie.Need-load-requires
-load-requires c κs = search needs
-
-kept-requires : tie.Need-kept-requires
-kept-requires c κs = search needs
-
-group-words-requires : tie.Need-group-words-requires
-group-words-requires c κs = search needs
-
-rounds-0-to-15-requires : tie.Need-rounds-0-to-15-requires
-rounds-0-to-15-requires c κs = search needs
-
-group-words-requires-2 : tie.Need-group-words-requires-2
-group-words-requires-2 c κs = search needs
-
-rounds-16-to-19-requires : tie.Need-rounds-16-to-19-requires
-rounds-16-to-19-requires c κs = search needs
-
-rounds-20-to-31-requires : tie.Need-rounds-20-to-31-requires
-rounds-20-to-31-requires c κs = search needs
-
-group-words-requires-3 : tie.Need-group-words-requires-3
-group-words-requires-3 c κs = search needs
-
-rounds-32-to-39-requires : tie.Need-rounds-32-to-39-requires
-rounds-32-to-39-requires c κs = search needs
-
-rounds-40-to-47-requires : tie.Need-rounds-40-to-47-requires
-rounds-40-to-47-requires c κs = search needs
-
-group-words-requires-4 : tie.Need-group-words-requires-4
-group-words-requires-4 c κs = search needs
-
-rounds-48-to-59-requires : tie.Need-rounds-48-to-59-requires
-rounds-48-to-59-requires c κs = search needs
-
-rounds-60-to-63-requires : tie.Need-rounds-60-to-63-requires
-rounds-60-to-63-requires c κs = search needs
-
-group-words-requires-5 : tie.Need-group-words-requires-5
-group-words-requires-5 c κs = search needs
-
-rounds-64-to-79-requires : tie.Need-rounds-64-to-79-requires
-rounds-64-to-79-requires c κs = search needs
-
-variables-of-requires : tie.Need-variables-of-requires
-variables-of-requires c κs = search needs
-
-sum-requires : tie.Need-sum-requires
-sum-requires c κs = search needs
-
 returns : tie.Need-returns
 returns c =
     let c80 = c .before .before in
@@ -97,22 +46,7 @@ returns c =
 pub compress-spec : {M : Type 1} → statement M
 compress-spec =
     tie.close
-    (tie.spec
-    load-requires
-    kept-requires
-    group-words-requires
-    rounds-0-to-15-requires
-    group-words-requires-2
-    rounds-16-to-19-requires
-    rounds-20-to-31-requires
-    group-words-requires-3
-    rounds-32-to-39-requires
-    rounds-40-to-47-requires
-    group-words-requires-4
-    rounds-48-to-59-requires
-    rounds-60-to-63-requires
-    group-words-requires-5
-    rounds-64-to-79-requires
-    variables-of-requires
-    sum-requires
-    returns)
+    (tie.spec (λ c κs. search needs) (λ c κs. search needs) (λ c κs. search needs) (λ c κs. search needs)
+    (λ c κs. search needs) (λ c κs. search needs) (λ c κs. search needs) (λ c κs. search needs) (λ c κs. search needs)
+    (λ c κs. search needs) (λ c κs. search needs) (λ c κs. search needs) (λ c κs. search needs) (λ c κs. search needs)
+    (λ c κs. search needs) (λ c κs. search needs) (λ c κs. search needs) returns)

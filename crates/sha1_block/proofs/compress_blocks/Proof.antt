@@ -21,29 +21,8 @@ loop-holds : tie.Need-loop-holds Inv-loop μ-loop
 unfolding blocksBy
 loop-holds c = (omega arith, refl, refl)
 
-mul-start : tie.Need-mul-start Inv-loop μ-loop
-mul-start c = omega arith
-
-add-end : tie.Need-add-end Inv-loop μ-loop
-add-end c = omega arith
-
-sub-compress : tie.Need-sub-compress Inv-loop μ-loop
-sub-compress c = omega arith
-
-part-compress-start : tie.Need-part-compress-start Inv-loop μ-loop
-part-compress-start c = omega arith
-
-part-compress-end : tie.Need-part-compress-end Inv-loop μ-loop
-part-compress-end c = omega arith
-
 compress-requires : tie.Need-compress-requires Inv-loop μ-loop
 compress-requires c κs = simp (length-take, length-drop) (omega arith)
-
-add-k : tie.Need-add-k Inv-loop μ-loop
-add-k c = omega arith
-
-loop-less : tie.Need-loop-less Inv-loop μ-loop
-loop-less c = omega arith
 
 loop-again : tie.Need-loop-again Inv-loop μ-loop
 loop-again c =
@@ -60,17 +39,5 @@ returns c =
 pub compress-blocks-spec : {M : Type 1} → statement M
 compress-blocks-spec =
     tie.close
-    (tie.spec
-    Inv-loop
-    μ-loop
-    loop-holds
-    mul-start
-    add-end
-    sub-compress
-    part-compress-start
-    part-compress-end
-    compress-requires
-    add-k
-    loop-less
-    loop-again
-    returns)
+    (tie.spec Inv-loop μ-loop loop-holds (λ c. omega arith) (λ c. omega arith) (λ c. omega arith) (λ c. omega arith)
+    (λ c. omega arith) compress-requires (λ c. omega arith) (λ c. omega arith) loop-again returns)

@@ -11,15 +11,6 @@ use borrow.Author.Needs.{needs}
 use Rattle.sha256.proofs.absorb_blocks.Statement.{statement}
 use Rattle.sha256.proofs.absorb_blocks.Tie as tie
 
-compress-into-requires : tie.Need-compress-into-requires
-compress-into-requires c κs = search needs
-
-compress-into-requires-2 : tie.Need-compress-into-requires-2
-compress-into-requires-2 c κs = search needs
-
-begin-requires : tie.Need-begin-requires
-begin-requires c κs = search needs
-
 returns : tie.Need-returns
 returns c =
     let start = c .before .before .before .before .before .before .before .before .before in
@@ -29,5 +20,4 @@ returns c =
     (c .before .before .compress-into2 .ensures ∙ ap (λ (g : List ℕ). blocks (length s / 64) g s) g, c .begin .ensures)
 
 pub absorb-blocks-spec : {M : Type 1} → statement M
-absorb-blocks-spec =
-    tie.close (tie.spec compress-into-requires compress-into-requires-2 begin-requires returns)
+absorb-blocks-spec = tie.close (tie.spec (λ c κs. search needs) (λ c κs. search needs) (λ c κs. search needs) returns)

@@ -15,15 +15,6 @@ use Rattle.sha256.specs.Internal.{parts}
 use Rattle.sha256.proofs.absorb_into.Statement.{statement}
 use Rattle.sha256.proofs.absorb_into.Tie as tie
 
-wrapping-add-u64-requires : tie.Need-wrapping-add-u64-requires
-wrapping-add-u64-requires c κs = search needs
-
-sub-least : tie.Need-sub-least
-sub-least c = search needs
-
-least-requires : tie.Need-least-requires
-least-requires c κs = search needs
-
 slice-aggregate-put : tie.Need-slice-aggregate-put
 slice-aggregate-put c =
     let m = c .before .before in
@@ -33,9 +24,6 @@ slice-aggregate-put c =
 
 put-requires : tie.Need-put-requires
 put-requires c κs = simp length-take (omega (arith, c .before .before .before .before .before .pre))
-
-sub-if1 : tie.Need-sub-if1
-sub-if1 c = search needs
 
 returns : tie.Need-returns
 returns c =
@@ -47,15 +35,6 @@ returns c =
     let f : a .count < 2 ^ 64 = search needs in
     let all : length xs ≤ m .least .result = omega arith in
     part-law compress (parts (now (a .h)) (now (a .block)) (a .count)) xs f (st .pre) (c .if1 .taken) (rw (take-all (m .least .result) xs all) at (c .before .put .ensures)) (w .wrapping-add-u64 .ensures)
-
-sub-absorb-blocks : tie.Need-sub-absorb-blocks
-sub-absorb-blocks c = search needs
-
-part-absorb-blocks-start : tie.Need-part-absorb-blocks-start
-part-absorb-blocks-start c = search needs
-
-part-absorb-blocks-end : tie.Need-part-absorb-blocks-end
-part-absorb-blocks-end c = search needs
 
 absorb-blocks-requires : tie.Need-absorb-blocks-requires
 absorb-blocks-requires c κs =
@@ -83,16 +62,6 @@ returns-2 c =
 pub absorb-into-spec : {M : Type 1} → statement M
 absorb-into-spec =
     tie.close
-    (tie.spec
-    wrapping-add-u64-requires
-    sub-least
-    least-requires
-    slice-aggregate-put
-    put-requires
-    sub-if1
-    returns
-    sub-absorb-blocks
-    part-absorb-blocks-start
-    part-absorb-blocks-end
-    absorb-blocks-requires
+    (tie.spec (λ c κs. search needs) (λ c. search needs) (λ c κs. search needs) slice-aggregate-put put-requires
+    (λ c. search needs) returns (λ c. search needs) (λ c. search needs) (λ c. search needs) absorb-blocks-requires
     returns-2)

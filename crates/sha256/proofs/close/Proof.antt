@@ -11,9 +11,6 @@ use borrow.Author.Needs.{needs}
 use Rattle.sha256.proofs.close.Statement.{statement}
 use Rattle.sha256.proofs.close.Tie as tie
 
-mark-requires : tie.Need-mark-requires
-mark-requires c κs = search needs
-
 compress-last-requires : tie.Need-compress-last-requires
 compress-last-requires c κs =
     let d = c .before .before .before in
@@ -27,12 +24,6 @@ returns c =
     let l : length (now (a .block)) ≡ 64 = d .before .before .pre in
     close-one compress (now (a .h)) (now (a .block)) (a .count) l (d .mark .ensures) (c .before .before .before .if1 .taken) (c .compress-last .ensures)
 
-compress-into-requires : tie.Need-compress-into-requires
-compress-into-requires c κs = search needs
-
-compress-last-requires-2 : tie.Need-compress-last-requires-2
-compress-last-requires-2 c κs = search needs
-
 returns-2 : tie.Need-returns-2
 returns-2 c =
     let e = c .before .before .before .before in
@@ -45,10 +36,5 @@ returns-2 c =
 pub close-spec : {M : Type 1} → statement M
 close-spec =
     tie.close
-    (tie.spec
-    mark-requires
-    compress-last-requires
-    returns
-    compress-into-requires
-    compress-last-requires-2
+    (tie.spec (λ c κs. search needs) compress-last-requires returns (λ c κs. search needs) (λ c κs. search needs)
     returns-2)

@@ -4,11 +4,8 @@ use borrow.Author.Needs.{needs}
 use Rattle.sha256.proofs.compress_into.Statement.{statement}
 use Rattle.sha256.proofs.compress_into.Tie as tie
 
-compress-blocks-requires : tie.Need-compress-blocks-requires
-compress-blocks-requires c κs = search needs
-
 returns : tie.Need-returns
 returns c = c .compress-blocks .ensures
 
 pub compress-into-spec : {M : Type 1} → statement M
-compress-into-spec = tie.close (tie.spec compress-blocks-requires returns)
+compress-into-spec = tie.close (tie.spec (λ c κs. search needs) returns)

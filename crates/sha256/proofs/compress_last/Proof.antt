@@ -9,12 +9,6 @@ use borrow.Author.Needs.{needs}
 use Rattle.sha256.proofs.compress_last.Statement.{statement}
 use Rattle.sha256.proofs.compress_last.Tie as tie
 
-put-length-requires : tie.Need-put-length-requires
-put-length-requires c κs = search needs
-
-compress-into-requires : tie.Need-compress-into-requires
-compress-into-requires c κs = search needs
-
 returns : tie.Need-returns
 returns c =
     let start = c .before .before .before .before .before .before in
@@ -23,4 +17,4 @@ returns c =
     c .compress-into .ensures ∙ one-block compress _ _ (length-kept (now (a .block)) (a .count) (start .pre) put) ∙ ap (compress (now (a .h))) put
 
 pub compress-last-spec : {M : Type 1} → statement M
-compress-last-spec = tie.close (tie.spec put-length-requires compress-into-requires returns)
+compress-last-spec = tie.close (tie.spec (λ c κs. search needs) (λ c κs. search needs) returns)

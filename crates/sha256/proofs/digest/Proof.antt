@@ -11,12 +11,6 @@ use borrow.Author.Needs.{needs}
 use Rattle.sha256.proofs.digest.Statement.{statement}
 use Rattle.sha256.proofs.digest.Tie as tie
 
-of-blocks-requires : tie.Need-of-blocks-requires
-of-blocks-requires c κs = search needs
-
-begin-requires : tie.Need-begin-requires
-begin-requires c κs = search needs
-
 last-digest-requires : tie.Need-last-digest-requires
 last-digest-requires c κs = ap length (c .before .before .begin .ensures) ∙ begun-length (now (c .before .before .before .before .before .before .args .message))
 
@@ -28,4 +22,4 @@ returns c =
     at-once compress m H0 digest f (c .before .before .before .begin .ensures) (c .before .before .before .before .before .of-blocks .ensures) (c .last-digest .ensures)
 
 pub digest-spec : {M : Type 1} → statement M
-digest-spec = tie.close (tie.spec of-blocks-requires begin-requires last-digest-requires returns)
+digest-spec = tie.close (tie.spec (λ c κs. search needs) (λ c κs. search needs) last-digest-requires returns)

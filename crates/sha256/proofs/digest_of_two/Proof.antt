@@ -14,9 +14,6 @@ use borrow.Author.Needs.{needs}
 use Rattle.sha256.proofs.digest_of_two.Statement.{statement}
 use Rattle.sha256.proofs.digest_of_two.Tie as tie
 
-absorb-into-requires : tie.Need-absorb-into-requires
-absorb-into-requires c κs = search needs
-
 absorb-into-requires-2 : tie.Need-absorb-into-requires-2
 absorb-into-requires-2 c κs = block-kept compress _ _ refl (c .before .before .absorb-into .ensures)
 
@@ -39,5 +36,4 @@ returns c =
     closed-law compress started (first ++ second) refl all digest f (c .last-digest .ensures) ∙ digest-law (first ++ second)
 
 pub digest-of-two-spec : {M : Type 1} → statement M
-digest-of-two-spec =
-    tie.close (tie.spec absorb-into-requires absorb-into-requires-2 last-digest-requires returns)
+digest-of-two-spec = tie.close (tie.spec (λ c κs. search needs) absorb-into-requires-2 last-digest-requires returns)

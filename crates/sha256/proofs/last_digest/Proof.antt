@@ -6,14 +6,8 @@ use borrow.Author.Needs.{needs}
 use Rattle.sha256.proofs.last_digest.Statement.{statement}
 use Rattle.sha256.proofs.last_digest.Tie as tie
 
-close-requires : tie.Need-close-requires
-close-requires c κs = search needs
-
-to-bytes-requires : tie.Need-to-bytes-requires
-to-bytes-requires c κs = search needs
-
 returns : tie.Need-returns
 returns c = c .to-bytes .ensures ∙ ap digest (c .before .before .close .ensures)
 
 pub last-digest-spec : {M : Type 1} → statement M
-last-digest-spec = tie.close (tie.spec close-requires to-bytes-requires returns)
+last-digest-spec = tie.close (tie.spec (λ c κs. search needs) (λ c κs. search needs) returns)

@@ -16,23 +16,8 @@ Inv-loop block₀ at j₀ block j = (at < j) × (j ≤ 64) × (length block₀ �
 abbrev μ-loop : tie.MeasureT-loop
 μ-loop block₀ at j₀ block j = 64 - j
 
-element-write-block : tie.Need-element-write-block Inv-loop μ-loop
-element-write-block c = omega arith
-
-add-j : tie.Need-add-j Inv-loop μ-loop
-add-j c = omega arith
-
 loop-holds : tie.Need-loop-holds Inv-loop μ-loop
 loop-holds c = (omega arith, omega arith, simp length-set (c .pre .1), mark-none _ (c .args .at))
-
-element-write-block-2 : tie.Need-element-write-block-2 Inv-loop μ-loop
-element-write-block-2 c = omega arith
-
-add-j-2 : tie.Need-add-j-2 Inv-loop μ-loop
-add-j-2 c = omega arith
-
-loop-less : tie.Need-loop-less Inv-loop μ-loop
-loop-less c = omega arith
 
 loop-again : tie.Need-loop-again Inv-loop μ-loop
 loop-again c =
@@ -48,14 +33,5 @@ returns c =
 pub mark-spec : {M : Type 1} → statement M
 mark-spec =
     tie.close
-    (tie.spec
-    Inv-loop
-    μ-loop
-    element-write-block
-    add-j
-    loop-holds
-    element-write-block-2
-    add-j-2
-    loop-less
-    loop-again
-    returns)
+    (tie.spec Inv-loop μ-loop (λ c. omega arith) (λ c. omega arith) loop-holds (λ c. omega arith) (λ c. omega arith)
+    (λ c. omega arith) loop-again returns)

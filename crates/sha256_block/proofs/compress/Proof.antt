@@ -17,26 +17,8 @@ Inv-loop h b w₀ s₀ g₀ w s g = (g ≤ 4) × (s ≡ rounds h b (g * 16)) × 
 abbrev μ-loop : tie.MeasureT-loop
 μ-loop h b w₀ s₀ g₀ w s g = 4 - g
 
-load-requires : tie.Need-load-requires Inv-loop μ-loop
-load-requires c κs = search needs
-
 loop-holds : tie.Need-loop-holds Inv-loop μ-loop
 loop-holds c = (omega arith, no-round _ _, c .load .ensures)
-
-group-words-requires : tie.Need-group-words-requires Inv-loop μ-loop
-group-words-requires c κs = search needs
-
-group-constants-requires : tie.Need-group-constants-requires Inv-loop μ-loop
-group-constants-requires c κs = search needs
-
-sixteen-requires : tie.Need-sixteen-requires Inv-loop μ-loop
-sixteen-requires c κs = search needs
-
-add-g : tie.Need-add-g Inv-loop μ-loop
-add-g c = search needs
-
-loop-less : tie.Need-loop-less Inv-loop μ-loop
-loop-less c = search needs
 
 loop-again : tie.Need-loop-again Inv-loop μ-loop
 loop-again c =
@@ -48,9 +30,6 @@ loop-again c =
     let words = u .group-words .ensures b (p .loop .inv .2) in
     (omega arith, group (a .h) b g _ (c .before .before .group-constants .ensures) (p .loop .inv .1) words (c .sixteen .ensures), kept b g words)
 
-sum-requires : tie.Need-sum-requires Inv-loop μ-loop
-sum-requires c κs = search needs
-
 returns : tie.Need-returns Inv-loop μ-loop
 returns c =
     let p = c .before .before in
@@ -61,16 +40,5 @@ returns c =
 pub compress-spec : {M : Type 1} → statement M
 compress-spec =
     tie.close
-    (tie.spec
-    Inv-loop
-    μ-loop
-    load-requires
-    loop-holds
-    group-words-requires
-    group-constants-requires
-    sixteen-requires
-    add-g
-    loop-less
-    loop-again
-    sum-requires
-    returns)
+    (tie.spec Inv-loop μ-loop (λ c κs. search needs) loop-holds (λ c κs. search needs) (λ c κs. search needs)
+    (λ c κs. search needs) (λ c. search needs) (λ c. search needs) loop-again (λ c κs. search needs) returns)

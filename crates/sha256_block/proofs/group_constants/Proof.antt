@@ -19,30 +19,6 @@ abbrev μ-loop : tie.MeasureT-loop
 loop-holds : tie.Need-loop-holds Inv-loop μ-loop
 loop-holds c = (omega arith, refl, λ i h. absurd (omega (arith, h)))
 
-mul-constant : tie.Need-mul-constant Inv-loop μ-loop
-mul-constant c = search needs
-
-cast-constant : tie.Need-cast-constant Inv-loop μ-loop
-cast-constant c = search needs
-
-add-constant : tie.Need-add-constant Inv-loop μ-loop
-add-constant c = search needs
-
-constant-requires : tie.Need-constant-requires Inv-loop μ-loop
-constant-requires c κs = search needs
-
-mul-k : tie.Need-mul-k Inv-loop μ-loop
-mul-k c = search needs
-
-array-write-k : tie.Need-array-write-k Inv-loop μ-loop
-array-write-k c = search needs
-
-add-j : tie.Need-add-j Inv-loop μ-loop
-add-j c = search needs
-
-loop-less : tie.Need-loop-less Inv-loop μ-loop
-loop-less c = search needs
-
 loop-again : tie.Need-loop-again Inv-loop μ-loop
 loop-again c =
     let p = c .before .before in
@@ -59,17 +35,6 @@ returns c =
 pub group-constants-spec : {M : Type 1} → statement M
 group-constants-spec =
     tie.close
-    (tie.spec
-    Inv-loop
-    μ-loop
-    loop-holds
-    mul-constant
-    cast-constant
-    add-constant
-    constant-requires
-    mul-k
-    array-write-k
-    add-j
-    loop-less
-    loop-again
+    (tie.spec Inv-loop μ-loop loop-holds (λ c. search needs) (λ c. search needs) (λ c. search needs)
+    (λ c κs. search needs) (λ c. search needs) (λ c. search needs) (λ c. search needs) (λ c. search needs) loop-again
     returns)

@@ -7,54 +7,6 @@ use borrow.Author.Needs.{needs}
 use Rattle.sha256_block.proofs.refill.Statement.{statement}
 use Rattle.sha256_block.proofs.refill.Tie as tie
 
-put-next-requires : tie.Need-put-next-requires
-put-next-requires c κs = search needs
-
-put-next-requires-2 : tie.Need-put-next-requires-2
-put-next-requires-2 c κs = search needs
-
-put-next-requires-3 : tie.Need-put-next-requires-3
-put-next-requires-3 c κs = search needs
-
-put-next-requires-4 : tie.Need-put-next-requires-4
-put-next-requires-4 c κs = search needs
-
-put-next-requires-5 : tie.Need-put-next-requires-5
-put-next-requires-5 c κs = search needs
-
-put-next-requires-6 : tie.Need-put-next-requires-6
-put-next-requires-6 c κs = search needs
-
-put-next-requires-7 : tie.Need-put-next-requires-7
-put-next-requires-7 c κs = search needs
-
-put-next-requires-8 : tie.Need-put-next-requires-8
-put-next-requires-8 c κs = search needs
-
-put-next-requires-9 : tie.Need-put-next-requires-9
-put-next-requires-9 c κs = search needs
-
-put-next-requires-10 : tie.Need-put-next-requires-10
-put-next-requires-10 c κs = search needs
-
-put-next-requires-11 : tie.Need-put-next-requires-11
-put-next-requires-11 c κs = search needs
-
-put-next-requires-12 : tie.Need-put-next-requires-12
-put-next-requires-12 c κs = search needs
-
-put-next-requires-13 : tie.Need-put-next-requires-13
-put-next-requires-13 c κs = search needs
-
-put-next-requires-14 : tie.Need-put-next-requires-14
-put-next-requires-14 c κs = search needs
-
-put-next-requires-15 : tie.Need-put-next-requires-15
-put-next-requires-15 c κs = search needs
-
-put-next-requires-16 : tie.Need-put-next-requires-16
-put-next-requires-16 c κs = search needs
-
 returns : tie.Need-returns
 unfolding mixed
 returns c = λ b t e.
@@ -79,21 +31,7 @@ returns c = λ b t e.
 pub refill-spec : {M : Type 1} → statement M
 refill-spec =
     tie.close
-    (tie.spec
-    put-next-requires
-    put-next-requires-2
-    put-next-requires-3
-    put-next-requires-4
-    put-next-requires-5
-    put-next-requires-6
-    put-next-requires-7
-    put-next-requires-8
-    put-next-requires-9
-    put-next-requires-10
-    put-next-requires-11
-    put-next-requires-12
-    put-next-requires-13
-    put-next-requires-14
-    put-next-requires-15
-    put-next-requires-16
-    returns)
+    (tie.spec (λ c κs. search needs) (λ c κs. search needs) (λ c κs. search needs) (λ c κs. search needs)
+    (λ c κs. search needs) (λ c κs. search needs) (λ c κs. search needs) (λ c κs. search needs) (λ c κs. search needs)
+    (λ c κs. search needs) (λ c κs. search needs) (λ c κs. search needs) (λ c κs. search needs) (λ c κs. search needs)
+    (λ c κs. search needs) (λ c κs. search needs) returns)

@@ -7,26 +7,13 @@ use Rattle.slot_rules.proofs.Digits.{length-mapped}
 use lib.Dec.{ltb}
 use Rattle.refusal.specs.Checks.{bare, unless, _andThen_}
 use Rattle.slot_rules.specs.Calls.{putCheck}
-use Rattle.slot_rules.proofs.Rows.{Fits}
-use Rattle.slot_rules.proofs.Stored.{full}
+use Rattle.slot_rules.proofs.Stored.{Fits, full}
 use Rattle.slots.proofs.check_put.Statement.{statement}
 use Rattle.slots.proofs.check_put.Tie as tie
 
 -- the slots at entry
 stored : (s : tie.Start) → Fits (s .args .slots)
 stored s = search (needs, length-mapped)
-
-check-parent-requires : tie.Need-check-parent-requires
-check-parent-requires c κs = search needs
-
-lowest-free-requires : tie.Need-lowest-free-requires
-lowest-free-requires c κs = search needs
-
-unless-requires : tie.Need-unless-requires
-unless-requires c κs = search needs
-
-then-check-requires : tie.Need-then-check-requires
-then-check-requires c κs = search needs
 
 returns : tie.Need-returns
 unfolding putCheck
@@ -41,9 +28,4 @@ returns c =
 pub check-put-spec : {M : Type 1} → statement M
 check-put-spec =
     tie.close
-    (tie.spec
-    check-parent-requires
-    lowest-free-requires
-    unless-requires
-    then-check-requires
-    returns)
+    (tie.spec (λ c κs. search needs) (λ c κs. search needs) (λ c κs. search needs) (λ c κs. search needs) returns)

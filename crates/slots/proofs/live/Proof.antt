@@ -2,8 +2,7 @@
 -- Assumes nothing.
 use borrow.Author.Needs.{needs}
 use Rattle.slot_rules.proofs.Digits.{length-mapped}
-use Rattle.slot_rules.proofs.Rows.{Fits}
-use Rattle.slot_rules.proofs.Stored.{counted}
+use Rattle.slot_rules.proofs.Stored.{Fits, counted}
 use Rattle.slots.proofs.live.Statement.{statement}
 use Rattle.slots.proofs.live.Tie as tie
 

@@ -2,8 +2,7 @@
 -- Assumes nothing.
 use borrow.Author.Needs.{needs}
 use Rattle.slot_rules.proofs.Digits.{length-mapped}
-use Rattle.slot_rules.proofs.Rows.{Fits}
-use Rattle.slot_rules.proofs.Stored.{lowest}
+use Rattle.slot_rules.proofs.Stored.{Fits, lowest}
 use Rattle.slots.proofs.lowest_free.Statement.{statement}
 use Rattle.slots.proofs.lowest_free.Tie as tie
 

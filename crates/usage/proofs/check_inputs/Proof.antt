@@ -4,27 +4,6 @@ use mathlib.Core.Path.{refl}
 use Rattle.usage.proofs.check_inputs.Statement.{statement}
 use Rattle.usage.proofs.check_inputs.Tie as tie
 
-check-root-key-requires : tie.Need-check-root-key-requires
-check-root-key-requires c κs = tt
-
-check-label-requires : tie.Need-check-label-requires
-check-label-requires c κs = tt
-
-check-domain-label-requires : tie.Need-check-domain-label-requires
-check-domain-label-requires c κs = tt
-
-unless-requires : tie.Need-unless-requires
-unless-requires c κs = tt
-
-then-check-requires : tie.Need-then-check-requires
-then-check-requires c κs = tt
-
-then-check-requires-2 : tie.Need-then-check-requires-2
-then-check-requires-2 c κs = tt
-
-then-check-requires-3 : tie.Need-then-check-requires-3
-then-check-requires-3 c κs = tt
-
 returns : tie.Need-returns
 returns c =
     let p1 = c .before in
@@ -46,12 +25,4 @@ returns c =
 pub check-inputs-spec : {M : Type 1} → statement M
 check-inputs-spec =
     tie.close
-    (tie.spec
-    check-root-key-requires
-    check-label-requires
-    check-domain-label-requires
-    unless-requires
-    then-check-requires
-    then-check-requires-2
-    then-check-requires-3
-    returns)
+    (tie.spec (λ c κs. tt) (λ c κs. tt) (λ c κs. tt) (λ c κs. tt) (λ c κs. tt) (λ c κs. tt) (λ c κs. tt) returns)

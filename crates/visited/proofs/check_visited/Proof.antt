@@ -4,21 +4,6 @@ use mathlib.Core.Path.{refl}
 use Rattle.visited.proofs.check_visited.Statement.{statement}
 use Rattle.visited.proofs.check_visited.Tie as tie
 
-check-root-key-requires : tie.Need-check-root-key-requires
-check-root-key-requires c κs = tt
-
-check-server-id-requires : tie.Need-check-server-id-requires
-check-server-id-requires c κs = tt
-
-check-domain-requires : tie.Need-check-domain-requires
-check-domain-requires c κs = tt
-
-then-check-requires : tie.Need-then-check-requires
-then-check-requires c κs = tt
-
-then-check-requires-2 : tie.Need-then-check-requires-2
-then-check-requires-2 c κs = tt
-
 returns : tie.Need-returns
 returns c =
     let p1 = c .before in
@@ -28,12 +13,4 @@ returns c =
     rw (c .then-check2 .ensures, p1 .then-check .ensures, p2 .check-domain .ensures, p3 .check-server-id .ensures, p4 .check-root-key .ensures) refl
 
 pub check-visited-spec : {M : Type 1} → statement M
-check-visited-spec =
-    tie.close
-    (tie.spec
-    check-root-key-requires
-    check-server-id-requires
-    check-domain-requires
-    then-check-requires
-    then-check-requires-2
-    returns)
+check-visited-spec = tie.close (tie.spec (λ c κs. tt) (λ c κs. tt) (λ c κs. tt) (λ c κs. tt) (λ c κs. tt) returns)

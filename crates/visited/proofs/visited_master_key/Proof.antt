@@ -5,29 +5,14 @@ use borrow.Author.Needs.{needs}
 use denote.Ref.{now}
 use lib.ListN.{length}
 use Rattle.refusal.proofs.Answering.{answer-by}
-use Rattle.visited.specs.Visited.{vmskCheck}
+use Rattle.visited.specs.Visited.{vmskCheck, vmskAnswer, vmskBuffer}
 use Rattle.requests.proofs.Rooms.{then-room}
 use Rattle.visited.proofs.Tests.{master-buffer}
 use Rattle.visited.proofs.visited_master_key.Statement.{statement}
 use Rattle.visited.proofs.visited_master_key.Tie as tie
 
-check-visited-requires : tie.Need-check-visited-requires
-check-visited-requires c κs = tt
-
-slice-aggregate-expand : tie.Need-slice-aggregate-expand
-slice-aggregate-expand c = refl
-
-slice-aggregate-expand-2 : tie.Need-slice-aggregate-expand-2
-slice-aggregate-expand-2 c = refl
-
-expand-requires : tie.Need-expand-requires
-expand-requires c κs = tt
-
-same-length : tie.Need-same-length
-same-length c = search needs
-
 returns : tie.Need-returns
-unfolding vmskCheck
+unfolding vmskCheck vmskAnswer vmskBuffer
 returns c =
     let e = c .before .before in
     let k = e .before .before .before .before in
@@ -37,11 +22,4 @@ returns c =
 
 pub visited-master-key-spec : {M : Type 1} → statement M
 visited-master-key-spec =
-    tie.close
-    (tie.spec
-    check-visited-requires
-    slice-aggregate-expand
-    slice-aggregate-expand-2
-    expand-requires
-    same-length
-    returns)
+    tie.close (tie.spec (λ c κs. tt) (λ c. refl) (λ c. refl) (λ c κs. tt) (λ c. search needs) returns)

@@ -5,32 +5,14 @@ use borrow.Author.Needs.{needs}
 use denote.Ref.{now}
 use lib.ListN.{length}
 use Rattle.refusal.proofs.Answering.{answer-by, buffer-by}
-use Rattle.fixed_labels.specs.FixedLabels.{visitedReauthLabel}
-use Rattle.visited.specs.Visited.{reauthText, reauthCheck, reauthKey}
+use Rattle.labels.specs.FixedLabels.{visitedReauthLabel}
+use Rattle.visited.specs.Visited.{reauthText, reauthCheck, reauthKey, reauthAnswer, reauthBuffer}
 use Rattle.requests.proofs.Rooms.{then-room}
 use Rattle.visited.proofs.visited_reauth_key.Statement.{statement}
 use Rattle.visited.proofs.visited_reauth_key.Tie as tie
 
-check-root-key-requires : tie.Need-check-root-key-requires
-check-root-key-requires c κs = tt
-
-slice-aggregate-expand : tie.Need-slice-aggregate-expand
-slice-aggregate-expand c = refl
-
-slice-aggregate-expand-2 : tie.Need-slice-aggregate-expand-2
-slice-aggregate-expand-2 c = refl
-
-slice-aggregate-expand-3 : tie.Need-slice-aggregate-expand-3
-slice-aggregate-expand-3 c = refl
-
-expand-requires : tie.Need-expand-requires
-expand-requires c κs = tt
-
-same-length : tie.Need-same-length
-same-length c = search needs
-
 returns : tie.Need-returns
-unfolding reauthCheck reauthKey reauthText visitedReauthLabel
+unfolding reauthAnswer reauthBuffer reauthCheck reauthKey reauthText visitedReauthLabel
 returns c =
     let e = c .before .before in
     let k = e .before .before .before .before .before .before .before in
@@ -40,12 +22,4 @@ returns c =
 
 pub visited-reauth-key-spec : {M : Type 1} → statement M
 visited-reauth-key-spec =
-    tie.close
-    (tie.spec
-    check-root-key-requires
-    slice-aggregate-expand
-    slice-aggregate-expand-2
-    slice-aggregate-expand-3
-    expand-requires
-    same-length
-    returns)
+    tie.close (tie.spec (λ c κs. tt) (λ c. refl) (λ c. refl) (λ c. refl) (λ c κs. tt) (λ c. search needs) returns)

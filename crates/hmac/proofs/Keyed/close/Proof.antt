@@ -4,11 +4,8 @@ use borrow.Author.Needs.{needs}
 use Rattle.hmac.proofs.Keyed.close.Statement.{statement}
 use Rattle.hmac.proofs.Keyed.close.Tie as tie
 
-outer-hash-requires : tie.Need-outer-hash-requires
-outer-hash-requires c κs = search needs
-
 returns : tie.Need-returns
 returns c = c .outer-hash .ensures
 
 pub close-spec : {M : Type 1} → statement M
-close-spec = tie.close (tie.spec outer-hash-requires returns)
+close-spec = tie.close (tie.spec (λ c κs. search needs) returns)

@@ -7,15 +7,6 @@ use borrow.Author.Needs.{needs}
 use Rattle.hmac.proofs.Keyed.new.Statement.{statement}
 use Rattle.hmac.proofs.Keyed.new.Tie as tie
 
-key-block-requires : tie.Need-key-block-requires
-key-block-requires c κs = search needs
-
-key-value-requires : tie.Need-key-value-requires
-key-value-requires c κs = search needs
-
-key-value-requires-2 : tie.Need-key-value-requires-2
-key-value-requires-2 c κs = search needs
-
 returns : tie.Need-returns
 returns c =
     let key = now (c .before .before .before .before .args .key) in
@@ -23,4 +14,4 @@ returns c =
     (key-value key ipad block (c .before .key-value .ensures), key-value key opad block (c .key-value2 .ensures))
 
 pub new-spec : {M : Type 1} → statement M
-new-spec = tie.close (tie.spec key-block-requires key-value-requires key-value-requires-2 returns)
+new-spec = tie.close (tie.spec (λ c κs. search needs) (λ c κs. search needs) (λ c κs. search needs) returns)

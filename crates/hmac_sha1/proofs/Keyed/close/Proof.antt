@@ -5,12 +5,6 @@ use borrow.Author.Needs.{needs}
 use Rattle.hmac_sha1.proofs.Keyed.close.Statement.{statement}
 use Rattle.hmac_sha1.proofs.Keyed.close.Tie as tie
 
-after-requires : tie.Need-after-requires
-after-requires c κs = search needs
-
-finish-with-digest-requires : tie.Need-finish-with-digest-requires
-finish-with-digest-requires c κs = search needs
-
 returns : tie.Need-returns
 returns c =
     let q = c .before in
@@ -18,4 +12,4 @@ returns c =
     outer-law (a .self .outer) (a .value) (q .after .ensures) (c .finish-with-digest .ensures)
 
 pub close-spec : {M : Type 1} → statement M
-close-spec = tie.close (tie.spec after-requires finish-with-digest-requires returns)
+close-spec = tie.close (tie.spec (λ c κs. search needs) (λ c κs. search needs) returns)

@@ -6,15 +6,6 @@ use borrow.Author.Needs.{needs}
 use Rattle.hmac_sha1.proofs.Keyed.mac_of.Statement.{statement}
 use Rattle.hmac_sha1.proofs.Keyed.mac_of.Tie as tie
 
-after-requires : tie.Need-after-requires
-after-requires c κs = search needs
-
-value-with-requires : tie.Need-value-with-requires
-value-with-requires c κs = search needs
-
-close-requires : tie.Need-close-requires
-close-requires c κs = search needs
-
 returns : tie.Need-returns
 returns c =
     let v = c .before in
@@ -23,4 +14,4 @@ returns c =
     mac-of-law (a .self .inner) (a .self .outer) (now (a .message)) (p .after .ensures) (v .value-with .ensures) (c .close .ensures)
 
 pub mac-of-spec : {M : Type 1} → statement M
-mac-of-spec = tie.close (tie.spec after-requires value-with-requires close-requires returns)
+mac-of-spec = tie.close (tie.spec (λ c κs. search needs) (λ c κs. search needs) (λ c κs. search needs) returns)

@@ -7,12 +7,6 @@ use borrow.Author.Needs.{needs}
 use Rattle.hmac_sha1.proofs.Keyed.new.Statement.{statement}
 use Rattle.hmac_sha1.proofs.Keyed.new.Tie as tie
 
-key-block-requires : tie.Need-key-block-requires
-key-block-requires c κs = search needs
-
-of-block-requires : tie.Need-of-block-requires
-of-block-requires c κs = search needs
-
 returns : tie.Need-returns
 returns c =
     let key = now (c .before .before .before .args .key) in
@@ -20,4 +14,4 @@ returns c =
     (key-value key ipad block (c .of-block .ensures .0), key-value key opad block (c .of-block .ensures .1))
 
 pub new-spec : {M : Type 1} → statement M
-new-spec = tie.close (tie.spec key-block-requires of-block-requires returns)
+new-spec = tie.close (tie.spec (λ c κs. search needs) (λ c κs. search needs) returns)

@@ -12,27 +12,15 @@ use Rattle.hmac_sha1.proofs.Keyed.of_block.Tie as tie
 size : (c : tie.Start) → length (c .args .block) ≡ 64
 size c = search needs
 
-mask-requires : tie.Need-mask-requires
-mask-requires c κs = search needs
-
 slice-aggregate-value-after : tie.Need-slice-aggregate-value-after
 slice-aggregate-value-after c =
     let k = c .before .before .before in
     sym (masked-size (k .args .block) ipad (size k) (c .before .mask .ensures))
 
-value-after-requires : tie.Need-value-after-requires
-value-after-requires c κs = search needs
-
-mask-requires-2 : tie.Need-mask-requires-2
-mask-requires-2 c κs = search needs
-
 slice-aggregate-value-after-2 : tie.Need-slice-aggregate-value-after-2
 slice-aggregate-value-after-2 c =
     let k = c .before .before .before .before .before .before .before in
     sym (masked-size (k .args .block) opad (size k) (c .before .mask2 .ensures))
-
-value-after-requires-2 : tie.Need-value-after-requires-2
-value-after-requires-2 c κs = search needs
 
 returns : tie.Need-returns
 returns c =
@@ -45,11 +33,5 @@ returns c =
 pub of-block-spec : {M : Type 1} → statement M
 of-block-spec =
     tie.close
-    (tie.spec
-    mask-requires
-    slice-aggregate-value-after
-    value-after-requires
-    mask-requires-2
-    slice-aggregate-value-after-2
-    value-after-requires-2
-    returns)
+    (tie.spec (λ c κs. search needs) slice-aggregate-value-after (λ c κs. search needs) (λ c κs. search needs)
+    slice-aggregate-value-after-2 (λ c κs. search needs) returns)

@@ -5,18 +5,6 @@ use borrow.Author.Needs.{needs}
 use Rattle.sha1.proofs.Sha1.finish_with_digest.Statement.{statement}
 use Rattle.sha1.proofs.Sha1.finish_with_digest.Tie as tie
 
-marked-digest-requires : tie.Need-marked-digest-requires
-marked-digest-requires c κs = search needs
-
-bytes-after-requires : tie.Need-bytes-after-requires
-bytes-after-requires c κs = search needs
-
-compress-last-requires : tie.Need-compress-last-requires
-compress-last-requires c κs = search needs
-
-to-bytes-requires : tie.Need-to-bytes-requires
-to-bytes-requires c κs = search needs
-
 returns : tie.Need-returns
 returns c =
     let w = c .before .compress-last in
@@ -28,9 +16,4 @@ returns c =
 pub finish-with-digest-spec : {M : Type 1} → statement M
 finish-with-digest-spec =
     tie.close
-    (tie.spec
-    marked-digest-requires
-    bytes-after-requires
-    compress-last-requires
-    to-bytes-requires
-    returns)
+    (tie.spec (λ c κs. search needs) (λ c κs. search needs) (λ c κs. search needs) (λ c κs. search needs) returns)

@@ -4,11 +4,8 @@ use borrow.Author.Needs.{needs}
 use Rattle.sha256.proofs.Sha256.absorb.Statement.{statement}
 use Rattle.sha256.proofs.Sha256.absorb.Tie as tie
 
-absorb-into-requires : tie.Need-absorb-into-requires
-absorb-into-requires c κs = search needs
-
 returns : tie.Need-returns
 returns c = c .absorb-into .ensures
 
 pub absorb-spec : {M : Type 1} → statement M
-absorb-spec = tie.close (tie.spec absorb-into-requires returns)
+absorb-spec = tie.close (tie.spec (λ c κs. search needs) returns)

@@ -10,9 +10,6 @@ use borrow.Author.Needs.{needs}
 use Rattle.sha256.proofs.Sha256.finish.Statement.{statement}
 use Rattle.sha256.proofs.Sha256.finish.Tie as tie
 
-last-digest-requires : tie.Need-last-digest-requires
-last-digest-requires c κs = search needs
-
 returns : tie.Need-returns
 returns c =
     let s = c .before .before .before .before .before .args .self in
@@ -21,4 +18,4 @@ returns c =
     c .last-digest .ensures ∙ sym (finished-closing compress digest (progress s) f l)
 
 pub finish-spec : {M : Type 1} → statement M
-finish-spec = tie.close (tie.spec last-digest-requires returns)
+finish-spec = tie.close (tie.spec (λ c κs. search needs) returns)

@@ -29,17 +29,8 @@ loop-holds c =
     let f : s .count < 2 ^ 64 = search needs in
     (omega arith, l, f, refl)
 
-part-requires : tie.Need-part-requires Inv-loop μ-loop
-part-requires c κs = search needs
-
 absorb-into-requires : tie.Need-absorb-into-requires Inv-loop μ-loop
 absorb-into-requires c κs = c .before .before .before .before .loop .inv .1
-
-add-j : tie.Need-add-j Inv-loop μ-loop
-add-j c = search needs
-
-loop-less : tie.Need-loop-less Inv-loop μ-loop
-loop-less c = search needs
 
 loop-again : tie.Need-loop-again Inv-loop μ-loop
 loop-again c =
@@ -70,14 +61,5 @@ returns c =
 pub finish-with-spec : {M : Type 1} → statement M
 finish-with-spec =
     tie.close
-    (tie.spec
-    Inv-loop
-    μ-loop
-    loop-holds
-    part-requires
-    absorb-into-requires
-    add-j
-    loop-less
-    loop-again
-    last-digest-requires
-    returns)
+    (tie.spec Inv-loop μ-loop loop-holds (λ c κs. search needs) absorb-into-requires (λ c. search needs)
+    (λ c. search needs) loop-again last-digest-requires returns)

@@ -1,0 +1,47 @@
+-- `bundle_contents::ids::same_id` meets its contract.
+-- Assumes nothing.
+use mathlib.Core.Path.{_≡_, refl}
+use mathlib.Core.Bool.{true}
+use native.Mathlib.Omega.{arith}
+use denote.Ref.{now}
+use lib.ListN.{drop}
+use borrow.Author.Needs.{needs}
+use Rattle.slices.specs.Same.{sameList}
+use Rattle.bundle_contents.proofs.ids.Words.{words-on, words-differ, words-last, word-ends}
+use Rattle.bundle_contents.proofs.ids.same_id.Statement.{statement}
+use Rattle.bundle_contents.proofs.ids.same_id.Tie as tie
+
+returns : tie.Need-returns
+returns c = search needs
+
+returns-2 : tie.Need-returns-2
+returns-2 c = search needs
+
+returns-3 : tie.Need-returns-3
+returns-3 c = words-differ _ _ 12 (c .before .before .word-at .ensures .0) (c .before .word-at2 .ensures .0) (c .if3 .taken)
+
+-- the last word is the same, then the first, then the second
+last : (c : tie.Else3) → let x = c .before .before .before .before .before .before .before .args in sameList (drop 12 (now (x .a))) (drop 12 (now (x .b))) ≡ true
+last c = let x = c .before .before .before .before .before .before .before .args in word-ends (now (x .a)) (now (x .b)) 12 (omega arith) (omega arith) (c .before .before .word-at .ensures) (c .before .word-at2 .ensures) (c .if3 .left)
+
+one : (c : tie.Else4) → let x = c .before .before .before .before .before .before .before .before .before .before .args in sameList (now (x .a)) (now (x .b)) ≡ sameList (drop 4 (now (x .a))) (drop 4 (now (x .b)))
+one c = words-on _ _ 0 (omega arith) (omega arith) (c .before .before .word-at3 .ensures) (c .before .word-at4 .ensures) refl (c .if4 .left)
+
+two : (c : tie.Else5) → let x = c .before .before .before .before .before .before .before .before .before .before .before .before .before .args in sameList (now (x .a)) (now (x .b)) ≡ sameList (drop 8 (now (x .a))) (drop 8 (now (x .b)))
+two c = words-on _ _ 4 (omega arith) (omega arith) (c .before .before .word-at5 .ensures) (c .before .word-at6 .ensures) (one (c .before .before .before)) (c .if5 .left)
+
+returns-4 : tie.Need-returns-4
+returns-4 c = words-differ _ _ 0 (c .before .before .word-at3 .ensures .0) (c .before .word-at4 .ensures .0) (c .if4 .taken)
+
+returns-5 : tie.Need-returns-5
+returns-5 c = words-differ _ _ 4 (c .before .before .word-at5 .ensures .0) (c .before .word-at6 .ensures .0) (c .if5 .taken)
+
+returns-6 : tie.Need-returns-6
+returns-6 c = words-last _ _ 8 (omega arith) (omega arith) (c .before .word-at7 .ensures) (c .word-at8 .ensures) (two (c .before .before)) (last (c .before .before .before .before .before .before .before .before))
+
+pub same-id-spec : {M : Type 1} → statement M
+same-id-spec =
+    tie.close
+    (tie.spec (λ c κs. search needs) returns (λ c κs. search needs) returns-2 (λ c κs. search needs)
+    (λ c κs. search needs) returns-3 (λ c κs. search needs) (λ c κs. search needs) returns-4 (λ c κs. search needs)
+    (λ c κs. search needs) returns-5 (λ c κs. search needs) (λ c κs. search needs) returns-6)

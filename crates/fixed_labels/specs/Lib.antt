@@ -1,3 +1,0 @@
-pub mod FixedLabels
-pub mod Checks
-pub mod Statements

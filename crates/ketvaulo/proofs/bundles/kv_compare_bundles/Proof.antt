@@ -1,0 +1,15 @@
+-- `ketvaulo::bundles::kv_compare_bundles` meets its contract.
+-- Assumes nothing.
+use mathlib.Core.Path.{_∙_}
+use Rattle.outcome.specs.Comparisons.{comparisonOutcome}
+use borrow.Author.Needs.{needs}
+use Rattle.ketvaulo.proofs.bundles.kv_compare_bundles.Statement.{statement}
+use Rattle.ketvaulo.proofs.bundles.kv_compare_bundles.Tie as tie
+
+returns : tie.Need-returns
+returns c =
+    let e = c .before .before .before .compare-bundles .ensures in
+    (c .returned .ensures ∙ (λ i. comparisonOutcome (e .0 i) (e .1 .0 i)), e .1 .1)
+
+pub kv-compare-bundles-spec : {M : Type 1} → statement M
+kv-compare-bundles-spec = tie.close (tie.spec (search needs) (search needs) (search needs) returns)

@@ -1,3 +1,0 @@
-pub mod Syntax
-pub mod Internal
-pub mod Statements

@@ -1,0 +1,17 @@
+-- `outcome::slot_tables::returned` meets its contract.
+-- Assumes nothing.
+use mathlib.Core.Path.{_∙_}
+use borrow.Author.Needs.{needs}
+use Rattle.outcome.proofs.slot_tables.returned.Statement.{statement}
+use Rattle.outcome.proofs.slot_tables.returned.Tie as tie
+
+returns : tie.Need-returns
+returns c = c .accepted .ensures ∙ rw (c .before .before .answer .given .1)
+
+returns-2 : tie.Need-returns-2
+returns-2 c = c .refused .ensures ∙ rw (c .before .before .answer2 .given .1)
+
+pub returned-spec : {M : Type 1} → statement M
+returned-spec =
+    tie.close
+    (tie.spec (λ c. search needs) (λ c κs. search needs) (λ c. search needs) (λ c κs. search needs) returns returns-2)

@@ -1,0 +1,26 @@
+-- What the calls on offers return to C, by what they answer: kv_first_round and kv_outcome of include/ketvaulo.h.
+-- Assumes nothing.
+use Prim.Native.Nat.{ℕ}
+use Rattle.offers.specs.Answers.{FirstAnswer, carryOn, ask, RenewedAnswer, accepted}
+use Rattle.outcome.specs.Outcomes.{numberIn, acceptedOutcome, refusedOutcome}
+use Rattle.outcome.specs.declared.Outcome.{Outcome}
+use Rattle.outcome.specs.declared.negotiations.FirstRoundOutcome.{FirstRoundOutcome}
+
+-- kv_first_round: Carry On with the value, Ask with value and position, or the number and zeros
+abbrev pub firstRoundOutcome : FirstAnswer → FirstRoundOutcome
+firstRoundOutcome (carryOn value) = record { refusal = 0; ask = 0; value = value; position = 0 }
+firstRoundOutcome (ask value position) = record { refusal = 0; ask = 1; value = value; position = position }
+firstRoundOutcome (FirstAnswer.refused x) = record { refusal = numberIn x; ask = 0; value = 0; position = 0 }
+
+-- kv_outcome of a renewed list: the choice, or a refusal
+abbrev pub renewedOutcome : RenewedAnswer → Outcome
+renewedOutcome (accepted choice) = acceptedOutcome choice
+renewedOutcome (RenewedAnswer.refused x) = refusedOutcome x
+
+-- ---- what only a contract between functions needs, and nothing that has to be believed
+
+-- the position that a first round's answer holds, and 0 where it holds none
+abbrev pub positionIn : FirstAnswer → ℕ
+positionIn (carryOn value) = 0
+positionIn (ask value position) = position
+positionIn (FirstAnswer.refused x) = 0

@@ -1,0 +1,130 @@
+// Walks through the attributes of a RADIUS packet and tests whether it has the place of a Message-Authentication-Code (request 8;
+// source document 004, section 3.3).
+ghost use mathlib.Core.Path.{_≡_};
+ghost use mathlib.Core.Bool.{_&&_};
+ghost use Prim.Native.Nat.{_+_, _≤_};
+ghost use lib.Dec.{eqb};
+ghost use lib.ListN.{length, drop};
+ghost use Rattle.refusal.specs.Answers.{checkedAs};
+ghost use Rattle.refusal.specs.Checks;
+ghost use Rattle.refusal.specs.Checks.{bare, _andThen_, check20};
+ghost use Rattle.packet_rules.specs.Packet.{lengthHolds, check35, isMac, macAt};
+ghost use Rattle.packet_rules.specs.Mac.{packetCheck};
+ghost use Rattle.packet_mac.specs.Steps.{sizeIn, foundIn, placeAs, placeTo};
+use refusal::Checked;
+use refusal::Refusal;
+
+// What the walk finds: whether every attribute is whole, how many are of the type, and the offset of the first of those, else 0.
+struct Found {
+    whole: bool,
+    count: usize,
+    at: usize,
+}
+
+// Where the MAC's attribute stands in a packet that passes the tests.
+pub enum Place {
+    At(usize),
+    Refused(Refusal),
+}
+
+// The length of the attribute at the start of `bytes`; 0 where it is shorter than 2 or past their end.
+fn size_in(bytes: &[u8]) -> usize
+    ensures { λ r. ⌜ r ≡ sizeIn (now (bytes .entry)) ⌝ }
+{
+    if bytes.len() < 2 {
+        return 0;
+    }
+    let size = bytes[1] as usize;
+    if (2 <= size) & (size <= bytes.len()) {
+        size
+    } else {
+        0
+    }
+}
+
+// The walk through the attributes, left to right: it stops at one that is cut.
+fn find(attribute_type: u8, packet: &[u8]) -> Found
+    ensures { λ r. ⌜ r ≡ foundIn «attribute_type» (now (packet .entry)) ⌝ }
+{
+    let mut at = 20;
+    let mut count = 0;
+    let mut first = 0;
+    while at < packet.len() {
+        let size = size_in(&packet[at..]);
+        if size == 0 {
+            return Found {
+                whole: false,
+                count,
+                at: first,
+            };
+        }
+        if packet[at] == attribute_type {
+            if count == 0 {
+                first = at;
+            }
+            count += 1;
+        }
+        at += size;
+    }
+    Found {
+        whole: true,
+        count,
+        at: first,
+    }
+}
+
+// Whether the packet's length is within the limits and like its header.
+fn length_holds(packet: &[u8]) -> bool
+    ensures { λ r. ⌜ r ≡ lengthHolds (now (packet .entry)) ⌝ }
+{
+    let n = packet.len();
+    if !refusal::in_range(20, 4096, n) {
+        return false;
+    }
+    slices::from_be16(packet[2], packet[3]) as usize == n
+}
+
+// Whether the attribute at the start of `bytes` is 52 long, with a reserved byte 0 and MAC Type 2.
+fn is_mac(bytes: &[u8]) -> bool
+    ensures { λ r. ⌜ r ≡ isMac (now (bytes .entry)) ⌝ }
+{
+    if bytes.len() < 4 {
+        return false;
+    }
+    (bytes[1] == 52) & ((bytes[2] == 0) & (bytes[3] == 2))
+}
+
+// The test of an attribute type.
+fn check_type(attribute_type: u8) -> Checked
+    ensures { λ r. ⌜ checkedAs r ≡ check20 «attribute_type» ⌝ }
+{
+    refusal::unless(attribute_type != 0, Refusal::AttributeType)
+}
+
+// The tests 35, 36 and 37, in this order, of a packet in which the walk found so much.
+fn judge(found: Found, packet: &[u8]) -> Checked
+    requires { ⌜ found .at ≤ length (now packet) ⌝ }
+    ensures { λ r. ⌜ checkedAs r ≡ (check35 (now (packet .entry)) andThen Checks.unless (found .whole) (bare 36) andThen Checks.unless (eqb (found .count) 1 && isMac (drop (found .at) (now (packet .entry)))) (bare 37)) ⌝ }
+{
+    let at = found.at;
+    let one = (found.count == 1) & is_mac(&packet[at..]);
+    let c35 = refusal::unless(length_holds(packet), Refusal::PacketLength);
+    let c36 = refusal::then_check(
+        c35,
+        refusal::unless(found.whole, Refusal::PacketAttributeBounds),
+    );
+    refusal::then_check(c36, refusal::unless(one, Refusal::MacAttribute))
+}
+
+// The tests 1, 20, 35, 36 and 37, in this order: where the MAC's attribute stands, or the first refusal.
+pub(crate) fn mac_place(mac_key: &[u8], attribute_type: u8, packet: &[u8]) -> Place
+    ensures { λ r. ⌜ placeAs r ≡ placeTo (packetCheck (now («mac_key» .entry)) «attribute_type» (now (packet .entry))) (macAt «attribute_type» (now (packet .entry))) ⌝ }
+{
+    let found = find(attribute_type, packet);
+    let at = found.at;
+    let before = refusal::then_check(refusal::check_root_key(mac_key), check_type(attribute_type));
+    match refusal::then_check(before, judge(found, packet)) {
+        Checked::Failed(why) => Place::Refused(why),
+        Checked::Passed => Place::At(at),
+    }
+}

@@ -1,0 +1,17 @@
+-- `sha256_block::round::round` meets its contract: the eight variables, from its callees' answers.
+-- Assumes nothing.
+use Rattle.fips180.specs.Sha256.{round}
+use borrow.Author.Needs.{needs}
+use Rattle.sha256_block.proofs.round.round.Statement.{statement}
+use Rattle.sha256_block.proofs.round.round.Tie as tie
+
+returns : tie.Need-returns
+unfolding round
+returns c = cc
+
+pub round-spec : {M : Type 1} → statement M
+round-spec =
+    tie.close
+    (tie.spec (λ c κs. search needs) (λ c κs. search needs) (λ c κs. search needs) (λ c. search needs)
+    (λ c. search needs) (λ c. search needs) (λ c. search needs) (λ c κs. search needs) (λ c. search needs)
+    (λ c. search needs) (λ c. search needs) returns)

@@ -1,0 +1,22 @@
+-- `slots::tree::gone` meets its contract.
+-- Assumes nothing.
+use borrow.Author.Needs.{needs}
+use mathlib.Core.Path.{_∙_}
+use Rattle.slot_rules.proofs.Digits.{length-mapped}
+use Rattle.slot_rules.proofs.Stored.{Fits, gone-live}
+use Rattle.slots.proofs.tree.gone.Statement.{statement}
+use Rattle.slots.proofs.tree.gone.Tie as tie
+
+-- the slots at entry
+stored : (s : tie.Start) → Fits (s .args .slots)
+stored s = search (needs, length-mapped)
+
+returns : tie.Need-returns
+returns c =
+    let made = c .before .before in
+    let s = made .before .before .before in
+    c .reaching .ensures
+    ∙ gone-live (s .args .slots) (stored s) (s .args .number) (made .all-steps .result) (s .pre) (made .all-steps .ensures)
+
+pub gone-spec : {M : Type 1} → statement M
+gone-spec = tie.close (tie.spec (λ c κs. search needs) (λ c κs. search needs) returns)

@@ -1,0 +1,15 @@
+-- `slots::tree::step_in` meets its contract.
+-- Assumes nothing.
+use borrow.Author.Needs.{needs}
+use borrow.Author.Tests.{lt-ltb, le-ltb}
+use Rattle.slots.proofs.tree.step_in.Statement.{statement}
+use Rattle.slots.proofs.tree.step_in.Tie as tie
+
+returns : tie.Need-returns
+returns c = simp (lt-ltb _ _ (c .before .before .if1 .taken)) (c .wide .ensures)
+
+returns-2 : tie.Need-returns-2
+returns-2 c = simp (le-ltb _ _ (c .if1 .left))
+
+pub step-in-spec : {M : Type 1} → statement M
+step-in-spec = tie.close (tie.spec (λ c. search needs) (λ c κs. search needs) returns returns-2)
