@@ -1,5 +1,4 @@
 -- Steps by look-ups: what the bytes of a column bring to it, each a word of the table, sums up to the mixed column of the bytes that the S-box gives.
--- Assumes nothing.
 use mathlib.Core.Path.{_≡_, sym, ap, ap₂, _∙_}
 use mathlib.Core.List.{List, [], _∷_}
 use Prim.Native.Nat.{ℕ, _<_}

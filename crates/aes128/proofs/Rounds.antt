@@ -1,5 +1,4 @@
 -- A round as the code takes it, a turn of each cipher's loop, and its end. Each lemma is over plain lists, and its premises are what the callees ensure.
--- Assumes nothing.
 use mathlib.Core.Path.{_≡_, sym, ap, ap₂, _∙_}
 use mathlib.Core.List.{List, []}
 use Prim.Native.Nat.{ℕ, zero, suc, _+_, _-_, _<_}

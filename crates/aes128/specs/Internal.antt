@@ -1,6 +1,5 @@
 -- What only the contracts of private functions need. Nothing here has to be believed.
 -- The state as four words of 32 bits, and its sixteen bytes looked up in a table.
--- Assumes nothing.
 use mathlib.Core.Path.{_≡_}
 use mathlib.Core.List.{List, [], _∷_}
 use Prim.Native.Nat.{ℕ, _<_, _/_, _%_}

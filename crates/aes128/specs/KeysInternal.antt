@@ -1,6 +1,5 @@
 -- What only the contracts of private functions need. Nothing here has to be believed.
 -- Each byte of a word doubled in the field of FIPS 197 at once.
--- Assumes nothing.
 use Prim.Native.Nat.{ℕ, _*_, _/_}
 use lib.Bits.{bitAnd, bitXor}
 

@@ -1,5 +1,4 @@
 -- A column of the AES state as one word of 32 bits. Nothing here is of FIPS 197.
--- Assumes nothing.
 use mathlib.Core.List.{List, [], _∷_}
 use Prim.Native.Nat.{ℕ, _+_, _*_, _/_, _%_}
 

@@ -1,5 +1,4 @@
 -- The inverses of all bytes, tested once, so that the tests of the tables take no power again.
--- Assumes nothing.
 use mathlib.Core.Path.{_≡_}
 use mathlib.Core.Bool.{Bool}
 use mathlib.Core.List.{List, [], _∷_}

@@ -1,5 +1,4 @@
 -- The S-box and the inverse S-box, each proved by one test over its whole table that antt computes, and laws that carry the test to every entry.
--- Assumes nothing.
 use mathlib.Core.Path.{_≡_, refl, sym, ap, _∙_, subst}
 use mathlib.Core.Bool.{Bool}
 use Prim.Native.Nat.{ℕ, suc, _<_}

@@ -1,6 +1,5 @@
 -- FIPS 197 section 4: a byte is a polynomial over GF(2), bit i the coefficient of x^i. Sums are exclusive or (4.1, bitXor of the library), products are
 -- taken modulo x^8 + x^4 + x^3 + x + 1 (4.2).
--- Assumes nothing.
 use Prim.Native.Nat.{ℕ, zero, suc, _*_, _/_, _%_}
 use lib.Bits.{bitXor}
 

@@ -1,5 +1,4 @@
 -- FIPS 197 sections 5.1.1 and 5.3.2: the rules of the S-box and of the inverse S-box.
--- Assumes nothing.
 use Prim.Native.Nat.{ℕ, _+_, _-_, _*_, _/_, _%_, _^_}
 use lib.Bits.{bitXor}
 use Rattle.aes_sbox.specs.Field.{mul}

@@ -1,5 +1,4 @@
 -- What is proved of the rules of FIPS 197 and of the tables.
--- Assumes nothing.
 use mathlib.Core.Path.{_≡_}
 use Prim.Native.Nat.{ℕ, suc, _<_}
 use lib.ListN.{getD}

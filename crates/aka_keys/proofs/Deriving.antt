@@ -1,5 +1,4 @@
 -- The texts of the two derivations by their parts, and what the tests of a call come to.
--- Assumes nothing.
 use Prim.Native.Nat.{ℕ}
 use mathlib.Core.Path.{_≡_, refl, sym, ap, _∙_}
 use mathlib.Core.Bool.{Bool, true, _&&_}

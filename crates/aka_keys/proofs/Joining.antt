@@ -1,5 +1,4 @@
 -- Two keys of 16 bytes copied one after the other into 32 bytes.
--- Assumes nothing.
 use Prim.Native.Nat.{ℕ, _-_, _≤_}
 use mathlib.Core.Path.{_≡_, ap, _∙_}
 use mathlib.Core.List.{List, [], _++_, append-nil}

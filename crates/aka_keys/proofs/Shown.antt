@@ -1,5 +1,4 @@
 -- The five keys are the 208 bytes of the key material in their order, and the EMSK is a root key.
--- Assumes nothing.
 use Prim.Native.Nat.{ℕ, _+_, _≤_}
 use mathlib.Core.Path.{_≡_, refl, sym, ap, _∙_}
 use mathlib.Core.List.{List, _++_}

@@ -1,6 +1,5 @@
 -- The keys of EAP-AKA': RFC 5448, section 3.3, as document 02 reads it (request 11). Its PRF' (section 3.4.1) is prf+ with HMAC-SHA-256. Its ranges
 -- count bits; here they count bytes.
--- Assumes nothing.
 use Prim.Native.Nat.{ℕ}
 use mathlib.Core.Bool.{_&&_}
 use mathlib.Core.List.{List, _++_}

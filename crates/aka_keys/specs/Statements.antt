@@ -1,5 +1,4 @@
 -- What is proved of the keys of EAP-AKA' (document 02, request 11). The proofs are in proofs/Shown.antt.
--- Assumes nothing.
 use Prim.Native.Nat.{ℕ}
 use mathlib.Core.Path.{_≡_}
 use mathlib.Core.List.{List, _++_}

@@ -1,6 +1,5 @@
 -- CK' and IK' from CK and IK: 3GPP TS 33.402, Annex A.2, by the key derivation function of TS 33.220, Annex B.2. Numbers are high byte first.
 -- A byte string is a list of numbers.
--- Assumes nothing.
 use Prim.Native.Nat.{ℕ}
 use mathlib.Core.List.{List, _∷_, _++_}
 use lib.ListN.{length, take, drop}

@@ -9,9 +9,9 @@ ghost use Rattle.refusal.specs.Answers.{checkedAs, answerOf, answerTo, bufferAf
 ghost use Rattle.hmac.specs.Rfc2104.{hmacSha256};
 ghost use Rattle.prf_plus.specs.PrfPlus.{prfPlus, expandCheck};
 ghost use Rattle.aka_keys.specs.Rfc5448.{expansionKey, expansionText, inputCheck, akaAnswer, akaBuffer};
+use refusal::Answered;
 use refusal::Checked;
 use refusal::Refusal;
-use refusal::Written;
 
 // The function code of the derivation of CK' and IK'.
 const FC: u8 = 0x20;
@@ -71,7 +71,7 @@ fn put_expansion_key<'a>(ck: &[u8], ik: &[u8], name: &'a [u8], sqn_xor_ak: &'a [
 
 // The expansion to the 208 bytes of the five keys, after the call's own tests. It is a function of its own, so that what it lends shares the
 // stack with what the key's derivation lent.
-fn expanded<'a>(check: Checked, key: &[u8], identity: &'a [u8], out: &mut [u8]) -> Written
+fn expanded<'a>(check: Checked, key: &[u8], identity: &'a [u8], out: &mut [u8]) -> Answered
     ensures answer { λ r. ⌜ answerOf r ≡ answerTo (checkedAs check andThen expandCheck 208 (length (now (out .entry)))) 208 ⌝ }
     ensures buffer { λ _. ⌜ now (out .exit) ≡ bufferAfter (checkedAs check andThen expandCheck 208 (length (now (out .entry)))) 208 (prfPlus hmacSha256 (now (key .entry)) (expansionText (now (identity .entry))) 208) (now (out .entry)) ⌝ }
 {
@@ -86,14 +86,14 @@ pub fn aka_keys<'a>(
     sqn_xor_ak: &'a [u8],
     identity: &'a [u8],
     out: &mut [u8],
-) -> Written
+) -> Answered
     ensures answer { λ r. ⌜ answerOf r ≡ akaAnswer (now (ck .entry)) (now (ik .entry)) (now (name .entry)) (now («sqn_xor_ak» .entry)) (now (identity .entry)) (length (now (out .entry))) ⌝ }
     ensures buffer { λ _. ⌜ now (out .exit) ≡ akaBuffer (now (ck .entry)) (now (ik .entry)) (now (name .entry)) (now («sqn_xor_ak» .entry)) (now (identity .entry)) (now (out .entry)) ⌝ }
 {
     let inputs = check_inputs(ck, ik, name, sqn_xor_ak, identity);
     let check = refusal::then_check(inputs, refusal::check_room(MATERIAL, out.len()));
     match check {
-        Checked::Failed(why) => Written::Refused(why),
+        Checked::Failed(why) => Answered::Refused(why),
         Checked::Passed => {
             let mut key = [0u8; 32];
             put_expansion_key(ck, ik, name, sqn_xor_ak, &mut key);

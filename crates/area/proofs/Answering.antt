@@ -1,5 +1,4 @@
 -- Laws of the call: what it answers and leaves in the buffer, by the chosen way and by what its walk came to.
--- Assumes nothing.
 use Prim.Native.Nat.{ℕ, _≤_, _<_}
 use mathlib.Core.Path.{_≡_, refl, sym}
 use mathlib.Core.Bool.{Bool, true, false, not}

@@ -1,5 +1,4 @@
 -- Laws of the offers that the walk keeps at the start of a buffer: what one attribute more makes of them, and what the end does.
--- Assumes nothing.
 use Prim.Native.Nat.{ℕ, _+_, _≤_, _<_}
 use mathlib.Core.Path.{_≡_, sym, _∙_}
 use mathlib.Core.Bool.{true, false}

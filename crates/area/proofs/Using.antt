@@ -1,5 +1,4 @@
 -- A law for callers: an accepted reading's count is within the buffer that was lent.
--- Assumes nothing.
 use Prim.Native.Nat.{ℕ, _≤_}
 use mathlib.Core.Path.{_≡_, ap}
 use mathlib.Core.Bool.{Bool}

@@ -1,5 +1,4 @@
 -- Laws of the walk: where it has read the area up to an offset, what a step there leaves to be read.
--- Assumes nothing.
 use Prim.Native.Nat.{ℕ}
 use mathlib.Core.Path.{_≡_, refl, ap, _∙_}
 use mathlib.Core.List.{List, [], _∷_}

@@ -1,5 +1,4 @@
 -- What the answer of the call stands for, and the definitions that its contract speaks of, passed on from `area_format`.
--- Assumes nothing.
 use Rattle.refusal.specs.Answers.{reasonOf}
 unfoldable pub use Rattle.area_format.specs.Area.{reading, areaAnswer, areaBuffer}
 pub use Rattle.area_format.specs.Area.{Reading, whole, refusal, AreaAnswer, answered, answerTo}

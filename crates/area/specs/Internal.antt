@@ -1,6 +1,5 @@
 -- What only the contracts of private functions need. Nothing here has to be believed.
 -- What the walk answers, as a reading of the area (area_format/specs/Area.antt).
--- Assumes nothing.
 use Prim.Native.Nat.{ℕ}
 use mathlib.Core.List.{List}
 use lib.ListN.{take}

@@ -1,6 +1,5 @@
 -- What only the contracts of private functions need. Nothing here has to be believed.
 -- Where a field of a name ends.
--- Assumes nothing.
 use Prim.Native.Nat.{ℕ}
 use mathlib.Core.Bool.{Bool, true}
 use mathlib.Core.List.{List, [], _∷_}

@@ -1,6 +1,5 @@
 -- What stands at an offset of the area, for a reader that goes from attribute to attribute (document 01, "Attribute area"): the area's end, an
 -- attribute that is not within the area, after which nothing follows, or an attribute and the offset after it.
--- Assumes nothing.
 use Prim.Native.Nat.{ℕ, _+_}
 use mathlib.Core.Bool.{cond}
 use mathlib.Core.List.{List}

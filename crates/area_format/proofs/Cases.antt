@@ -1,5 +1,4 @@
 -- The worked cases, each by computation.
--- Assumes nothing.
 use mathlib.Core.Path.{refl}
 use Rattle.refusal.specs.Checks.{unless}
 use Rattle.slices.specs.Same.{sameList}

@@ -1,5 +1,4 @@
 -- Two names agree by their fields exactly if they are equal, or one is the other with a colon and more after it. `frontAgrees` compares byte by byte.
--- Assumes nothing.
 use Prim.Native.Nat.{ℕ, zero, suc, _≤_}
 use mathlib.Core.Path.{_≡_, refl, sym, ap, ap₂, _∙_}
 use mathlib.Core.Bool.{Bool, true, false, cond, _&&_}

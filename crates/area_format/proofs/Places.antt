@@ -1,5 +1,4 @@
 -- 16 carries the offset of the attribute that is not within the area: by induction on the bytes that are left to be read.
--- Assumes nothing.
 use Prim.Native.Nat.{ℕ, zero, suc, _+_, _-_, _*_, _<_}
 use mathlib.Core.Path.{_≡_, refl, ap, _∙_}
 use mathlib.Core.Bool.{Bool, true, false, cond}

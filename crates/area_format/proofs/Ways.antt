@@ -1,5 +1,4 @@
 -- The two ways of reading an area, beside each other. The walk itself never refuses by 30.
--- Assumes nothing.
 use Prim.Native.Nat.{ℕ, _+_}
 use mathlib.Core.Path.{_≡_, refl, sym, _∙_}
 use mathlib.Core.Bool.{Bool, true, false, cond}

@@ -1,6 +1,5 @@
 -- The attribute area that carries the offers (document 01, "Attribute area"; RFC 5448 sections 3.1 and 3.2): the attributes that stand
 -- in it, and what reading it answers and leaves in the buffer that is lent for the offers.
--- Assumes nothing.
 use Prim.Native.Nat.{ℕ, zero, suc, _+_, _-_, _*_, _/_}
 use mathlib.Core.Bool.{Bool, true, cond, _&&_}
 use mathlib.Core.List.{List, [], _∷_, _++_}

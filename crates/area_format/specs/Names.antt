@@ -1,6 +1,5 @@
 -- Network names and their fields (RFC 5448, section 3.1; document 02, request 4). RFC 5448: the names are split at colons, the extra fields of the
 -- longer are dropped, and the rest is compared for equality.
--- Assumes nothing.
 use Prim.Native.Nat.{ℕ}
 use mathlib.Core.Bool.{Bool, true, false, cond, _&&_}
 use mathlib.Core.List.{List, [], _∷_}

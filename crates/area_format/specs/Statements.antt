@@ -1,5 +1,4 @@
 -- What is proved of the definitions beyond the worked cases. The proofs are in proofs/.
--- Assumes nothing.
 use Prim.Native.Nat.{ℕ, _<_}
 use mathlib.Core.Path.{_≡_}
 use mathlib.Core.Bool.{Bool, true, false}

@@ -1,5 +1,4 @@
 -- What the comparison answers and leaves, where the kinds of the lines of both files stand in two lists.
--- Assumes nothing.
 use Prim.Native.Nat.{ℕ, _+_, _*_, _≤_, _<_, min}
 use mathlib.Core.Path.{_≡_, refl, sym, ap, _∙_}
 use mathlib.Core.List.{List, _++_}
@@ -8,7 +7,7 @@ use native.Mathlib.Omega.{arith}
 use borrow.Author.Tests.{le-leb, lt-leb}
 use lib.ListN.{length, take, drop, length-append, length-drop}
 use Rattle.refusal.specs.Checks.{Reason, Check, pass, refuse, bare, unless, _andThen_}
-use Rattle.refusal.specs.Answers.{wrote, refused, bufferAfter}
+use Rattle.refusal.specs.Answers.{returned, refused, bufferAfter}
 use Rattle.refusal.proofs.Passing.{before-passed, last-passed, both-pass, first-refuses, second-decides}
 use Rattle.key_frame.proofs.Parts.{next-part}
 use Rattle.bundle_rules.specs.Bundle.{countIn, bodiesOf, bundleCheck}
@@ -151,7 +150,7 @@ module _ (f s ones others : List ℕ) (a b d : ℕ) (k : Counted f s ones others
   pub compared : (out₀ out₁ out₂ : List ℕ) (m n : ℕ) → 17 * (a + b + d) ≤ length out₀
       → (m ≡ 0 + length (written (entriesTo ones f (countIn f)))) × (out₁ ≡ take 0 out₀ ++ (written (entriesTo ones f (countIn f)) ++ drop m out₀))
       → (n ≡ m + length (written (entriesTo others s (countIn s)))) × (out₂ ≡ take m out₁ ++ (written (entriesTo others s (countIn s)) ++ drop n out₁))
-      → (wrote (17 * (a + b + d)) ≡ compareAnswer f s (length out₀)) × ((record { onlyFirst = a; changed = b; onlySecond = d } ≡ compareCounts f s (length out₀)) × (out₂ ≡ compareBuffer f s out₀))
+      → (returned (17 * (a + b + d)) ≡ compareAnswer f s (length out₀)) × ((record { onlyFirst = a; changed = b; onlySecond = d } ≡ compareCounts f s (length out₀)) × (out₂ ≡ compareBuffer f s out₀))
   unfolding compareAnswer compareCounts compareBuffer
   compared out₀ out₁ out₂ m n h e₁ e₂ =
       let x : List ℕ = written (entriesTo ones f (countIn f)) in
@@ -160,7 +159,7 @@ module _ (f s ones others : List ℕ) (a b d : ℕ) (k : Counted f s ones others
       let on = next-part out₀ x y out₁ out₂ m (length y) e (e₁ .1) (rw (e₂ .0) at (e₂ .1)) in
       let end : m + length y ≡ entriesLength f s = omega (arith, bytes-long, size) in
       let bytes : x ++ y ≡ written (entriesIn f s) = sym (written-append (entriesTo ones f (countIn f)) (entriesTo others s (countIn s))) ∙ ap written (joined f s ones others (k .told)) in
-      rw (enough (length out₀) h) (ap wrote size, (tally, rw (end, bytes) at on))
+      rw (enough (length out₀) h) (ap returned size, (tally, rw (end, bytes) at on))
 
 -- ---- a refusal
 

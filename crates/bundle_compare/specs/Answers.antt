@@ -1,7 +1,6 @@
 -- What a comparison of two bundles answers, as the definitions say it (document 02, request 10).
--- Assumes nothing.
 use Prim.Native.Nat.{_*_}
-use Rattle.refusal.specs.Answers.{reasonOf, Answer, wrote, refused}
+use Rattle.refusal.specs.Answers.{reasonOf, Answer, returned, refused}
 use Rattle.compare_rules.specs.Compare.{Tally}
 use Rattle.compare_rules.specs.Statements.{total}
 use Rattle.bundle_compare.specs.declared.Counts.{Counts}
@@ -13,7 +12,7 @@ tallyOf c = record { onlyFirst = c .«only_first»; changed = c .changed; onlySe
 
 -- the length of the list that was written, 17 bytes an entry, or the refusal
 abbrev pub answerIn : Compared → Answer
-answerIn (Listed c) = wrote (17 * total (tallyOf c))
+answerIn (Listed c) = returned (17 * total (tallyOf c))
 answerIn (Refused x) = refused (reasonOf x)
 
 -- the three counts, zeros on a refusal

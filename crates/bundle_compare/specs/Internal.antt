@@ -1,6 +1,5 @@
 -- What only the contracts of private functions need. Nothing here has to be believed.
 -- The entries and the counts of the first lines of a file, whose kinds stand in a list.
--- Assumes nothing.
 use Prim.Native.Nat.{ℕ, zero, suc, _+_}
 use mathlib.Core.Bool.{cond}
 use mathlib.Core.List.{List, [], _++_}

@@ -1,5 +1,4 @@
 -- The tests of a file in their order: what they come to where the first that does not hold is known, and where all before the bodies hold.
--- Assumes nothing.
 use Prim.Native.Nat.{ℕ, _+_, _*_, _≤_, _<_}
 use mathlib.Core.Path.{_≡_}
 use mathlib.Core.Bool.{true, false, _&&_, and-false}

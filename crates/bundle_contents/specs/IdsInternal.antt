@@ -1,5 +1,4 @@
 -- What the contracts of private functions need.
--- Assumes nothing.
 use Prim.Native.Nat.{ℕ, _+_, _<_}
 use mathlib.Core.List.{List}
 use lib.ListN.{getD}

@@ -1,5 +1,4 @@
 -- What the walk through the bodies asks of the lines: each body ends within the file. The tests before it (40, 41) have shown that.
--- Assumes nothing.
 use Prim.Native.Nat.{ℕ, _+_, _≤_}
 use mathlib.Core.List.{List, [], _∷_}
 use lib.ListN.{length}

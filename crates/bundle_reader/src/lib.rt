@@ -7,7 +7,7 @@ ghost use Rattle.refusal.specs.Answers.{answerOf};
 ghost use Rattle.bundle_rules.specs.Bundle.{packedIn, bundleCheck, readAnswer, readBuffer};
 use bundle_contents::check_bundle;
 use bundle_contents::number_at;
-use refusal::Written;
+use refusal::Answered;
 use refusal::put;
 use slices::least;
 
@@ -21,7 +21,7 @@ fn first_offset(file: &[u8]) -> usize
 }
 
 // Reads a bundle: its attributes, packed end to end, go to the start of out.
-pub fn read(file: &[u8], out: &mut [u8]) -> Written
+pub fn read(file: &[u8], out: &mut [u8]) -> Answered
     ensures answer { λ r. ⌜ answerOf r ≡ readAnswer (now (file .entry)) (length (now (out .entry))) ⌝ }
     ensures buffer { λ _. ⌜ now (out .exit) ≡ readBuffer (now (file .entry)) (now (out .entry)) ⌝ }
 {

@@ -1,5 +1,4 @@
 -- A file of 17,410 bytes: 64 attributes of 252.
--- Assumes nothing.
 use Prim.Native.Nat.{ℕ, zero, suc, _≤_}
 use mathlib.Core.Path.{_≡_, refl}
 use mathlib.Core.Bool.{false}

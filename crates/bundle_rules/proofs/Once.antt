@@ -1,5 +1,4 @@
 -- No Key ID stands twice in an accepted file, and none is longer than 17,410 bytes.
--- Assumes nothing.
 use Prim.Native.Nat.{ℕ, zero, suc, _+_, _<_}
 use mathlib.Core.Path.{_≡_, sym, _∙_}
 use mathlib.Core.Bool.{true, false}

@@ -1,5 +1,4 @@
 -- What is written reads back, and what is read, written again, is the same file.
--- Assumes nothing.
 use Prim.Native.Nat.{ℕ, _+_, _≤_}
 use mathlib.Core.Path.{_≡_, refl, sym, ap, _∙_}
 use mathlib.Core.Bool.{true, false, not}
@@ -10,7 +9,7 @@ use lib.ListN.{length, take, drop, length-drop}
 use lib.Seq.{take-at}
 use Rattle.slices.specs.Bytes.{Bytes}
 use Rattle.refusal.specs.Checks.{pass, bare, within}
-use Rattle.refusal.specs.Answers.{wrote}
+use Rattle.refusal.specs.Answers.{returned}
 use Rattle.refusal.proofs.Passing.{within-low, within-high, before-passed, last-passed, test-passed, test-holds, both-pass, within-holds}
 use Rattle.refusal.proofs.Answering.{told-count}
 use Rattle.bundle_rules.specs.Bundle.{contentsEnd, keyIdIn, idRepeats, fileOf, packed, framesCheck, fileLength, packedCheck, writeCheck, writeAnswer, writeBuffer, countIn, bodiesOf, packedIn, bundleCheck, readCheck, readAnswer, readBuffer}
@@ -69,7 +68,7 @@ module _ (attributes : List ℕ) (space : ℕ) (ok : writeCheck attributes space
   unfolding writeBuffer file
   begins buffer n s e = rw (s, ok) (take-at (fileOf (packed attributes)) (drop (fileLength attributes) buffer) n (length-file ∙ e))
 
-  answer-same : (room : ℕ) → length attributes ≤ room → readAnswer file room ≡ wrote (length attributes)
+  answer-same : (room : ℕ) → length attributes ≤ room → readAnswer file room ≡ returned (length attributes)
   unfolding readAnswer
   answer-same room h = rw (reads room h, attributes-read)
 

@@ -1,6 +1,5 @@
 -- A bundle of Key attributes (document 02, request 9): a count (2), for each key a line of Key ID (16), offset from the file's first byte (2) and length (2),
 -- then the attributes, which are the bodies, in the same order, packed with no gap. Numbers stand high byte first.
--- Assumes nothing.
 use Prim.Native.Nat.{ℕ, zero, suc, _+_, _*_}
 use mathlib.Core.Bool.{Bool, true, false, not, cond, _&&_, _||_}
 use mathlib.Core.List.{List, [], _∷_, _++_, map}

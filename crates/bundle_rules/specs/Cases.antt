@@ -1,11 +1,10 @@
 -- Checked cases of request 9: an accepted file, and each refusal of the reader and of the writer.
--- Assumes nothing.
 use Prim.Native.Nat.{ℕ, _-_}
 use mathlib.Core.Path.{_≡_}
 use mathlib.Core.List.{List, [], _∷_, _++_}
 use lib.ListN.{take, replicate, set}
 use Rattle.refusal.specs.Checks.{bare}
-use Rattle.refusal.specs.Answers.{wrote, refused}
+use Rattle.refusal.specs.Answers.{returned, refused}
 use Rattle.keywrap.specs.Rfc3394.{initialValue}
 use Rattle.bundle_rules.specs.Bundle.{fileOf, writeAnswer, readAnswer}
 
@@ -19,7 +18,7 @@ two = fileOf (sample 7 76 ∷ sample 8 84 ∷ [])
 
 abbrev pub ReadCases : Type 0
 ReadCases =
-    (readAnswer two 160 ≡ wrote 160)
+    (readAnswer two 160 ≡ returned 160)
     × (readAnswer two 159 ≡ refused (bare 6))
     -- 39: no byte, one, counts of 0, of 65 and of 256
     × (readAnswer [] 0 ≡ refused (bare 39))
@@ -47,7 +46,7 @@ ReadCases =
 
 abbrev pub WriteCases : Type 0
 WriteCases =
-    (writeAnswer (sample 7 76 ++ sample 8 84) 202 ≡ wrote 202)
+    (writeAnswer (sample 7 76 ++ sample 8 84) 202 ≡ returned 202)
     × (writeAnswer (sample 7 76 ++ sample 8 84) 201 ≡ refused (bare 6))
     × (writeAnswer [] 0 ≡ refused (bare 39))
     × (writeAnswer (sample 7 76 ++ sample 7 84) 0 ≡ refused (bare 42))

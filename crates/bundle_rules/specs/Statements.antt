@@ -1,12 +1,11 @@
 -- What is proved of bundles. The proofs are in proofs/.
--- Assumes nothing.
 use Prim.Native.Nat.{ℕ, _≤_, _<_}
 use mathlib.Core.Path.{_≡_}
 use mathlib.Core.Bool.{false}
 use mathlib.Core.List.{List, _++_}
 use lib.ListN.{length, take, drop}
 use Rattle.refusal.specs.Checks.{bare, pass, refuse}
-use Rattle.refusal.specs.Answers.{wrote}
+use Rattle.refusal.specs.Answers.{returned}
 use Rattle.slices.specs.Bytes.{Bytes}
 use Rattle.key_frame.specs.KeyFrame.{frameCheck}
 use Rattle.bundle_rules.specs.Bundle.{keyIdIn, concat, fileOf, leads, packed, framesCheck, writeAnswer, writeBuffer, lineAt, countIn, bodyOf, bodiesOf, packedIn, bundleCheck, readAnswer, readBuffer}
@@ -32,9 +31,9 @@ FileBack = (file : List ℕ) → Bytes file → bundleCheck file ≡ pass → fi
 abbrev pub WrittenReads : Type 0
 WrittenReads =
     (attributes buffer out : List ℕ) (n : ℕ)
-    → writeAnswer attributes (length buffer) ≡ wrote n
+    → writeAnswer attributes (length buffer) ≡ returned n
     → length attributes ≤ length out
-    → (readAnswer (take n (writeBuffer attributes buffer)) (length out) ≡ wrote (length attributes))
+    → (readAnswer (take n (writeBuffer attributes buffer)) (length out) ≡ returned (length attributes))
     × (readBuffer (take n (writeBuffer attributes buffer)) out ≡ attributes ++ drop (length attributes) out)
 
 -- what is read, written again, is the same file: of the n bytes that the reader writes of a file that it accepts, the writer, lent a buffer with room,
@@ -43,9 +42,9 @@ abbrev pub ReadWrites : Type 0
 ReadWrites =
     (file out buffer : List ℕ) (n : ℕ)
     → Bytes file
-    → readAnswer file (length out) ≡ wrote n
+    → readAnswer file (length out) ≡ returned n
     → length file ≤ length buffer
-    → (writeAnswer (take n (readBuffer file out)) (length buffer) ≡ wrote (length file))
+    → (writeAnswer (take n (readBuffer file out)) (length buffer) ≡ returned (length file))
     × (writeBuffer (take n (readBuffer file out)) buffer ≡ file ++ drop (length file) buffer)
 
 -- no Key ID stands twice in an accepted file

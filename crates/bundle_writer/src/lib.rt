@@ -13,8 +13,8 @@ mod packing; // attributes packed end to end, taken apart and tested
 use crate::packing::body_length;
 use crate::packing::check_packed;
 use bundle_contents::lines_length;
+use refusal::Answered;
 use refusal::Refusal;
-use refusal::Written;
 use slices::be16;
 
 // Copies bytes to out, from index `at` on.
@@ -57,22 +57,22 @@ fn put_lines(attributes: &[u8], contents: usize, out: &mut [u8])
 }
 
 // Writes the bundle of attributes that are packed end to end, and answers its length.
-pub fn write(attributes: &[u8], out: &mut [u8]) -> Written
+pub fn write(attributes: &[u8], out: &mut [u8]) -> Answered
     ensures answer { λ r. ⌜ answerOf r ≡ writeAnswer (now (attributes .entry)) (length (now (out .entry))) ⌝ }
     ensures buffer { λ _. ⌜ now (out .exit) ≡ writeBuffer (now (attributes .entry)) (now (out .entry)) ⌝ }
 {
     match check_packed(attributes) {
-        Written::Refused(why) => Written::Refused(why),
-        Written::Wrote(n) => {
+        Answered::Refused(why) => Answered::Refused(why),
+        Answered::Accepted(n) => {
             let contents = 2 + lines_length(n);
             let size = contents + attributes.len();
             if out.len() < size {
-                return Written::Refused(Refusal::Room);
+                return Answered::Refused(Refusal::Room);
             }
             put_at(&be16(n), 0, out);
             put_lines(attributes, contents, out);
             put_at(attributes, contents, out);
-            Written::Wrote(size)
+            Answered::Accepted(size)
         }
     }
 }

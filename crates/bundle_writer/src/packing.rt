@@ -8,9 +8,9 @@ ghost use Rattle.refusal.specs.Answers.{answerOf, answerTo};
 ghost use Rattle.bundle_rules.specs.Bundle.{keyIdIn, idStands, idRepeats, bodyLength, packed, framesCheck, packedCheck};
 use bundle_contents::same_id;
 use key_frame::check_frame;
+use refusal::Answered;
 use refusal::Checked;
 use refusal::Refusal;
-use refusal::Written;
 
 // The length of the first of the attributes packed in `bytes`: its length byte, or all of them where that leads nowhere.
 pub(crate) fn body_length(bytes: &[u8]) -> usize
@@ -31,7 +31,7 @@ pub(crate) fn body_length(bytes: &[u8]) -> usize
 }
 
 // How many attributes are packed in `bytes`, or the refusal of the first that does not pass.
-fn count_bodies(bytes: &[u8]) -> Written
+fn count_bodies(bytes: &[u8]) -> Answered
     ensures { λ r. ⌜ answerOf r ≡ answerTo (framesCheck (packed (now (bytes .entry)))) (length (packed (now (bytes .entry)))) ⌝ }
 {
     let size = bytes.len();
@@ -41,14 +41,14 @@ fn count_bodies(bytes: &[u8]) -> Written
         let length = body_length(&bytes[at..]);
         let end = at + length;
         match check_frame(&bytes[at..end]) {
-            Checked::Failed(why) => return Written::Refused(why),
+            Checked::Failed(why) => return Answered::Refused(why),
             Checked::Passed => {
                 at = end;
                 n += 1;
             }
         }
     }
-    Written::Wrote(n)
+    Answered::Accepted(n)
 }
 
 // The same of the attribute at an offset, where it passes: its length byte.
@@ -101,22 +101,22 @@ fn id_repeats(bytes: &[u8]) -> bool
 }
 
 // How many attributes are packed in `bytes`, by the writer's tests but that of the room: body by body, then their count and their Key IDs.
-pub(crate) fn check_packed(bytes: &[u8]) -> Written
+pub(crate) fn check_packed(bytes: &[u8]) -> Answered
     ensures { λ r. ⌜ answerOf r ≡ answerTo (packedCheck (now (bytes .entry))) (length (packed (now (bytes .entry)))) ⌝ }
 {
     match count_bodies(bytes) {
-        Written::Refused(why) => Written::Refused(why),
-        Written::Wrote(n) => {
+        Answered::Refused(why) => Answered::Refused(why),
+        Answered::Accepted(n) => {
             if n < 1 {
-                return Written::Refused(Refusal::BundleCount);
+                return Answered::Refused(Refusal::BundleCount);
             }
             if 64 < n {
-                return Written::Refused(Refusal::BundleCount);
+                return Answered::Refused(Refusal::BundleCount);
             }
             if id_repeats(bytes) {
-                return Written::Refused(Refusal::RepeatedKeyId);
+                return Answered::Refused(Refusal::RepeatedKeyId);
             }
-            Written::Wrote(n)
+            Answered::Accepted(n)
         }
     }
 }

@@ -1,5 +1,4 @@
 -- The checked cases, computed from the definitions.
--- Assumes nothing.
 use mathlib.Core.Path.{refl}
 use borrow.Author.Tests.{le-leb}
 use lib.ListN.{length}

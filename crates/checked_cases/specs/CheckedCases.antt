@@ -1,13 +1,12 @@
 -- Document 01, "Checked cases": the rows P1 to P14, each with the paper's input and result, over the definitions that the contracts cite. The proof is
 -- `checked-cases` of proofs/CheckedCases.antt.
--- Assumes nothing.
 use Prim.Native.Nat.{ℕ, _≤_}
 use mathlib.Core.Path.{_≡_}
 use mathlib.Core.List.{List, [], _∷_}
 use lib.ListN.{length, getD}
 use Rattle.slices.specs.Ascii.{ascii}
 use Rattle.refusal.specs.Checks.{bare, pass, _andThen_, check20}
-use Rattle.refusal.specs.Answers.{Answer, wrote}
+use Rattle.refusal.specs.Answers.{Answer, returned}
 use Rattle.requests.specs.Requests.{forUsage, textOf, inputOf}
 use Rattle.offer_rules.specs.Answers.{FirstAnswer, carryOn, ask, firstRound, serverAnswer, serverBuffer, RenewedAnswer, renewedAnswer}
 use Rattle.key_frame.specs.KeyFrame.{check22}
@@ -39,7 +38,7 @@ pub record CheckedCases : Type 0 where
   -- server 2,1; reply 1: 1,2,1, here in a buffer of four values, whose last stays; and the count 3
   pub p10 :
       (a b c d : ℕ)
-      → (serverAnswer (2 ∷ 1 ∷ []) 1 (a ∷ b ∷ c ∷ d ∷ []) ≡ wrote 3)
+      → (serverAnswer (2 ∷ 1 ∷ []) 1 (a ∷ b ∷ c ∷ d ∷ []) ≡ returned 3)
       × (serverBuffer (2 ∷ 1 ∷ []) 1 (a ∷ b ∷ c ∷ d ∷ []) ≡ 1 ∷ 2 ∷ 1 ∷ d ∷ [])
   -- server 2,1; reply 2: 13
   pub p11 : (buffer : List ℕ) → serverAnswer (2 ∷ 1 ∷ []) 2 buffer ≡ Answer.refused (bare 13)
@@ -53,5 +52,5 @@ pub record CheckedCases : Type 0 where
       → (check20 (f .«attribute_type») andThen check21 (f .«kek_id») (f .«key_id») andThen check22 kek) ≡ pass
       → (length key ≡ 192
       → 252 ≤ length buffer
-      → (writeAnswer f kek key (length buffer) ≡ wrote 252) × (getD (writeBuffer f kek key buffer) 1 0 ≡ 252))
+      → (writeAnswer f kek key (length buffer) ≡ returned 252) × (getD (writeBuffer f kek key buffer) 1 0 ≡ 252))
       × (length key ≡ 200 → writeAnswer f kek key (length buffer) ≡ Answer.refused (bare 23))

@@ -1,5 +1,4 @@
 -- The checked cases of request 10, computed from the definitions.
--- Assumes nothing.
 use mathlib.Core.Path.{refl}
 use Rattle.refusal.specs.Checks.{unless, _andThen_, within}
 use Rattle.slices.specs.Same.{sameList}

@@ -1,5 +1,4 @@
 -- Each Key ID that differs is listed exactly once, with its kind and in its place, and none that agrees.
--- Assumes nothing.
 use Prim.Native.Nat.{ℕ, _+_}
 use mathlib.Core.Path.{_≡_, refl, sym, ap, _∙_}
 use mathlib.Core.Bool.{Bool, true, false, not, cond}

@@ -1,5 +1,4 @@
 -- What a bundle has for a Key ID, where no Key ID stands twice.
--- Assumes nothing.
 use Prim.Native.Nat.{ℕ}
 use mathlib.Core.Path.{_≡_, refl, sym, _∙_}
 use mathlib.Core.Bool.{Bool, true, false, cond, _||_}

@@ -1,5 +1,4 @@
 -- How often a Key ID stands in a list, and in the part of it that passes a test.
--- Assumes nothing.
 use Prim.Native.Nat.{ℕ, _+_}
 use mathlib.Core.Path.{_≡_, refl}
 use mathlib.Core.Bool.{Bool, true, false, cond, _||_}

@@ -1,5 +1,4 @@
 -- The entries of either bundle: their Key IDs, and the kind of each.
--- Assumes nothing.
 use Prim.Native.Nat.{ℕ}
 use mathlib.Core.Path.{_≡_, refl, ap, _∙_}
 use mathlib.Core.Bool.{Bool, true, false, not, cond}

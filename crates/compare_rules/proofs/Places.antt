@@ -1,5 +1,4 @@
 -- The comparison over lines is the one over attributes, for accepted files: one law for a search, and one for each step of a walk through the lines.
--- Assumes nothing.
 use Prim.Native.Nat.{ℕ, zero, suc, _+_, _-_, _<_}
 use mathlib.Core.Path.{_≡_, refl, ap, _∙_}
 use mathlib.Core.Bool.{Bool, true, false, cond}

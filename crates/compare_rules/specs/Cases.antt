@@ -1,11 +1,10 @@
 -- Checked cases of document 02, request 10.
--- Assumes nothing.
 use Prim.Native.Nat.{ℕ}
 use mathlib.Core.Path.{_≡_}
 use mathlib.Core.List.{List, [], _∷_, _++_}
 use lib.ListN.{replicate, set}
 use Rattle.refusal.specs.Checks.{bare}
-use Rattle.refusal.specs.Answers.{wrote, refused}
+use Rattle.refusal.specs.Answers.{returned, refused}
 use Rattle.bundle_rules.specs.Bundle.{fileOf}
 use Rattle.bundle_rules.specs.Cases.{sample}
 use Rattle.compare_rules.specs.Compare.{compareAnswer, compareBuffer, compareCounts}
@@ -19,14 +18,14 @@ after = fileOf (sample 9 76 ∷ sample 8 76 ∷ sample 7 76 ∷ set (sample 6 76
 
 abbrev pub CompareCases : Type 0
 CompareCases =
-    (compareAnswer before after 68 ≡ wrote 68)
+    (compareAnswer before after 68 ≡ returned 68)
     × (compareBuffer before after (replicate 70 255)
     ≡ (1 ∷ replicate 16 5) ++ ((2 ∷ replicate 16 6) ++ ((2 ∷ replicate 16 8) ++ ((3 ∷ replicate 16 9) ++ (255 ∷ 255 ∷ [])))))
     × (compareCounts before after 68 ≡ record { onlyFirst = 1; changed = 2; onlySecond = 1 })
     × (compareAnswer before after 67 ≡ refused (bare 6))
     × (compareCounts before after 67 ≡ record { onlyFirst = 0; changed = 0; onlySecond = 0 })
     -- nothing to list needs no room
-    × (compareAnswer after after 0 ≡ wrote 0)
+    × (compareAnswer after after 0 ≡ returned 0)
     -- the first bundle's refusal before the second's
     × (compareAnswer (set before 1 0) [] 68 ≡ refused (bare 39))
     × (compareAnswer before (0 ∷ 1 ∷ []) 0 ≡ refused (bare 40))

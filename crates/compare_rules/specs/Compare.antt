@@ -1,7 +1,6 @@
 -- What changed between two bundles (document 02, request 10): entries of a kind (1) and a Key ID (16).
 -- 1: only in the first;  2: in both, and the attributes differ;  3: only in the second. The first two come mixed in the first bundle's order, then
 -- the third in the second's.
--- Assumes nothing.
 use Prim.Native.Nat.{ℕ, _+_, _*_}
 use mathlib.Core.Bool.{cond}
 use mathlib.Core.List.{List, [], _∷_, _++_}

@@ -1,5 +1,4 @@
 -- The comparison as code makes it, over the lines of the two files: a Key ID is looked for in the lines, and a body is the part of the file that its line names.
--- Assumes nothing.
 use Prim.Native.Nat.{ℕ, zero, suc, min}
 use mathlib.Core.Bool.{cond}
 use mathlib.Core.List.{List, [], _∷_, _++_}

@@ -1,5 +1,4 @@
 -- What is proved of comparing two bundles. The proofs are in proofs/.
--- Assumes nothing.
 use Prim.Native.Nat.{ℕ, zero, suc, _+_, _*_}
 use mathlib.Core.Path.{_≡_}
 use mathlib.Core.Bool.{Bool, true, false, not, cond}
@@ -7,7 +6,7 @@ use mathlib.Core.List.{List, [], _∷_, _++_, map, List·Memᴰ}
 use lib.Dec.{eqb}
 use lib.ListN.{length, drop, getD}
 use Rattle.refusal.specs.Checks.{pass}
-use Rattle.refusal.specs.Answers.{wrote}
+use Rattle.refusal.specs.Answers.{returned}
 use Rattle.slices.specs.Same.{sameList}
 use Rattle.bundle_rules.specs.Bundle.{keyIdIn, idStands, bodiesOf, bundleCheck}
 use Rattle.compare_rules.specs.Compare.{Found, missing, found, lookup, Entry, entriesIn, compareAnswer, compareBuffer, Tally, compareCounts}
@@ -78,7 +77,7 @@ total c = c .onlyFirst + c .changed + c .onlySecond
 abbrev pub Counts : Type 0
 Counts =
     (first second out : List ℕ) (n : ℕ) (c : Tally)
-    → compareAnswer first second (length out) ≡ wrote n
+    → compareAnswer first second (length out) ≡ returned n
     → compareCounts first second (length out) ≡ c
     → (n ≡ 17 * total c)
     × (c .onlyFirst ≡ kindsIn 1 (total c) (compareBuffer first second out))

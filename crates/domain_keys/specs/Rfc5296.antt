@@ -1,6 +1,5 @@
 -- The re-authentication root key of a domain, the rRK: RFC 5296, section 4.1, as document 02 reads it (request 6). Its parent, the domain root key,
 -- is a request under the EMSK: `forDomain` of the crate requests' specs/Requests.antt.
--- Assumes nothing.
 use Prim.Native.Nat.{ℕ}
 use mathlib.Core.List.{List, _∷_, _++_}
 use lib.Dec.{eqb}

@@ -7,9 +7,9 @@ ghost use Rattle.refusal.specs.Answers.{checkedAs, answerOf};
 ghost use Rattle.labels.specs.IdentifiersChecks.{check8};
 ghost use Rattle.requests.specs.Requests.{forDomain, requestAnswer, requestBuffer};
 ghost use Rattle.domain_keys.specs.Rfc5296.{rrkAnswer, rrkBuffer};
+use refusal::Answered;
 use refusal::Checked;
 use refusal::Refusal;
-use refusal::Written;
 
 // The tests of a domain root key that come before those of the expansion: 1, 8.
 fn check_inputs(emsk: &[u8], domain: &[u8]) -> Checked
@@ -21,7 +21,7 @@ fn check_inputs(emsk: &[u8], domain: &[u8]) -> Checked
 }
 
 // Writes the root key of a domain, the DSRK: its text is that of a usage key with a fixed label, the domain as data and n = 64.
-pub fn domain_root_key<'a>(emsk: &[u8], domain: &'a [u8], out: &mut [u8]) -> Written
+pub fn domain_root_key<'a>(emsk: &[u8], domain: &'a [u8], out: &mut [u8]) -> Answered
     ensures answer { λ r. ⌜ answerOf r ≡ requestAnswer (now (emsk .entry)) (forDomain (now (domain .entry)) (length (now (out .entry)))) ⌝ }
     ensures buffer { λ _. ⌜ now (out .exit) ≡ requestBuffer (now (emsk .entry)) (forDomain (now (domain .entry)) (length (now (out .entry)))) (now (out .entry)) ⌝ }
 {
@@ -31,7 +31,7 @@ pub fn domain_root_key<'a>(emsk: &[u8], domain: &'a [u8], out: &mut [u8]) -> Wri
 }
 
 // Writes the re-authentication root key under a domain root key, which has exactly 64 bytes.
-pub fn domain_reauth_key(dsrk: &[u8], out: &mut [u8]) -> Written
+pub fn domain_reauth_key(dsrk: &[u8], out: &mut [u8]) -> Answered
     ensures answer { λ r. ⌜ answerOf r ≡ rrkAnswer (now (dsrk .entry)) (length (now (out .entry))) ⌝ }
     ensures buffer { λ _. ⌜ now (out .exit) ≡ rrkBuffer (now (dsrk .entry)) (now (out .entry)) ⌝ }
 {

@@ -1,6 +1,5 @@
 -- What the code of a hash in progress computes, over any compression: bytes that leave the block short of full, bytes that fill it, and a
 -- message hashed at once.
--- Assumes nothing.
 use mathlib.Core.Path.{_≡_, refl, sym, ap, _∙_}
 use mathlib.Core.Bool.{Bool, true, false, cond}
 use mathlib.Core.List.{List, [], _∷_, _++_}

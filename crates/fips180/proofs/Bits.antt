@@ -1,5 +1,4 @@
 -- The functions Ch and Maj of FIPS 180-4 with one `and`, Maj as a sum, and two functions of three words that agree on digits agree.
--- Assumes nothing.
 use mathlib.Core.Path.{_≡_, refl, sym, ap, _∙_, subst}
 use Prim.Native.Nat.{ℕ, zero, suc, _+_, _-_, _*_, _/_, _%_, _^_, _<_}
 use native.Mathlib.Nat.{mod-lt, mod-eq-of-lt, pow-suc}

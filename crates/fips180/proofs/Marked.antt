@@ -1,6 +1,5 @@
 -- A hash that stands at a block's start and takes a whole message at once, over any compression: the message's whole blocks, and its last bytes x in
 -- a block of their own, with the bit 1 and zeros after them.
--- Assumes nothing.
 use mathlib.Core.Path.{_≡_, refl, sym, ap, _∙_}
 use mathlib.Core.List.{List, [], _∷_, _++_}
 use Prim.Native.Nat.{ℕ, suc, _+_, _-_, _*_, _/_, _%_, _^_, _<_, _≤_}

@@ -1,5 +1,4 @@
 -- The padding of FIPS 180-4, 5.1.1, as the standard puts it: the zeros are the fewest that let the length end a block.
--- Assumes nothing.
 use mathlib.Core.Path.{_≡_, ap, _∙_}
 use mathlib.Core.List.{List}
 use Prim.Native.Nat.{ℕ, suc, _+_, _-_, _*_, _%_, _^_, _≤_}

@@ -1,6 +1,5 @@
 -- Laws of the rotation of a word: it is taken apart into its two halves. The rotation of a sum without carry and of an `and`, a rotation of a
 -- rotation, and the rotation to the left by 30 bits, which SHA-1's code leaves to the uses of a word.
--- Assumes nothing.
 use mathlib.Core.Path.{_≡_, refl, sym, ap, ap₂, _∙_, subst}
 use Prim.Native.Nat.{ℕ, _+_, _-_, _*_, _/_, _%_, _^_, _<_, _≤_}
 use native.Mathlib.Nat.{add-mul, mul-assoc, add-assoc, add-comm, suc-mul, mod-lt, lt-of-le-of-lt, mul-le-mul-right}

@@ -1,5 +1,4 @@
 -- The words of a message schedule, by any rule of the next word: each is what the rule gives by the words before it, and stays.
--- Assumes nothing.
 use mathlib.Core.Path.{_≡_, refl, sym, ap, _∙_}
 use mathlib.Core.List.{List, [], _∷_, _++_}
 use Prim.Native.Nat.{ℕ, zero, suc, _<_}

@@ -1,5 +1,4 @@
 -- The function and the constant of SHA-1's round t: the standard's four cases.
--- Assumes nothing.
 use mathlib.Core.Path.{_≡_}
 use Prim.Native.Nat.{ℕ, _<_, _≤_}
 use native.Mathlib.Omega.{arith}

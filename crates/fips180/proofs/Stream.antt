@@ -1,6 +1,5 @@
 -- A hash in progress, over any compression: what absorbing a run of bytes does to it, and that its digest is the standard's hash.
 -- A run is taken byte by byte within a block, and block by block from a block's start.
--- Assumes nothing.
 use mathlib.Core.Path.{_≡_, refl, sym, ap, _∙_, subst}
 use mathlib.Core.Bool.{Bool, true, false, cond}
 use mathlib.Core.List.{List, [], _∷_, _++_, append-nil}

@@ -1,6 +1,5 @@
 -- The window of a schedule, by any rule that gives a word from four of the sixteen before it: its words, the first window, and the next one,
 -- which is written over it word by word.
--- Assumes nothing.
 use mathlib.Core.Bool.{cond}
 use mathlib.Core.List.{List, [], _∷_}
 use mathlib.Core.Path.{_≡_, refl, sym, ap, _∙_}

@@ -1,6 +1,5 @@
 -- FIPS 180-4: the padding of a message, its blocks and its hash, for any compression of blocks of 64 bytes, and the words of a block's
 -- schedule, for any rule of the next word. Messages are whole bytes.
--- Assumes nothing.
 use mathlib.Core.List.{List, [], _∷_, _++_}
 use Prim.Native.Nat.{ℕ, zero, suc, _+_, _-_, _*_, _/_, _%_, _^_}
 use lib.ListN.{length, take, drop, replicate}

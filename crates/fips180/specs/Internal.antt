@@ -1,5 +1,5 @@
 -- What only the contracts of private functions need. Nothing here has to be believed.
--- The last hash value of a message, from its last bytes, and the block that these begin. Assumes nothing.
+-- The last hash value of a message, from its last bytes, and the block that these begin.
 use mathlib.Core.List.{List, _∷_, _++_}
 use Prim.Native.Nat.{ℕ, _-_, _*_, _/_}
 use lib.ListN.{length, drop, replicate}

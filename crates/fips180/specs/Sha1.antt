@@ -1,6 +1,6 @@
 -- FIPS 180-4 (Secure Hash Standard): SHA-1, in the standard's own order and with its section numbers.
 -- A word is a number below 2 ^ 32 and a byte one below 256; a block is a list of 64 bytes, a hash value a list of five words.
--- Messages are whole bytes. Assumes nothing.
+-- Messages are whole bytes.
 use mathlib.Core.Bool.{cond}
 use mathlib.Core.List.{List, [], _∷_, _++_}
 use Prim.Native.Nat.{ℕ, zero, suc, _+_, _-_, _%_, _^_}

@@ -1,4 +1,4 @@
--- What is proved of the definitions of FIPS 180-4. Assumes nothing.
+-- What is proved of the definitions of FIPS 180-4.
 use mathlib.Core.Path.{_≡_}
 use mathlib.Core.List.{List, _++_}
 use Prim.Native.Nat.{ℕ, _+_, _-_, _%_, _<_, _≤_}

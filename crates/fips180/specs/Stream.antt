@@ -1,5 +1,5 @@
 -- A hash in progress: what absorbing bytes does to it, one byte at a time, and the digest of all that was absorbed, for any compression of
--- blocks of 64 bytes. `StreamIsHash` of Statements.antt says that the digest is the standard's. Assumes nothing.
+-- blocks of 64 bytes. `StreamIsHash` of Statements.antt says that the digest is the standard's.
 use mathlib.Core.List.{List, [], _∷_}
 use mathlib.Core.Bool.{Bool, cond}
 use Prim.Native.Nat.{ℕ, _+_, _%_, _^_}

@@ -1,5 +1,5 @@
 -- The window of a message schedule: the code of both hashes keeps sixteen words and writes the next sixteen over them. Nothing of it stands in
--- the standard. Assumes nothing.
+-- the standard.
 use mathlib.Core.List.{List, [], _∷_}
 use Prim.Native.Nat.{ℕ, _+_}
 

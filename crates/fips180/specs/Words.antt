@@ -1,5 +1,5 @@
 -- FIPS 180-4 (Secure Hash Standard): what it says of words for SHA-1 and SHA-256 alike, with its section numbers.
--- A word is a number below 2 ^ 32 and a byte one below 256. Assumes nothing.
+-- A word is a number below 2 ^ 32 and a byte one below 256.
 use mathlib.Core.List.{List}
 use Prim.Native.Nat.{ℕ, _+_, _-_, _*_, _/_, _%_, _^_}
 use lib.Bits.{bitAnd, bitOr, bitXor}

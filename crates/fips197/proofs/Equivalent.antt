@@ -1,6 +1,5 @@
 -- The equivalent inverse cipher of FIPS 197, section 5.3.5, is the inverse cipher, under round keys of which InvMixColumns is taken: for
 -- InvMixColumns of a sum is the sum of InvMixColumns.
--- Assumes nothing.
 use mathlib.Core.Path.{_≡_, refl, sym, ap, _∙_}
 use mathlib.Core.List.{List, [], _∷_}
 use Prim.Native.Nat.{ℕ, zero, suc, _≤_, _<_}

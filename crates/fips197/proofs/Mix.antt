@@ -1,5 +1,4 @@
 -- The column mixing and its inverse undo each other.
--- Assumes nothing.
 use mathlib.Core.Path.{_≡_, refl, sym, ap, ap₂, _∙_}
 use Prim.Native.Nat.{ℕ, zero, suc, _*_, _/_, _%_, _<_}
 use native.Mathlib.Nat.{add-zero, zero-lt-suc, zero-mul, one-mul}

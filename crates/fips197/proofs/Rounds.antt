@@ -1,6 +1,5 @@
 -- The cipher and the inverse cipher undo each other, both ways, under round keys of sixteen bytes each, and those of any key are such.
 -- Each step undoes its inverse; so does a round, where the steps of the inverse cipher are grouped from one look-up to the next; and so do the ten.
--- Assumes nothing.
 use mathlib.Core.Path.{_≡_, refl, sym, ap, _∙_, subst}
 use mathlib.Core.List.{List, []}
 use Prim.Native.Nat.{ℕ, zero, suc, _<_}

@@ -1,5 +1,4 @@
 -- Each step of a round keeps a state of sixteen bytes one, and the steps undo each other, both ways.
--- Assumes nothing.
 use mathlib.Core.Path.{_≡_, refl}
 use mathlib.Core.List.{List}
 use Prim.Native.Nat.{ℕ, zero, suc, _*_, _/_, _%_, _<_}

@@ -1,6 +1,5 @@
 -- FIPS 197 sections 5.1 and 5.3: the cipher, the inverse cipher and the equivalent inverse cipher of AES-128 (Nr = 10), under the round
 -- keys ks, counted from 0.
--- Assumes nothing.
 use mathlib.Core.List.{List, [], _∷_}
 use Prim.Native.Nat.{ℕ, zero, suc}
 use lib.ListN.{getD}

@@ -1,5 +1,4 @@
 -- FIPS 197 section 5.2: the key expansion for a key of 128 bits (Nk = 4). The words w[4n] to w[4n + 3] of the document are the columns of round key n.
--- Assumes nothing.
 use mathlib.Core.List.{List, [], _∷_}
 use Prim.Native.Nat.{ℕ, zero, suc}
 use lib.Bits.{bitXor}

@@ -1,5 +1,4 @@
 -- FIPS 197 section 3.4, the state, and the steps of a round: 5.1.1 to 5.1.4, and their inverses 5.3.1 to 5.3.3.
--- Assumes nothing.
 use mathlib.Core.List.{List, [], _∷_}
 use Prim.Native.Nat.{ℕ, _<_}
 use lib.Bits.{bitXor}

@@ -1,5 +1,4 @@
 -- What is proved of the definitions of FIPS 197.
--- Assumes nothing.
 use mathlib.Core.Path.{_≡_}
 use mathlib.Core.List.{List, []}
 use Prim.Native.Nat.{ℕ, _<_}

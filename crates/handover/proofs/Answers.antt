@@ -1,5 +1,4 @@
 -- What a call's tests say of the room, and what its buffer is after bytes were copied to its start.
--- Assumes nothing.
 use Prim.Native.Nat.{ℕ, _≤_}
 use mathlib.Core.Path.{_≡_, ap, _∙_}
 use mathlib.Core.List.{List, [], _++_, append-nil}

@@ -1,5 +1,5 @@
 -- What only the contracts of private functions need. Nothing here has to be believed.
--- The texts that two iterations of the KDF are made of. Assumes nothing.
+-- The texts that two iterations of the KDF are made of.
 use mathlib.Core.List.{List}
 use Prim.Native.Nat.{ℕ, _≤_}
 use lib.ListN.{length}

@@ -28,9 +28,9 @@ use crate::texts::name_text;
 use crate::texts::r0_text;
 use crate::texts::r1_text;
 use hmac_sha1::Keyed;
+use refusal::Answered;
 use refusal::Checked;
 use refusal::Refusal;
-use refusal::Written;
 use sha1_block::compress_blocks;
 
 // The number of bytes in an rRK, in an R0-Key or R1-Key, and in an R0Name.
@@ -98,50 +98,50 @@ fn derive(key: &[u8], text: &mut [u8], out: &mut [u8])
 }
 
 // Writes the R0-Key of an access domain and a handheld under an rRK: 32 bytes at the start of out.
-pub fn r0_key(rrk: &[u8], ad_id: &[u8], spa: &[u8], out: &mut [u8]) -> Written
+pub fn r0_key(rrk: &[u8], ad_id: &[u8], spa: &[u8], out: &mut [u8]) -> Answered
     ensures answer { λ r. ⌜ answerOf r ≡ answerTo (r0Check (now (rrk .entry)) (now («ad_id» .entry)) (now (spa .entry)) (length (now (out .entry)))) 32 ⌝ }
     ensures buffer { λ _. ⌜ now (out .exit) ≡ bufferAfter (r0Check (now (rrk .entry)) (now («ad_id» .entry)) (now (spa .entry)) (length (now (out .entry)))) 32 (r0Key (now (rrk .entry)) (now («ad_id» .entry)) (now (spa .entry))) (now (out .entry)) ⌝ }
 {
     let ids = (ad_id.len() == ID) & (spa.len() == SPA);
     match check_call(rrk.len() == RRK, ids, KEY, out.len()) {
-        Checked::Failed(why) => Written::Refused(why),
+        Checked::Failed(why) => Answered::Refused(why),
         Checked::Passed => {
             let mut text = r0_text(id(ad_id), address(spa));
             derive(&rrk[..KEY], &mut text, out);
-            Written::Wrote(KEY)
+            Answered::Accepted(KEY)
         }
     }
 }
 
 // Writes the R1-Key of an access node and a handheld under an R0-Key: 32 bytes at the start of out.
-pub fn r1_key(r0_key: &[u8], ad_id: &[u8], an_id: &[u8], spa: &[u8], out: &mut [u8]) -> Written
+pub fn r1_key(r0_key: &[u8], ad_id: &[u8], an_id: &[u8], spa: &[u8], out: &mut [u8]) -> Answered
     ensures answer { λ r. ⌜ answerOf r ≡ answerTo (r1Check (now («r0_key» .entry)) (now («ad_id» .entry)) (now («an_id» .entry)) (now (spa .entry)) (length (now (out .entry)))) 32 ⌝ }
     ensures buffer { λ _. ⌜ now (out .exit) ≡ bufferAfter (r1Check (now («r0_key» .entry)) (now («ad_id» .entry)) (now («an_id» .entry)) (now (spa .entry)) (length (now (out .entry)))) 32 (r1Key (now («r0_key» .entry)) (now («ad_id» .entry)) (now («an_id» .entry)) (now (spa .entry))) (now (out .entry)) ⌝ }
 {
     let ids = (ad_id.len() == ID) & (an_id.len() == ID) & (spa.len() == SPA);
     match check_call(r0_key.len() == KEY, ids, KEY, out.len()) {
-        Checked::Failed(why) => Written::Refused(why),
+        Checked::Failed(why) => Answered::Refused(why),
         Checked::Passed => {
             let mut text = r1_text(id(ad_id), id(an_id), address(spa));
             derive(r0_key, &mut text, out);
-            Written::Wrote(KEY)
+            Answered::Accepted(KEY)
         }
     }
 }
 
 // Writes the R0Name of an R0-Key: 16 bytes at the start of out.
-pub fn r0_name<'a>(r0_key: &'a [u8], ad_id: &'a [u8], spa: &'a [u8], out: &mut [u8]) -> Written
+pub fn r0_name<'a>(r0_key: &'a [u8], ad_id: &'a [u8], spa: &'a [u8], out: &mut [u8]) -> Answered
     ensures answer { λ r. ⌜ answerOf r ≡ answerTo (r0NameCheck (now («r0_key» .entry)) (now («ad_id» .entry)) (now (spa .entry)) (length (now (out .entry)))) 16 ⌝ }
     ensures buffer { λ _. ⌜ now (out .exit) ≡ bufferAfter (r0NameCheck (now («r0_key» .entry)) (now («ad_id» .entry)) (now (spa .entry)) (length (now (out .entry)))) 16 (r0Name (now («r0_key» .entry)) (now («ad_id» .entry)) (now (spa .entry))) (now (out .entry)) ⌝ }
 {
     let ids = (ad_id.len() == ID) & (spa.len() == SPA);
     match check_call(r0_key.len() == KEY, ids, NAME, out.len()) {
-        Checked::Failed(why) => Written::Refused(why),
+        Checked::Failed(why) => Answered::Refused(why),
         Checked::Passed => {
             let text = name_text(id(ad_id), address(spa));
             let hash = sha256::digest_of_two(r0_key, &text);
             bytes::copy(&hash[..NAME], out);
-            Written::Wrote(NAME)
+            Answered::Accepted(NAME)
         }
     }
 }

@@ -1,5 +1,4 @@
 -- What acceptance says of a request: the lengths of its identifiers.
--- Assumes nothing.
 use Prim.Native.Nat.{ℕ}
 use mathlib.Core.Path.{_≡_}
 use mathlib.Core.Bool.{true, _&&_}

@@ -1,6 +1,5 @@
 -- Requests with different identifiers hand different bytes to HMAC. The first two bytes of an input give the iteration; one label has one length, and
 -- so the contexts stand in the same place; the lengths of the identifiers take these apart.
--- Assumes nothing.
 use Prim.Native.Nat.{ℕ, _≤_, _%_}
 use mathlib.Core.Path.{_≡_, refl, sym, ap, _∙_}
 use mathlib.Core.List.{List, _++_}

@@ -1,5 +1,4 @@
 -- A handover key is made of the MACs of its inputs, and some requests are accepted.
--- Assumes nothing.
 use Prim.Native.Nat.{ℕ}
 use mathlib.Core.Path.{_≡_, refl, ap, _∙_}
 use mathlib.Core.List.{List, _++_}

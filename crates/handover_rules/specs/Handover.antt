@@ -1,6 +1,5 @@
 -- The handover keys of source document 003, sections 4.2 and 4.3, as document 02 reads it (request 2): R0-Key, R1-Key and R0Name, and the tests of
 -- their calls. AD-ID and AN-ID are the identifiers of an access domain and of an access node, SPA is the supplicant's link layer address.
--- Assumes nothing.
 use Prim.Native.Nat.{ℕ}
 use mathlib.Core.Bool.{Bool, _&&_}
 use mathlib.Core.List.{List, _++_}

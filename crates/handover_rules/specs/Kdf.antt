@@ -1,6 +1,5 @@
 -- The key derivation function of source document 003, section 5, which that document takes from IEEE 802.11r, over any MAC whose result has 160
 -- bits. A byte string is a list of numbers.
--- Assumes nothing.
 use Prim.Native.Nat.{ℕ, zero, suc, _+_, _/_, _%_, _^_}
 use mathlib.Core.List.{List, [], _∷_, _++_}
 use lib.ListN.{take}

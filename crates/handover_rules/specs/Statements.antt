@@ -1,6 +1,5 @@
 -- What is proved of the handover keys (document 02, request 2). The proofs are `r0-apart`, `r1-apart` and `never-shared` of proofs/Apart.antt, and
 -- `input-bytes`, `key-of-blocks` and `some-accepted` of proofs/Keys.antt.
--- Assumes nothing.
 use Prim.Native.Nat.{ℕ, _≤_}
 use mathlib.Core.Path.{_≡_}
 use mathlib.Core.Logic.{_↔_}

@@ -1,5 +1,4 @@
 -- As many bytes as a block has, copied over its zeros.
--- Assumes nothing.
 use Prim.Native.Nat.{ℕ, _-_, _≤_, min}
 use mathlib.Core.Path.{_≡_, ap, _∙_}
 use mathlib.Core.List.{List, _++_}

@@ -1,5 +1,4 @@
 -- A block masked word by word is masked byte by byte: the bytes of a word's XOR are the XORs of its bytes.
--- Assumes nothing.
 use Prim.Native.Nat.{ℕ, _+_, _*_, _/_, _%_, _^_, _<_, _≤_}
 use mathlib.Core.Path.{_≡_, refl, sym, ap, _∙_}
 use mathlib.Core.List.{List, [], _∷_, _++_}

@@ -1,5 +1,5 @@
 -- HMAC-SHA-1 by the hash values after a key's two blocks (Keyed.antt of the crate rfc2104). `KeptValuesGiveMac` of that crate's
--- Statements.antt says that it is RFC 2104's. Assumes nothing.
+-- Statements.antt says that it is RFC 2104's.
 use mathlib.Core.List.{List}
 use Prim.Native.Nat.{ℕ}
 use Rattle.rfc2104.specs.Keyed.{keyValueBy, hashAfterBy, macByValuesBy}

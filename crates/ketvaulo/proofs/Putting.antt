@@ -1,5 +1,4 @@
 -- A digest put into a buffer, with no test before that of the room.
--- Assumes nothing.
 use Prim.Native.Nat.{ℕ}
 use mathlib.Core.Path.{_≡_}
 use mathlib.Core.List.{List}

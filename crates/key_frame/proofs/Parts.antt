@@ -1,5 +1,4 @@
 -- Bytes put in place one part after the other, each to a part of the buffer that begins where it belongs: laws for those who write attributes and bundles.
--- Assumes nothing.
 use Prim.Native.Nat.{ℕ, _+_, _-_, _≤_}
 use mathlib.Core.Path.{_≡_, sym, ap, _∙_}
 use mathlib.Core.List.{List, _++_, append-nil, append-assoc}

@@ -1,6 +1,5 @@
 -- The Key attribute's layout, and the tests that its writer and its reader share: source document 004, section 3.1, as document 01, "Key attribute", reads it.
 -- Byte 0 type, 1 length, 2 reserved 0, 3 Enc Type 0, 4 App ID (4), 8 KEK ID (16), 24 Key ID (16), 40 Lifetime (4), 44 IV (8), 52 the wrapped key.
--- Assumes nothing.
 use Prim.Native.Nat.{ℕ, _-_}
 use mathlib.Core.Bool.{Bool, _&&_}
 use mathlib.Core.List.{List, [], _∷_, _++_}

@@ -1,5 +1,4 @@
 -- Laws of names: what a call answers and leaves by what its tests came to.
--- Assumes nothing.
 use Prim.Native.Nat.{ℕ}
 use mathlib.Core.Path.{_≡_, sym, ap, _∙_}
 use mathlib.Core.List.{List, _++_}

@@ -1,6 +1,5 @@
 -- Key names: NDF-64 of source document 001, section 4.1, as document 01 reads it ("Visited keys"). RFC 5295's own key name is another and is
 -- not built.
--- Assumes nothing.
 use Prim.Native.Nat.{ℕ}
 use mathlib.Core.List.{List, _++_}
 use lib.ListN.{length, take}

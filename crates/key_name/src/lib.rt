@@ -7,9 +7,9 @@ ghost use Rattle.refusal.specs.Answers.{checkedAs, answerOf};
 ghost use Rattle.labels.specs.Checks.{labelCheck};
 ghost use Rattle.sha256_block.specs.Fips180.{sha256};
 ghost use Rattle.key_name.specs.Ndf64.{check9, nameAnswer, nameBuffer};
+use refusal::Answered;
 use refusal::Checked;
 use refusal::Refusal;
-use refusal::Written;
 
 // The number of bytes in a name.
 const NAME: usize = 8;
@@ -24,12 +24,12 @@ fn check_inputs(session: &[u8], label: &[u8]) -> Checked
 }
 
 // Writes the name of a Session-ID and a label: 8 bytes at the start of out. Nothing is hashed if 9, 2, 3 or 32 refuses.
-pub fn key_name(session: &[u8], label: &[u8], out: &mut [u8]) -> Written
+pub fn key_name(session: &[u8], label: &[u8], out: &mut [u8]) -> Answered
     ensures answer { λ r. ⌜ answerOf r ≡ nameAnswer (now (session .entry)) (now (label .entry)) (length (now (out .entry))) ⌝ }
     ensures buffer { λ _. ⌜ now (out .exit) ≡ nameBuffer (now (session .entry)) (now (label .entry)) (now (out .entry)) ⌝ }
 {
     match check_inputs(session, label) {
-        Checked::Failed(why) => Written::Refused(why),
+        Checked::Failed(why) => Answered::Refused(why),
         Checked::Passed => {
             let hash = sha256::digest_of_two(session, label);
             refusal::put(Checked::Passed, &hash[..NAME], out)

@@ -1,5 +1,4 @@
 -- What the reader answers and leaves, by its tests: those before the unwrapping, and the unwrapping's own.
--- Assumes nothing.
 use Prim.Native.Nat.{ℕ, _+_, _-_, _≤_}
 use mathlib.Core.Path.{_≡_, refl, sym, ap, _∙_}
 use mathlib.Core.List.{List}
@@ -8,10 +7,10 @@ use borrow.Author.Tests.{eqb-true, eq-eqb}
 use lib.ListN.{length, take, drop, length-drop}
 use lib.Seq.{length-take-le}
 use Rattle.refusal.specs.Checks.{Reason, Check, pass, refuse, _andThen_, check6}
-use Rattle.refusal.specs.Answers.{reasonOf, Answer, wrote, answerOf, answerTo, bufferAfter}
+use Rattle.refusal.specs.Answers.{reasonOf, Answer, returned, answerOf, answerTo, bufferAfter}
 use Rattle.refusal.specs.declared.Refusal.{Refusal}
-use Rattle.refusal.specs.declared.Written.{Written}
-use Rattle.refusal.specs.declared.Written.the-variants.{Wrote, Refused}
+use Rattle.refusal.specs.declared.Answered.{Answered}
+use Rattle.refusal.specs.declared.Answered.the-variants.{Accepted, Refused}
 use Rattle.refusal.proofs.Passing.{before-passed, last-passed, test-passed, test-holds, both-pass, first-refuses}
 use Rattle.slices.proofs.Lists.{rest-drop}
 use Rattle.keywrap.specs.Rfc3394.{unwrappedIv, unwrappedKey}
@@ -93,15 +92,15 @@ module _ (kek a buffer kek₁ : List ℕ) (r : Ready kek a) (k : kek₁ ≡ sixt
   answer-part e = e ∙ (λ i. answerTo (part-check i) (part-length i))
 
   -- the key was written, and the attribute's fields are returned
-  pub read-so : {ans : Written} {n : ℕ} {fields : KeyFields} {after : List ℕ} → answerOf ans ≡ answerTo (unwrapCheck kek₁ part (length buffer)) (keyLength part)
-      → after ≡ bufferAfter (unwrapCheck kek₁ part (length buffer)) (keyLength part) (unwrappedKey kek₁ part) buffer → ans ≡ Wrote n → fields ≡ fieldsIn a
-      → Read kek a buffer (wrote n) fields after
+  pub read-so : {ans : Answered} {n : ℕ} {fields : KeyFields} {after : List ℕ} → answerOf ans ≡ answerTo (unwrapCheck kek₁ part (length buffer)) (keyLength part)
+      → after ≡ bufferAfter (unwrapCheck kek₁ part (length buffer)) (keyLength part) (unwrappedKey kek₁ part) buffer → ans ≡ Accepted n → fields ≡ fieldsIn a
+      → Read kek a buffer (returned n) fields after
   read-so {n = n} u b w f =
       let t = told-count _ _ n (ap answerOf (sym w) ∙ answer-part u) in
-      by-check kek a buffer pass (t .0) (ap wrote (t .1)) f (rw (t .0) at (left-part b))
+      by-check kek a buffer pass (t .0) (ap returned (t .1)) f (rw (t .0) at (left-part b))
 
   -- the unwrapping refuses
-  pub refused-late : {ans : Written} {why : Refusal} {answer : Answer} {fields : KeyFields} {after : List ℕ} → answerOf ans ≡ answerTo (unwrapCheck kek₁ part (length buffer)) (keyLength part)
+  pub refused-late : {ans : Answered} {why : Refusal} {answer : Answer} {fields : KeyFields} {after : List ℕ} → answerOf ans ≡ answerTo (unwrapCheck kek₁ part (length buffer)) (keyLength part)
       → after ≡ bufferAfter (unwrapCheck kek₁ part (length buffer)) (keyLength part) (unwrappedKey kek₁ part) buffer → ans ≡ Refused why → answer ≡ Answer.refused (reasonOf why) → fields ≡ noFields
       → Read kek a buffer answer fields after
   refused-late {why = why} u b w p f =

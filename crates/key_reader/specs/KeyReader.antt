@@ -1,10 +1,9 @@
 -- The Key attribute read: source document 004, section 3.1, as document 01, "Key attribute", reads it. The layout is that of key_frame.
--- Assumes nothing.
 use Prim.Native.Nat.{ℕ}
 use mathlib.Core.List.{List}
 use lib.ListN.{length, replicate}
 use Rattle.refusal.specs.Checks.{Reason, Check, pass, refuse, _andThen_, check6}
-use Rattle.refusal.specs.Answers.{Answer, wrote, bufferAfter}
+use Rattle.refusal.specs.Answers.{Answer, returned, bufferAfter}
 use Rattle.keywrap.specs.Rfc3394.{unwrappedIv, unwrappedKey}
 use Rattle.keywrap.specs.Calls.{check28}
 use Rattle.key_frame.specs.KeyFrame.{fieldsOf, fieldsIn, wrappedIn, keyLengthIn, check22, frameCheck}
@@ -36,7 +35,7 @@ readBuffer kek a buffer = bufferAfter (readCheck kek a (length buffer)) (keyLeng
 
 -- how `KeyRead` returns it: beside the key's length or the refusal the fields, which are all zero on a refusal
 abbrev pub answerIn : Reading → Answer
-answerIn (accepted f n) = wrote n
+answerIn (accepted f n) = returned n
 answerIn (refused x) = Answer.refused x
 
 abbrev pub noFields : KeyFields

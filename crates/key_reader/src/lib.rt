@@ -9,16 +9,16 @@ ghost use Rattle.key_reader.specs.KeyReader.{reading, readBuffer, answer
 use key_frame::KeyFields;
 use key_frame::check_frame;
 use key_frame::sixteen;
+use refusal::Answered;
 use refusal::Checked;
 use refusal::Refusal;
-use refusal::Written;
 use refusal::then_check;
 use refusal::unless;
 use slices::from_be32;
 
 // What reading answers: the key's length or a refusal, and the fields, which are all zero on a refusal.
 pub struct KeyRead {
-    pub answer: Written,
+    pub answer: Answered,
     pub fields: KeyFields,
 }
 
@@ -52,7 +52,7 @@ fn not_read(why: Refusal) -> KeyRead
 {
     let none = [0u8; 16];
     KeyRead {
-        answer: Written::Refused(why),
+        answer: Answered::Refused(why),
         fields: KeyFields {
             attribute_type: 0,
             app_id: 0,
@@ -77,9 +77,9 @@ pub fn read(kek: &[u8], attribute: &[u8], out: &mut [u8]) -> KeyRead
         Checked::Passed => {
             let answer = keywrap_aes::unwrap(sixteen(kek), &attribute[52..], out);
             match answer {
-                Written::Refused(late) => not_read(late),
-                Written::Wrote(n) => KeyRead {
-                    answer: Written::Wrote(n),
+                Answered::Refused(late) => not_read(late),
+                Answered::Accepted(n) => KeyRead {
+                    answer: Answered::Accepted(n),
                     fields: fields(attribute),
                 },
             }

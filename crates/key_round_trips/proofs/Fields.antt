@@ -1,6 +1,5 @@
 -- The layout of an attribute there and back: the fields of a header that was written are those written, and an attribute whose frame passes is its
 -- fields' header and then the wrapped key.
--- Assumes nothing.
 use Prim.Native.Nat.{ℕ, _+_, _-_, _^_, _≤_, _<_}
 use mathlib.Core.Path.{_≡_, refl, sym, ap, _∙_}
 use mathlib.Core.Bool.{true, _&&_}

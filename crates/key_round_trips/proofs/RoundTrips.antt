@@ -1,5 +1,4 @@
 -- What is written reads back, and what is accepted, written again, is the same bytes: from the layout's two laws (proofs/Fields.antt) and the wrapping's (keywrap).
--- Assumes nothing.
 use Prim.Native.Nat.{ℕ, _+_, _-_, _^_, _≤_, _<_}
 use mathlib.Core.Path.{_≡_, refl, sym, _∙_}
 use mathlib.Core.Bool.{true, _&&_}

@@ -1,10 +1,9 @@
 -- The two round trips of the Key attribute (document 01, "Key attribute"; source document 004, section 3.1). The proofs are in proofs/RoundTrips.antt.
--- Assumes nothing.
 use Prim.Native.Nat.{ℕ, _^_, _≤_, _<_}
 use mathlib.Core.Path.{_≡_}
 use mathlib.Core.List.{List, _++_}
 use lib.ListN.{length, take, drop}
-use Rattle.refusal.specs.Answers.{wrote}
+use Rattle.refusal.specs.Answers.{returned}
 use Rattle.slices.specs.Bytes.{Bytes}
 use Rattle.key_frame.specs.declared.KeyFields.{KeyFields}
 use Rattle.key_writer.specs.KeyWriter.{writeAnswer, writeBuffer}
@@ -19,7 +18,7 @@ ReadsBack =
     → f .lifetime < 2 ^ 32
     → Bytes kek
     → Bytes key
-    → writeAnswer f kek key (length buffer) ≡ wrote n
+    → writeAnswer f kek key (length buffer) ≡ returned n
     → length key ≤ length out
     → (reading kek (take n (writeBuffer f kek key buffer)) (length out) ≡ accepted f (length key))
     × (readBuffer kek (take n (writeBuffer f kek key buffer)) out ≡ key ++ drop (length key) out)
@@ -33,5 +32,5 @@ WritesAgain =
     → Bytes a
     → reading kek a (length out) ≡ accepted f n
     → length a ≤ length buffer
-    → (writeAnswer f kek (take n (readBuffer kek a out)) (length buffer) ≡ wrote (length a))
+    → (writeAnswer f kek (take n (readBuffer kek a out)) (length buffer) ≡ returned (length a))
     × (writeBuffer f kek (take n (readBuffer kek a out)) buffer ≡ a ++ drop (length a) buffer)

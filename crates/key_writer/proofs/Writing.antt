@@ -1,5 +1,4 @@
 -- What the writer answers and leaves, by its tests: those before the wrapping, and the wrapping's own.
--- Assumes nothing.
 use Prim.Native.Nat.{ℕ, _+_, _-_, _≤_, _<_, min}
 use mathlib.Core.Path.{_≡_, refl, sym, ap, _∙_}
 use mathlib.Core.Bool.{true, _&&_}
@@ -13,7 +12,7 @@ use lib.Dec.{leb, eqb}
 use lib.ListN.{length, take, drop, length-append, length-drop, take-append-drop}
 use lib.Seq.{drop-at, drop-drop, length-take-le}
 use Rattle.refusal.specs.Checks.{Reason, Check, pass, refuse, _andThen_, check20}
-use Rattle.refusal.specs.Answers.{Answer, wrote, answerTo, bufferAfter}
+use Rattle.refusal.specs.Answers.{Answer, returned, answerTo, bufferAfter}
 use Rattle.refusal.proofs.Passing.{before-passed, last-passed, test-passed, first-refuses}
 use Rattle.slices.proofs.Truth.{and-left, and-right, same-truth}
 use Rattle.slices.proofs.Lists.{rest-drop}
@@ -106,7 +105,7 @@ module _ (f : KeyFields) (kek key buffer : List ℕ) (ok : named f kek ≡ pass)
       rw (rest-tests, c) (refl, put-from start buffer z ∙ rw same (take-append-drop start buffer))
 
   -- it accepts
-  accepted-wrap : (n : ℕ) → wrote n ≡ answerTo (wrapCheck (length key) (length part)) (length key + 8) → Accepted f kek key buffer start n
+  accepted-wrap : (n : ℕ) → returned n ≡ answerTo (wrapCheck (length key) (length part)) (length key + 8) → Accepted f kek key buffer start n
   unfolding writeCheck
   accepted-wrap n a =
       let t = told-count _ _ n a in
@@ -122,14 +121,14 @@ module _ (f : KeyFields) (kek key buffer : List ℕ) (ok : named f kek ≡ pass)
       }
 
   -- the attribute's length is at most 252
-  pub length-small : (n : ℕ) → wrote n ≡ answerTo (wrapCheck (length key) (length part)) (length key + 8) → 52 + n ≤ 252
+  pub length-small : (n : ℕ) → returned n ≡ answerTo (wrapCheck (length key) (length part)) (length key + 8) → 52 + n ≤ 252
   length-small n a = let acc = accepted-wrap n a in omega (arith, acc .count, acc .size .high)
 
   -- there is room for the header before what it left
   before-part : {n : ℕ} → Accepted f kek key buffer start n → length (take start buffer) ≡ 52
   before-part acc = length-take-le start buffer (omega (arith, acc .at-52, acc .fits)) ∙ acc .at-52
 
-  pub header-room : (kek₁ : List ℕ) (n : ℕ) {z : List ℕ} → wrote n ≡ answerTo (wrapCheck (length key) (length part)) (length key + 8)
+  pub header-room : (kek₁ : List ℕ) (n : ℕ) {z : List ℕ} → returned n ≡ answerTo (wrapCheck (length key) (length part)) (length key + 8)
       → z ≡ bufferAfter (wrapCheck (length key) (length part)) (length key + 8) (wrapped kek₁ key) part
       → 52 ≤ length (putMid start (length buffer - start) buffer z)
   header-room kek₁ n {z} a e =
@@ -137,13 +136,13 @@ module _ (f : KeyFields) (kek key buffer : List ℕ) (ok : named f kek ≡ pass)
       rw (put-from start buffer z) (omega arith)
 
   -- which is put there
-  pub written-wrap : (kek₁ kek-id key-id : List ℕ) (n all : ℕ) {z after : List ℕ} → wrote n ≡ answerTo (wrapCheck (length key) (length part)) (length key + 8) → kek₁ ≡ sixteenOf kek
+  pub written-wrap : (kek₁ kek-id key-id : List ℕ) (n all : ℕ) {z after : List ℕ} → returned n ≡ answerTo (wrapCheck (length key) (length part)) (length key + 8) → kek₁ ≡ sixteenOf kek
       → z ≡ bufferAfter (wrapCheck (length key) (length part)) (length key + 8) (wrapped kek₁ key) part
       → all ≡ 52 + n
       → kek-id ≡ sixteenOf (f .«kek_id»)
       → key-id ≡ sixteenOf (f .«key_id»)
       → after ≡ header (fieldsOf (f .«attribute_type») (f .«app_id») kek-id key-id (f .lifetime)) all ++ drop 52 (putMid start (length buffer - start) buffer z)
-      → (wrote all ≡ writeAnswer f kek key (length buffer)) × (after ≡ writeBuffer f kek key buffer)
+      → (returned all ≡ writeAnswer f kek key (length buffer)) × (after ≡ writeBuffer f kek key buffer)
   unfolding writeAnswer writeBuffer attribute
   written-wrap kek₁ kek-id key-id n all {z} {after} a k b s k₁ k₂ h =
       let acc = accepted-wrap n a in
@@ -160,4 +159,4 @@ module _ (f : KeyFields) (kek key buffer : List ℕ) (ok : named f kek ≡ pass)
       let put : drop 52 (putMid start (length buffer - start) buffer z) ≡ z = ap (drop 52) (put-from start buffer z) ∙ drop-at (take start buffer) z 52 (before-part acc) in
       let whole : after ≡ (header f (attributeLength key) ++ wrapped kek key) ++ drop (60 + length key) buffer
       = h ∙ (λ i. header (fieldsOf (f .«attribute_type») (f .«app_id») (same₁ i) (same₂ i) (f .lifetime)) (size i) ++ (put ∙ left) i) ∙ sym (append-assoc (header f (attributeLength key)) (wrapped kek key) (drop (60 + length key) buffer)) in
-      rw (acc .tests) (ap wrote size, whole)
+      rw (acc .tests) (ap returned size, whole)

@@ -1,5 +1,4 @@
 -- The Key attribute written: source document 004, section 3.1, as document 01, "Key attribute", reads it. The layout is that of key_frame.
--- Assumes nothing.
 use Prim.Native.Nat.{ℕ, _+_}
 use mathlib.Core.Bool.{_&&_}
 use mathlib.Core.List.{List, _++_}

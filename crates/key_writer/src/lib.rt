@@ -8,9 +8,9 @@ ghost use Rattle.refusal.specs.Answers.{checkedAs, answerOf};
 ghost use Rattle.key_frame.specs.KeyFrame.{fieldsOf, header, check22};
 ghost use Rattle.key_writer.specs.KeyWriter.{check21, writeAnswer, writeBuffer};
 use key_frame::sixteen;
+use refusal::Answered;
 use refusal::Checked;
 use refusal::Refusal;
-use refusal::Written;
 use refusal::then_check;
 use refusal::unless;
 use slices::be32;
@@ -71,19 +71,19 @@ pub fn write(
     kek: &[u8],
     key: &[u8],
     out: &mut [u8],
-) -> Written
+) -> Answered
     ensures answer { λ r. ⌜ answerOf r ≡ writeAnswer (fieldsOf «attribute_type» «app_id» (now («kek_id» .entry)) (now («key_id» .entry)) lifetime) (now (kek .entry)) (now (key .entry)) (length (now (out .entry))) ⌝ }
     ensures buffer { λ _. ⌜ now (out .exit) ≡ writeBuffer (fieldsOf «attribute_type» «app_id» (now («kek_id» .entry)) (now («key_id» .entry)) lifetime) (now (kek .entry)) (now (key .entry)) (now (out .entry)) ⌝ }
 {
     let check = check_named(attribute_type, kek_id, key_id, kek);
     match check {
-        Checked::Failed(why) => Written::Refused(why),
+        Checked::Failed(why) => Answered::Refused(why),
         Checked::Passed => {
             let start = least(52, out.len());
             let wrapped = keywrap_aes::wrap(sixteen(kek), key, &mut out[start..]);
             match wrapped {
-                Written::Refused(late) => Written::Refused(late),
-                Written::Wrote(n) => {
+                Answered::Refused(late) => Answered::Refused(late),
+                Answered::Accepted(n) => {
                     let all = 52 + n;
                     put_header(
                         attribute_type,
@@ -94,7 +94,7 @@ pub fn write(
                         lifetime,
                         out,
                     );
-                    Written::Wrote(all)
+                    Answered::Accepted(all)
                 }
             }
         }

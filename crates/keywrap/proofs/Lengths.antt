@@ -1,5 +1,4 @@
 -- What a key's length that passes 23 keeps to, and a copy that fills a part: for both calls.
--- Assumes nothing.
 use mathlib.Core.Path.{_≡_, ap, _∙_}
 use mathlib.Core.List.{List, _++_, append-nil}
 use Prim.Native.Nat.{ℕ, _%_, _≤_}

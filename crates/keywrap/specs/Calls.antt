@@ -1,5 +1,4 @@
 -- The tests of the two calls, wrap and unwrap, by document 01's numbers ("Refusal numbers", "Key attribute").
--- Assumes nothing.
 use mathlib.Core.Bool.{Bool, _&&_}
 use mathlib.Core.List.{List}
 use Prim.Native.Nat.{ℕ, _+_, _-_, _%_}

@@ -1,4 +1,3 @@
 -- RFC 3394, as the crate rfc3394 defines it, under this crate's name for the callers.
--- Assumes nothing.
 pub use Rattle.rfc3394.specs.Rfc3394.{initialValue}
 unfoldable pub use Rattle.rfc3394.specs.Rfc3394.{wrapped, unwrappedIv, unwrappedKey}

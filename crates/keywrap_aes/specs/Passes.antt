@@ -1,5 +1,4 @@
 -- The passes of RFC 3394 over the keys that document 01 has wrapped ("Key attribute": 16 to 192 bytes).
--- Assumes nothing.
 use mathlib.Core.Bool.{Bool, cond}
 use mathlib.Core.List.{List, [], _∷_}
 use Prim.Native.Nat.{ℕ}

@@ -3,9 +3,9 @@
 use crate::passes::passes;
 use bytes::copy;
 use keywrap::is_wrappable;
+use refusal::Answered;
 use refusal::Checked;
 use refusal::Refusal;
-use refusal::Written;
 use refusal::check_room;
 use refusal::then_check;
 use refusal::unless;
@@ -62,7 +62,7 @@ fn is_initial(a: [u8; 8]) -> bool
 }
 
 // Unwraps to scratch, and from there copies the key to out, if its integrity holds. Until that is known out is not written.
-fn unwrap_by(kek: [u8; 16], wrapped: &[u8], scratch: &mut [u8], out: &mut [u8]) -> Written
+fn unwrap_by(kek: [u8; 16], wrapped: &[u8], scratch: &mut [u8], out: &mut [u8]) -> Answered
     requires { ⌜ (8 ≤ length (now wrapped)) × (keyLength (now wrapped) ≤ 192) × (keyLength (now wrapped) ≤ length (now out)) × (length (now scratch) ≡ keyLength (now wrapped)) ⌝ }
     ensures answer { λ r. ⌜ answerOf r ≡ answerTo (check28 (unwrappedIv kek (now (wrapped .entry)))) (keyLength (now (wrapped .entry))) ⌝ }
     ensures buffer { λ _. ⌜ now (out .exit) ≡ bufferAfter (check28 (unwrappedIv kek (now (wrapped .entry)))) (keyLength (now (wrapped .entry))) (unwrappedKey kek (now (wrapped .entry))) (now (out .entry)) ⌝ }
@@ -70,16 +70,16 @@ fn unwrap_by(kek: [u8; 16], wrapped: &[u8], scratch: &mut [u8], out: &mut [u8]) 
     let a = unwrap_into(kek, wrapped, &mut *scratch);
     let integrity = unless(is_initial(a), Refusal::Integrity);
     match integrity {
-        Checked::Failed(why) => Written::Refused(why),
+        Checked::Failed(why) => Answered::Refused(why),
         Checked::Passed => {
             copy(&scratch[..], out);
-            Written::Wrote(scratch.len())
+            Answered::Accepted(scratch.len())
         }
     }
 }
 
 // Unwraps to the start of scratch, which has room for the key, and from there copies the key to out, if its integrity holds.
-fn unwrap_with(kek: [u8; 16], wrapped: &[u8], scratch: &mut [u8], out: &mut [u8]) -> Written
+fn unwrap_with(kek: [u8; 16], wrapped: &[u8], scratch: &mut [u8], out: &mut [u8]) -> Answered
     requires { ⌜ (8 ≤ length (now wrapped)) × (keyLength (now wrapped) ≤ 192) × (keyLength (now wrapped) ≤ length (now out)) × (keyLength (now wrapped) ≤ length (now scratch)) ⌝ }
     ensures answer { λ r. ⌜ answerOf r ≡ answerTo (check28 (unwrappedIv kek (now (wrapped .entry)))) (keyLength (now (wrapped .entry))) ⌝ }
     ensures buffer { λ _. ⌜ now (out .exit) ≡ bufferAfter (check28 (unwrappedIv kek (now (wrapped .entry)))) (keyLength (now (wrapped .entry))) (unwrappedKey kek (now (wrapped .entry))) (now (out .entry)) ⌝ }
@@ -89,7 +89,7 @@ fn unwrap_with(kek: [u8; 16], wrapped: &[u8], scratch: &mut [u8], out: &mut [u8]
 }
 
 // Unwraps what passed the tests before the integrity.
-fn unwrap_checked(kek: [u8; 16], wrapped: &[u8], out: &mut [u8]) -> Written
+fn unwrap_checked(kek: [u8; 16], wrapped: &[u8], out: &mut [u8]) -> Answered
     requires { ⌜ (8 ≤ length (now wrapped)) × (keyLength (now wrapped) ≤ 192) × (keyLength (now wrapped) ≤ length (now out)) ⌝ }
     ensures answer { λ r. ⌜ answerOf r ≡ answerTo (check28 (unwrappedIv kek (now (wrapped .entry)))) (keyLength (now (wrapped .entry))) ⌝ }
     ensures buffer { λ _. ⌜ now (out .exit) ≡ bufferAfter (check28 (unwrappedIv kek (now (wrapped .entry)))) (keyLength (now (wrapped .entry))) (unwrappedKey kek (now (wrapped .entry))) (now (out .entry)) ⌝ }
@@ -99,13 +99,13 @@ fn unwrap_checked(kek: [u8; 16], wrapped: &[u8], out: &mut [u8]) -> Written
 }
 
 // Unwraps a wrapped key under the KEK. The key, 8 bytes shorter, is written at the start of out, and its length is the answer.
-pub fn unwrap(kek: [u8; 16], wrapped: &[u8], out: &mut [u8]) -> Written
+pub fn unwrap(kek: [u8; 16], wrapped: &[u8], out: &mut [u8]) -> Answered
     ensures answer { λ r. ⌜ answerOf r ≡ answerTo (unwrapCheck kek (now (wrapped .entry)) (length (now (out .entry)))) (keyLength (now (wrapped .entry))) ⌝ }
     ensures buffer { λ _. ⌜ now (out .exit) ≡ bufferAfter (unwrapCheck kek (now (wrapped .entry)) (length (now (out .entry)))) (keyLength (now (wrapped .entry))) (unwrappedKey kek (now (wrapped .entry))) (now (out .entry)) ⌝ }
 {
     let check = check_unwrap(key_length(wrapped.len()), out.len());
     match check {
-        Checked::Failed(why) => Written::Refused(why),
+        Checked::Failed(why) => Answered::Refused(why),
         Checked::Passed => unwrap_checked(kek, wrapped, out),
     }
 }

@@ -3,9 +3,9 @@
 use crate::passes::passes;
 use bytes::copy;
 use keywrap::is_wrappable;
+use refusal::Answered;
 use refusal::Checked;
 use refusal::Refusal;
-use refusal::Written;
 use refusal::check_room;
 use refusal::unless;
 ghost use mathlib.Core.Path.{_≡_};
@@ -39,16 +39,16 @@ fn wrap_into(kek: [u8; 16], key: &[u8], out: &mut [u8])
 }
 
 // Wraps the key under the KEK. The wrapped key, 8 bytes longer, is written at the start of out, and its length is the answer.
-pub fn wrap(kek: [u8; 16], key: &[u8], out: &mut [u8]) -> Written
+pub fn wrap(kek: [u8; 16], key: &[u8], out: &mut [u8]) -> Answered
     ensures answer { λ r. ⌜ answerOf r ≡ answerTo (wrapCheck (length (now (key .entry))) (length (now (out .entry)))) (length (now (key .entry)) + 8) ⌝ }
     ensures buffer { λ _. ⌜ now (out .exit) ≡ bufferAfter (wrapCheck (length (now (key .entry))) (length (now (out .entry)))) (length (now (key .entry)) + 8) (wrappedOf kek (now (key .entry))) (now (out .entry)) ⌝ }
 {
     let check = check_wrap(key.len(), out.len());
     match check {
-        Checked::Failed(why) => Written::Refused(why),
+        Checked::Failed(why) => Answered::Refused(why),
         Checked::Passed => {
             wrap_into(kek, key, out);
-            Written::Wrote(key.len() + 8)
+            Answered::Accepted(key.len() + 8)
         }
     }
 }

@@ -1,5 +1,4 @@
 -- What a label's form says of its tests by number, and what a label that passes them keeps to.
--- Assumes nothing.
 use Prim.Native.Nat.{ℕ, _≤_}
 use mathlib.Core.Path.{_≡_, refl, sym, ap, _∙_}
 use mathlib.Core.Bool.{Bool, true, false, cond, not, _||_}

@@ -1,6 +1,5 @@
 -- Which bytes a label, a server ID and a domain may hold (document 01, "Refusal numbers", 3, 7 and 8), and the position of
 -- the first byte that a text may not hold.
--- Assumes nothing.
 use Prim.Native.Nat.{ℕ, suc}
 use Prim.Native.Char.{code}
 use mathlib.Core.Bool.{Bool, true, cond, _&&_, _||_}

@@ -1,5 +1,4 @@
 -- The tests of a label: document 01's numbers 2 and 3 ("Refusal numbers"), and document 02's 32.
--- Assumes nothing.
 use Prim.Native.Nat.{ℕ}
 use mathlib.Core.Bool.{_||_, not}
 use mathlib.Core.List.{List}

@@ -1,5 +1,4 @@
 -- The test of the domain label: document 02's number 31.
--- Assumes nothing.
 use Prim.Native.Nat.{ℕ}
 use mathlib.Core.Bool.{not}
 use mathlib.Core.List.{List}

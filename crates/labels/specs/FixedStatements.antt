@@ -1,5 +1,4 @@
 -- What is proved of the test of the domain label (document 02, request 6). The proof is in proofs/DomainLabel.antt.
--- Assumes nothing.
 use Prim.Native.Nat.{ℕ}
 use mathlib.Core.Path.{_≡_}
 use mathlib.Core.Logic.{_↔_}

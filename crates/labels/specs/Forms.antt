@@ -1,6 +1,5 @@
 -- The form of a text, which says what is wrong with it first: its length, then its first bad byte. The number that a text is refused with is
 -- said by the tests of labels, server IDs and domains.
--- Assumes nothing.
 use Prim.Native.Nat.{ℕ}
 use mathlib.Core.Bool.{Bool, true, false, cond}
 use mathlib.Core.List.{List}

@@ -1,5 +1,4 @@
 -- The tests of server IDs and domains: document 01's numbers 7 and 8 ("Refusal numbers").
--- Assumes nothing.
 use Prim.Native.Nat.{ℕ}
 use mathlib.Core.Bool.{_&&_}
 use mathlib.Core.List.{List}

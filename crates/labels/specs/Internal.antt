@@ -1,5 +1,4 @@
 -- What only the contracts of private functions need. Nothing here has to be believed.
--- Assumes nothing.
 use Prim.Native.Nat.{ℕ, _+_}
 use Prim.Native.Char.{code}
 use mathlib.Core.Bool.{cond, _||_}

@@ -1,5 +1,4 @@
 -- What is proved of a label's tests (document 02, requests 1, 6 and 7). The proofs are in proofs/Labels.antt.
--- Assumes nothing.
 use Prim.Native.Nat.{ℕ, _<_}
 use mathlib.Core.Path.{_≡_}
 use mathlib.Core.Bool.{true, false}

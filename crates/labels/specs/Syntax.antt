@@ -1,5 +1,4 @@
 -- The syntax of a label: what source document 000, section 7.1, does not allow, as document 02 has it refused (request 7).
--- Assumes nothing.
 use Prim.Native.Nat.{ℕ, suc, _-_}
 use Prim.Native.Char.{code}
 use mathlib.Core.Bool.{Bool, cond, _&&_, _||_}

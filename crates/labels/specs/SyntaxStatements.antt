@@ -1,5 +1,4 @@
 -- What is proved of the syntax of a label (document 02, request 7). The proof is in proofs/Breaches.antt.
--- Assumes nothing.
 use Prim.Native.Nat.{ℕ, _-_, _<_}
 use Prim.Native.Char.{code}
 use mathlib.Core.Path.{_≡_}

@@ -3,8 +3,8 @@
 use libc::STDOUT_FILENO;
 use offers::FirstRound;
 use offers::Renewed;
+use refusal::Answered;
 use refusal::Refusal;
-use refusal::Written;
 
 // Prints a text.
 fn say(text: &[u8]) {
@@ -87,11 +87,11 @@ fn play_sent(original: &[u16], choice: u16, sent: &[u16]) {
 fn play_reply(offered: &[u16], reply: u16, seen: &[u16], choice: u16) {
     let mut renewed = [0u16; 17];
     match offers::answer(offered, reply, &mut renewed) {
-        Written::Refused(why) => {
+        Answered::Refused(why) => {
             say(b"  server");
             say_refused(why);
         }
-        Written::Wrote(count) => play_sent(seen, choice, &renewed[..count]),
+        Answered::Accepted(count) => play_sent(seen, choice, &renewed[..count]),
     }
 }
 

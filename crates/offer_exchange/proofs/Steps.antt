@@ -1,5 +1,4 @@
 -- A negotiation step by step: what it comes to by each step's answer.
--- Assumes nothing.
 use Prim.Native.Nat.{ℕ}
 use mathlib.Core.Path.{_≡_, refl}
 use mathlib.Core.Logic.{_⊎_, ⊎-elim}
@@ -8,7 +7,7 @@ use denote.Enum.Declared.{tagOf}
 use mathlib.Core.List.{List}
 use lib.ListN.{take}
 use Rattle.refusal.specs.Checks.{Reason}
-use Rattle.refusal.specs.Answers.{Answer, wrote}
+use Rattle.refusal.specs.Answers.{Answer, returned}
 use Rattle.offer_rules.specs.Answers.{ask, firstRound, serverAnswer, serverBuffer, RenewedAnswer, renewedAnswer}
 use Rattle.offer_rules.specs.Negotiation.{afterFirst, bufferAfterFirst, negotiated, negotiatedBuffer}
 use Rattle.offers.specs.Answers.{firstRoundOf}
@@ -31,6 +30,6 @@ module _ (offers supported buffer sent : List ℕ) (value position : ℕ) (asks 
   unfolding negotiated negotiatedBuffer
   server-refused e = (rw (asks, e), rw asks left)
 
-  pub server-wrote : {count : ℕ} → serverAnswer offers value buffer ≡ wrote count → (renewedAnswer offers value (take count sent) ≡ negotiated offers supported buffer) × (sent ≡ negotiatedBuffer offers supported buffer)
+  pub server-wrote : {count : ℕ} → serverAnswer offers value buffer ≡ returned count → (renewedAnswer offers value (take count sent) ≡ negotiated offers supported buffer) × (sent ≡ negotiatedBuffer offers supported buffer)
   unfolding negotiated negotiatedBuffer
   server-wrote e = (rw (asks, e, left), rw asks left)

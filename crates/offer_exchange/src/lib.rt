@@ -5,7 +5,7 @@ ghost use Rattle.offers.specs.Answers.{firstRoundOf, renewedOf};
 ghost use Rattle.offer_exchange.specs.Internal.{valueNamed};
 use offers::FirstRound;
 use offers::Renewed;
-use refusal::Written;
+use refusal::Answered;
 
 // The value that a first round's answer names, or its refusal.
 fn value_named(first: FirstRound) -> Renewed
@@ -28,7 +28,7 @@ pub fn negotiate(offered: &[u16], supported: &[u16], renewed: &mut [u16]) -> Ren
         return value_named(first);
     };
     match offers::answer(offered, value, renewed) {
-        Written::Refused(why) => Renewed::Refused(why),
-        Written::Wrote(count) => offers::recheck(offered, value, &renewed[..count]),
+        Answered::Refused(why) => Renewed::Refused(why),
+        Answered::Accepted(count) => offers::recheck(offered, value, &renewed[..count]),
     }
 }

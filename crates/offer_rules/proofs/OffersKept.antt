@@ -1,5 +1,4 @@
 -- Document 02, request 14: what a peer that accepts a renewed list may rely on, and that it accepts where nothing was altered.
--- Assumes nothing.
 use Prim.Native.Nat.{ℕ, _+_, _≤_}
 use mathlib.Core.Path.{_≡_, sym, _∙_}
 use mathlib.Core.Bool.{true, false}
@@ -10,7 +9,7 @@ use borrow.Author.Tests.{le-leb, ltb-true}
 use lib.ListN.{length, getD, take, drop}
 use lib.Seq.{take-at}
 use Rattle.refusal.specs.Checks.{pass, _andThen_}
-use Rattle.refusal.specs.Answers.{wrote}
+use Rattle.refusal.specs.Answers.{returned}
 use Rattle.refusal.proofs.Passing.{within-high, before-passed, last-passed, test-passed, test-holds, both-pass}
 use Rattle.slices.proofs.Same.{same-equal, equal-same}
 use Rattle.offer_rules.specs.Rfc5448.{stands, firstSupported, isFirst, renewedList, check10, check11, check13, check14, chooseCheck, answerCheck, renewedCheck}
@@ -43,7 +42,7 @@ asked offers supported value position e =
     }
 
 -- what the server wrote is the renewed list
-wrote-renewed : (offers buffer : List ℕ) (reply count : ℕ) → serverAnswer offers reply buffer ≡ wrote count → take count (serverBuffer offers reply buffer) ≡ renewedList offers reply
+wrote-renewed : (offers buffer : List ℕ) (reply count : ℕ) → serverAnswer offers reply buffer ≡ returned count → take count (serverBuffer offers reply buffer) ≡ renewedList offers reply
 unfolding serverAnswer serverBuffer
 wrote-renewed offers buffer reply count e =
     let served = answer-passed (answerCheck offers reply (length buffer)) (length offers + 1) e in
@@ -68,7 +67,7 @@ offers-kept seen offers supported buffer choice position reply count held e₁ e
 
 -- with nothing altered, a server whose buffer has room accepts, and the peer does
 pub agreed-in-room : (offers supported buffer : List ℕ) (choice position : ℕ) → firstRound offers supported ≡ ask choice position → length offers + 1 ≤ length buffer
-    → (serverAnswer offers choice buffer ≡ wrote (length offers + 1))
+    → (serverAnswer offers choice buffer ≡ returned (length offers + 1))
     × (renewedAnswer offers choice (take (length offers + 1) (serverBuffer offers choice buffer)) ≡ accepted choice)
 unfolding serverAnswer renewedAnswer answerCheck renewedCheck
 agreed-in-room offers supported buffer choice position e room =

@@ -1,5 +1,4 @@
 -- The position of the first supported offer, by induction over the list of offers; and which values are the first of a list, and which stand in it.
--- Assumes nothing.
 use Prim.Native.Nat.{ℕ, zero, suc, _≤_, _<_}
 use mathlib.Core.Path.{_≡_, refl}
 use mathlib.Core.Bool.{Bool, true, false, cond}

@@ -1,5 +1,4 @@
 -- Laws of the answers: the first round's by the position of the offer that is taken and by what the tests 10 and 11 came to, and the server's count.
--- Assumes nothing.
 use Prim.Native.Nat.{ℕ, zero, suc, _+_, _≤_}
 use mathlib.Core.Path.{_≡_, refl}
 use mathlib.Core.List.{List}
@@ -7,7 +6,7 @@ use native.Mathlib.Omega.{arith}
 use borrow.Author.Tests.{leb-true}
 use lib.ListN.{length, getD}
 use Rattle.refusal.specs.Checks.{Reason, Check, pass, refuse, _andThen_}
-use Rattle.refusal.specs.Answers.{wrote}
+use Rattle.refusal.specs.Answers.{returned}
 use Rattle.refusal.proofs.Passing.{first-refuses, second-decides, last-passed, test-passed}
 use Rattle.offer_rules.specs.Rfc5448.{firstSupported, check10, check11, check12, chooseCheck, answerCheck}
 use Rattle.offer_rules.specs.Answers.{FirstAnswer, carryOn, ask, firstRoundAt, firstRoundTo, firstRound, serverAnswer}
@@ -30,7 +29,7 @@ module _ (offers supported : List ℕ) where
   list-passed e = rw (← second-decides _ (check12 offers supported) e)
 
 -- the server writes no more than fits
-pub wrote-fits : (offers buffer : List ℕ) (value count : ℕ) → serverAnswer offers value buffer ≡ wrote count → count ≤ length buffer
+pub wrote-fits : (offers buffer : List ℕ) (value count : ℕ) → serverAnswer offers value buffer ≡ returned count → count ≤ length buffer
 unfolding serverAnswer answerCheck
 wrote-fits offers buffer value count e =
     let p = answer-passed (answerCheck offers value (length buffer)) (length offers + 1) e in

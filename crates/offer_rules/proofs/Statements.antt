@@ -1,5 +1,4 @@
 -- The other statements of specs/Statements.antt, by induction over the list of offers, and by what each test says where the tests pass.
--- Assumes nothing.
 use Prim.Native.Nat.{ℕ}
 use mathlib.Core.Path.{_≡_, refl}
 use mathlib.Core.Bool.{Bool, true, false, _||_}

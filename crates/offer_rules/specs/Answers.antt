@@ -1,5 +1,4 @@
 -- What the peer answers in the first round, the server on the reply, and the peer on the renewed list, by document 01's numbers and values ("Offers").
--- Assumes nothing.
 use Prim.Native.Nat.{ℕ, zero, suc, _+_}
 use mathlib.Core.List.{List}
 use lib.ListN.{length, getD}

@@ -1,15 +1,14 @@
 -- A negotiation between a peer and a server in which each gets what the other sent (RFC 5448 section 3.2): after an Ask the server answers it, and the
 -- peer checks what the server wrote; without one the first round's answer stands.
--- Assumes nothing.
 use Prim.Native.Nat.{ℕ}
 use mathlib.Core.List.{List}
 use lib.ListN.{take}
-use Rattle.refusal.specs.Answers.{Answer, wrote}
+use Rattle.refusal.specs.Answers.{Answer, returned}
 use Rattle.offer_rules.specs.Answers.{FirstAnswer, carryOn, ask, firstRound, serverAnswer, serverBuffer, RenewedAnswer, accepted, renewedAnswer}
 
 -- after the server's step: the peer's answer to what the server wrote
 abbrev pub afterServer : List ℕ → ℕ → List ℕ → Answer → RenewedAnswer
-afterServer offers value sent (wrote count) = renewedAnswer offers value (take count sent)
+afterServer offers value sent (returned count) = renewedAnswer offers value (take count sent)
 afterServer offers value sent (Answer.refused x) = RenewedAnswer.refused x
 
 -- after the first round: Carry On ends the negotiation, an Ask goes to the server, whose buffer is given

@@ -1,6 +1,5 @@
 -- The negotiation of the key derivation function by AT_KDF values: RFC 5448 section 3.2, as document 01, "Offers", reads it.
 -- A list of offers is in the server's order of preference, the most preferred first.
--- Assumes nothing.
 use Prim.Native.Nat.{ℕ, suc, _+_}
 use mathlib.Core.Bool.{Bool, false, not, cond, _||_}
 use mathlib.Core.List.{List, [], _∷_}

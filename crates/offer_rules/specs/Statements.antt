@@ -1,6 +1,5 @@
 -- What is proved of the definitions: that they say what RFC 5448 section 3.2 and document 01, "Offers", say in words, and what a login may rely on
 -- (document 02, request 14: OffersKept, OffersAgreed). The proofs are in proofs/OffersKept.antt and proofs/Statements.antt.
--- Assumes nothing.
 use Prim.Native.Nat.{ℕ, _+_, _≤_, _<_}
 use mathlib.Core.Path.{_≡_}
 use mathlib.Core.Bool.{true, false}
@@ -8,7 +7,7 @@ use mathlib.Core.Logic.{_↔_}
 use mathlib.Core.List.{List, _∷_}
 use lib.ListN.{length, getD, take}
 use Rattle.refusal.specs.Checks.{pass, _andThen_}
-use Rattle.refusal.specs.Answers.{wrote}
+use Rattle.refusal.specs.Answers.{returned}
 use Rattle.offer_rules.specs.Rfc5448.{stands, repeats, firstSupported, check13, check14}
 use Rattle.offer_rules.specs.Answers.{ask, firstRound, serverAnswer, serverBuffer, accepted, renewedAnswer}
 use Rattle.offer_rules.specs.Negotiation.{negotiated}
@@ -59,7 +58,7 @@ abbrev pub OffersKept : Type 0
 OffersKept =
     (seen offers supported buffer : List ℕ) (choice position reply count held : ℕ)
     → firstRound seen supported ≡ ask choice position
-    → serverAnswer offers reply buffer ≡ wrote count
+    → serverAnswer offers reply buffer ≡ returned count
     → renewedAnswer seen choice (take count (serverBuffer offers reply buffer)) ≡ accepted held
     → (seen ≡ offers) × (reply ≡ choice) × (held ≡ reply) × FirstOffer offers supported held
 
@@ -71,5 +70,5 @@ OffersAgreed =
     → firstRound offers supported ≡ ask choice position
     → 17 ≤ length buffer
     → (count : ℕ)
-    × (serverAnswer offers choice buffer ≡ wrote count)
+    × (serverAnswer offers choice buffer ≡ returned count)
     × (renewedAnswer offers choice (take count (serverBuffer offers choice buffer)) ≡ accepted choice)

@@ -1,5 +1,4 @@
 -- What the answers of the calls stand for, and the definitions that their contracts speak of, passed on from `offer_rules`.
--- Assumes nothing.
 use Rattle.refusal.specs.Answers.{reasonOf}
 unfoldable pub use Rattle.offer_rules.specs.Answers.{firstRound, serverAnswer, serverBuffer, renewedAnswer}
 pub use Rattle.offer_rules.specs.Answers.{FirstAnswer, carryOn, ask, RenewedAnswer, accepted}

@@ -6,8 +6,8 @@ ghost use lib.ListN.{length};
 ghost use Rattle.refusal.specs.Answers.{answerOf};
 ghost use Rattle.offer_rules.specs.Answers.{serverAnswer, serverBuffer};
 use crate::checks::check_reply;
+use refusal::Answered;
 use refusal::Checked;
-use refusal::Written;
 use refusal::check_room;
 use refusal::then_check;
 use slices::copy_values;
@@ -22,16 +22,16 @@ fn put_list(value: u16, list: &[u16], out: &mut [u16])
 }
 
 // The server, on the peer's reply: writes the reply, then the entire list, and answers the new count. Order 10, 11, 13, 14, 6.
-pub fn answer(offers: &[u16], reply: u16, out: &mut [u16]) -> Written
+pub fn answer(offers: &[u16], reply: u16, out: &mut [u16]) -> Answered
     ensures answer { λ r. ⌜ answerOf r ≡ serverAnswer (now (offers .entry)) reply (now (out .entry)) ⌝ }
     ensures buffer { λ _. ⌜ now (out .exit) ≡ serverBuffer (now (offers .entry)) reply (now (out .entry)) ⌝ }
 {
     let count = offers.len() + 1;
     match then_check(check_reply(offers, reply), check_room(count, out.len())) {
-        Checked::Failed(why) => Written::Refused(why),
+        Checked::Failed(why) => Answered::Refused(why),
         Checked::Passed => {
             put_list(reply, offers, &mut out[..count]);
-            Written::Wrote(count)
+            Answered::Accepted(count)
         }
     }
 }

@@ -1,5 +1,4 @@
 -- An area that is read whole has at most 17 offers, so their count fits the 32 bits that C gets.
--- Assumes nothing.
 use Prim.Native.Nat.{ℕ, _<_, _^_}
 use mathlib.Core.List.{List}
 use native.Mathlib.Omega.{arith}

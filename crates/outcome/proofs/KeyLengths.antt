@@ -1,5 +1,4 @@
 -- A key that is read has at most 192 bytes, so its length fits the 32 bits that C gets; and how the answer and the fields make up what C gets.
--- Assumes nothing.
 use Prim.Native.Nat.{ℕ, _≤_, _<_, _^_}
 use mathlib.Core.Path.{_≡_, refl, _∙_}
 use mathlib.Core.List.{List}
@@ -7,7 +6,7 @@ use native.Mathlib.Omega.{arith}
 use lib.Dec.{lit<}
 use Rattle.refusal.specs.Checks.{Check, pass, refuse, within}
 use Rattle.refusal.specs.Answers.{answerOf}
-use Rattle.refusal.specs.declared.Written.{Written}
+use Rattle.refusal.specs.declared.Answered.{Answered}
 use Rattle.refusal.proofs.Passing.{before-passed, last-passed, within-high}
 use Rattle.slices.proofs.Truth.{and-left}
 use Rattle.keywrap.specs.Calls.{wrappable}
@@ -36,5 +35,5 @@ whole : (r : Reading) → keyReturned (answerIn r) (fieldsRead r) ≡ keyOutcome
 whole (Reading.accepted f n) = refl
 whole (Reading.refused x) = refl
 
-pub handed-key : {o : KeyAttributeOutcome} (w : Written) (f : KeyFields) (r : Reading) → o ≡ keyReturned (answerOf w) f → answerOf w ≡ answerIn r → f ≡ fieldsRead r → o ≡ keyOutcome r
+pub handed-key : {o : KeyAttributeOutcome} (w : Answered) (f : KeyFields) (r : Reading) → o ≡ keyReturned (answerOf w) f → answerOf w ≡ answerIn r → f ≡ fieldsRead r → o ≡ keyOutcome r
 handed-key w f r e a h = e ∙ rw (a, h) (whole r)

@@ -1,5 +1,4 @@
 -- A position that a first round asks for is one of at most 16, so it fits the 32 bits that C gets.
--- Assumes nothing.
 use Prim.Native.Nat.{ℕ, suc, zero, _<_, _^_}
 use mathlib.Core.Path.{_≡_, refl}
 use mathlib.Core.List.{List}

@@ -1,5 +1,4 @@
 -- What reading an area returns to C, by what it answers: kv_area of include/ketvaulo.h.
--- Assumes nothing.
 use Prim.Native.Nat.{ℕ}
 use mathlib.Core.Bool.{Bool, true, false}
 use Rattle.area.specs.Area.{AreaAnswer, answered}

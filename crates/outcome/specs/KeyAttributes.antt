@@ -1,7 +1,6 @@
 -- What reading a Key attribute returns to C, by what it answers: kv_key_attribute of include/ketvaulo.h.
--- Assumes nothing.
 use Prim.Native.Nat.{ℕ}
-use Rattle.refusal.specs.Answers.{Answer, wrote}
+use Rattle.refusal.specs.Answers.{Answer, returned}
 use Rattle.key_frame.specs.declared.KeyFields.{KeyFields}
 use Rattle.key_reader.specs.KeyReader.{Reading, accepted, noFields}
 use Rattle.outcome.specs.Outcomes.{numberIn}
@@ -29,10 +28,10 @@ keyOutcome (Reading.refused x) = keyTold (numberIn x) 0 noFields
 
 -- the count that an answer holds, and 0 on a refusal
 abbrev pub lengthIn : Answer → ℕ
-lengthIn (wrote n) = n
+lengthIn (returned n) = n
 lengthIn (Answer.refused x) = 0
 
 -- what C gets of an answer and of the fields beside it
 abbrev pub keyReturned : Answer → KeyFields → KeyAttributeOutcome
-keyReturned (wrote n) f = keyTold 0 n f
+keyReturned (returned n) f = keyTold 0 n f
 keyReturned (Answer.refused x) f = keyTold (numberIn x) 0 f

@@ -1,8 +1,7 @@
 -- What a call returns to C, by what it answers: the struct kv_outcome of include/ketvaulo.h, whose comment says the same in words.
--- Assumes nothing.
 use Prim.Native.Nat.{ℕ}
 use Rattle.refusal.specs.Checks.{Reason, Check, pass, refuse}
-use Rattle.refusal.specs.Answers.{Answer, wrote, refused}
+use Rattle.refusal.specs.Answers.{Answer, returned, refused}
 pub use Rattle.refusal.specs.Answers.{numberIn, placeIn}
 use Rattle.outcome.specs.declared.Outcome.{Outcome}
 
@@ -16,7 +15,7 @@ acceptedOutcome n = record { refusal = 0; value = n }
 
 -- the answer of a call that writes
 abbrev pub outcomeOf : Answer → Outcome
-outcomeOf (wrote n) = acceptedOutcome n
+outcomeOf (returned n) = acceptedOutcome n
 outcomeOf (refused x) = refusedOutcome x
 
 -- the answer of a call that only tests: 0 where all tests pass

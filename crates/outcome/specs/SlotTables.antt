@@ -1,5 +1,4 @@
 -- How C names a parent, and what a put and a drop return to C: the struct kv_slots_outcome of include/ketvaulo.h, whose comment says the same in words.
--- Assumes nothing.
 use Prim.Native.Nat.{ℕ, _-_, _^_}
 use mathlib.Core.Bool.{cond}
 use lib.Dec.{eqb}

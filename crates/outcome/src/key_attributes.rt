@@ -5,7 +5,7 @@ ghost use Rattle.refusal.specs.Answers.{answerOf};
 ghost use Rattle.outcome.specs.KeyAttributes.{keyTold, keyReturned, lengthIn};
 use key_frame::KeyFields;
 use key_reader::KeyRead;
-use refusal::Written;
+use refusal::Answered;
 
 // What reading a Key attribute returns to C. Every field but the number is 0 on a refusal.
 #[repr(C)]
@@ -44,7 +44,7 @@ pub fn returned(read: KeyRead) -> KeyAttributeOutcome
     let answer = read.answer;
     let fields = read.fields;
     match answer {
-        Written::Wrote(n) => told(0, n as u32, fields),
-        Written::Refused(why) => told(refusal::number(why), 0, fields),
+        Answered::Accepted(n) => told(0, n as u32, fields),
+        Answered::Refused(why) => told(refusal::number(why), 0, fields),
     }
 }

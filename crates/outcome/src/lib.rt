@@ -9,9 +9,9 @@ pub mod slot_tables;
 ghost use mathlib.Core.Path.{_≡_};
 ghost use Rattle.refusal.specs.Answers.{reasonOf, answerOf, checkedAs};
 ghost use Rattle.outcome.specs.Outcomes.{outcomeOf, acceptedOutcome, refusedOutcome, checkOutcome};
+use refusal::Answered;
 use refusal::Checked;
 use refusal::Refusal;
-use refusal::Written;
 
 // What a call returns to C: 0 and what an accepted call answers, or the refusal's number and the place that it carries, which is 0 where it
 // carries none.
@@ -42,12 +42,12 @@ pub(crate) fn accepted(n: u64) -> Outcome
 }
 
 // The answer of a call that writes, for C.
-pub fn returned(answer: Written) -> Outcome
+pub fn returned(answer: Answered) -> Outcome
     ensures { λ r. ⌜ r ≡ outcomeOf (answerOf answer) ⌝ }
 {
     match answer {
-        Written::Wrote(n) => accepted(n as u64),
-        Written::Refused(why) => refused(why),
+        Answered::Accepted(n) => accepted(n as u64),
+        Answered::Refused(why) => refused(why),
     }
 }
 

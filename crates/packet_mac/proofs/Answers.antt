@@ -1,5 +1,4 @@
 -- What signing and checking answer, by what the tests came to and where the attribute stands.
--- Assumes nothing.
 use Prim.Native.Nat.{ℕ, _+_, _-_, _≤_}
 use mathlib.Core.Path.{_≡_, refl, sym, ap, _∙_}
 use mathlib.Core.Bool.{Bool}
@@ -8,7 +7,7 @@ use native.Mathlib.Omega.{arith}
 use lib.ListN.{length, take, drop, replicate}
 use lib.Seq.{paste, take-all}
 use Rattle.refusal.specs.Checks.{Reason, Check, pass, refuse, bare, unless, _andThen_}
-use Rattle.refusal.specs.Answers.{reasonOf, wrote, refused}
+use Rattle.refusal.specs.Answers.{reasonOf, returned, refused}
 use Rattle.slices.proofs.Lists.{rest-drop}
 use Rattle.slices.specs.Same.{sameList}
 use Rattle.refusal.specs.declared.Refusal.{Refusal}
@@ -70,7 +69,7 @@ module _ (mac : List ℕ → List ℕ → List ℕ) (key : List ℕ) (type : ℕ
     unfolding macOf macInput
     mac-made = made ∙ ap (λ (k : ℕ). mac key (withMac k (replicate 32 0) p)) (at .there)
 
-    pub sign-done : {after : List ℕ} → length m ≡ 32 → after ≡ paste p (n + 20) m 32 → (wrote 32 ≡ signAnswer key type p) × (after ≡ signBuffer mac key type p)
+    pub sign-done : {after : List ℕ} → length m ≡ 32 → after ≡ paste p (n + 20) m 32 → (returned 32 ≡ signAnswer key type p) × (after ≡ signBuffer mac key type p)
     unfolding signAnswer signBuffer
     sign-done l e = (rw (at .passes), rw (at .passes) (e ∙ all-copied p m n l ∙ λ i. withMac (at .there i) (mac-made i) p))
 

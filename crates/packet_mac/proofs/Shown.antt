@@ -1,5 +1,4 @@
 -- What is shown of signing and checking, of HMAC-SHA-256.
--- Assumes nothing.
 use Rattle.hmac.specs.Rfc2104.{hmacSha256}
 use Rattle.hmac.proofs.Laws.{hmacSha256-length}
 use Rattle.packet_rules.specs.Statements.{SignedPasses, OthersStay, SignsAgain, OnlySigned}

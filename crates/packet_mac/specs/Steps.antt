@@ -1,5 +1,4 @@
 -- What the functions of the walk answer, in the terms of specs/Packet.antt. Only the code and its proofs need these.
--- Assumes nothing.
 use Prim.Native.Nat.{ℕ, suc}
 use mathlib.Core.Bool.{true, false, cond}
 use mathlib.Core.List.{List, [], _∷_}

@@ -11,9 +11,9 @@ ghost use Rattle.packet_rules.specs.Mac.{withMac, signAnswer, signBuffer, check
 mod attributes; // the walk through a packet's attributes, and its tests
 
 use crate::attributes::Place;
+use refusal::Answered;
 use refusal::Checked;
 use refusal::Refusal;
-use refusal::Written;
 
 // The MAC of a packet whose attribute stands at an offset: its own 32 bytes are read as zero.
 fn mac_of(mac_key: &[u8], at: usize, packet: &[u8]) -> [u8; 32]
@@ -42,16 +42,16 @@ fn copy_mac(mac: [u8; 32], start: usize, packet: &mut [u8])
 }
 
 // Signs a packet: writes its MAC into the attribute of the type.
-pub fn sign(mac_key: &[u8], attribute_type: u8, packet: &mut [u8]) -> Written
+pub fn sign(mac_key: &[u8], attribute_type: u8, packet: &mut [u8]) -> Answered
     ensures answer { λ r. ⌜ answerOf r ≡ signAnswer (now («mac_key» .entry)) «attribute_type» (now (packet .entry)) ⌝ }
     ensures buffer { λ _. ⌜ now (packet .exit) ≡ signBuffer hmacSha256 (now («mac_key» .entry)) «attribute_type» (now (packet .entry)) ⌝ }
 {
     match crate::attributes::mac_place(mac_key, attribute_type, packet) {
-        Place::Refused(why) => Written::Refused(why),
+        Place::Refused(why) => Answered::Refused(why),
         Place::At(at) => {
             let mac = mac_of(mac_key, at, packet);
             copy_mac(mac, at + 20, packet);
-            Written::Wrote(32)
+            Answered::Accepted(32)
         }
     }
 }

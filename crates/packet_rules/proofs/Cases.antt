@@ -1,5 +1,4 @@
 -- The worked cases, each by computation.
--- Assumes nothing.
 use mathlib.Core.Path.{refl}
 use Rattle.refusal.specs.Checks.{unless, _andThen_, within}
 use Rattle.packet_rules.specs.Packet.{lengthHolds, inBounds, attributesFrom, attributes, allWhole, placesIn, places, macAt, isMac, oneMac}

@@ -1,5 +1,4 @@
 -- Laws of a packet with other bytes in place of its MAC: it agrees with the packet outside them, and that is all that counts.
--- Assumes nothing.
 use Prim.Native.Nat.{ℕ, suc, _+_, _-_, _≤_, _<_}
 use mathlib.Core.Path.{_≡_, refl, sym, ap, _∙_}
 use mathlib.Core.Logic.{_⊎_, inl, inr}

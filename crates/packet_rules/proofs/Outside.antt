@@ -1,5 +1,4 @@
 -- Two byte strings that agree but for n bytes from the d-th on; and where those lie within an attribute, they have the same attributes.
--- Assumes nothing.
 use Prim.Native.Nat.{ℕ, zero, suc, _+_, _-_, _≤_, _<_}
 use mathlib.Core.Path.{_≡_, refl, ap, _∙_}
 use mathlib.Core.Logic.{_⊎_, inl, inr, ⊎-elim}

@@ -1,6 +1,5 @@
 -- Where 37 passes, the attribute lies whole within the packet; and a packet that agrees with it outside the MAC's 32 bytes has the same
 -- attributes and passes the same tests.
--- Assumes nothing.
 use Prim.Native.Nat.{ℕ, zero, suc, _+_, _-_, _*_, _≤_, _<_}
 use mathlib.Core.Path.{_≡_, refl, sym, ap, _∙_}
 use mathlib.Core.Logic.{_⊎_, inl, inr, ⊎-elim}

@@ -1,12 +1,11 @@
 -- What is shown of signing and checking (specs/Statements.antt).
--- Assumes nothing.
 use Prim.Native.Nat.{ℕ, _+_, _≤_}
 use mathlib.Core.Path.{_≡_, refl, sym, ap, _∙_}
 use mathlib.Core.List.{List}
 use lib.ListN.{length, replicate}
 use Rattle.refusal.specs.Checks.{Reason, Check, pass, refuse, bare, unless, _andThen_}
 use Rattle.slices.specs.Same.{sameList}
-use Rattle.refusal.specs.Answers.{wrote, answerTo}
+use Rattle.refusal.specs.Answers.{returned, answerTo}
 use Rattle.slices.proofs.Same.{equal-same, same-equal}
 use Rattle.refusal.proofs.Passing.{before-passed, last-passed, test-passed}
 use Rattle.packet_rules.specs.Packet.{macAt}
@@ -93,7 +92,7 @@ module _ (mac : List ℕ → List ℕ → List ℕ) (law : Has32 mac) where
         ∙ ap (λ (d : List ℕ). withMac (macAt type p) d (signed key type p)) signed-mac
         ∙ sym (with-same (macAt type p) (macOf mac key type p) p (signed key type p) (at .room) (agree-sym signed-agrees))
 
-  wrote-passed : (c : Check) → answerTo c 32 ≡ wrote 32 → c ≡ pass
+  wrote-passed : (c : Check) → answerTo c 32 ≡ returned 32 → c ≡ pass
   wrote-passed pass e = refl
   wrote-passed (refuse x) e = cc
 

@@ -1,5 +1,4 @@
 -- The walk looks only at the type and length bytes where attributes begin, so two packets that agree there have the same attributes.
--- Assumes nothing.
 use Prim.Native.Nat.{ℕ, zero, suc, _+_, _-_, _≤_}
 use mathlib.Core.Path.{_≡_, refl, ap, _∙_}
 use mathlib.Core.Bool.{Bool, true, false, cond, _&&_}

@@ -1,5 +1,4 @@
 -- Worked cases of the tests 35, 36 and 37: what is accepted, with the attribute's place, and a packet for each fault, in the request's order.
--- Assumes nothing.
 use mathlib.Core.Path.{_≡_}
 use Prim.Native.Nat.{ℕ, _+_, _/_, _%_}
 use mathlib.Core.List.{List, [], _∷_, _++_}

@@ -1,6 +1,5 @@
 -- Request 8. The packet's MAC (source document 004, section 3.3, MAC Type 2: HMAC-SHA-256), what signing a packet answers and leaves, and
 -- what checking one answers. Over any MAC function: the crate that signs names HMAC-SHA-256.
--- Assumes nothing.
 use Prim.Native.Nat.{ℕ, _+_}
 use mathlib.Core.List.{List, _++_}
 use lib.ListN.{take, drop, replicate}

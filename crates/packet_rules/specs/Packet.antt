@@ -2,7 +2,6 @@
 -- document 004, section 3.3).
 -- Byte 0 code, 1 identifier, 2 length (2), 4 authenticator (16), 20 attributes: type, length in bytes with these two, value.
 -- The attribute: 0 type, 1 length 52, 2 reserved 0, 3 MAC Type 2, 4 MAC Key ID (16), 20 MAC (32).
--- Assumes nothing.
 use Prim.Native.Nat.{ℕ, zero, suc, _+_, _-_, _*_}
 use mathlib.Core.Bool.{Bool, true, false, cond, _&&_}
 use mathlib.Core.List.{List, [], _∷_}

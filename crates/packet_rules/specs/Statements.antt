@@ -1,12 +1,11 @@
 -- Request 8, what is shown of signing and checking. Over any MAC function whose result has 32 bytes.
--- Assumes nothing.
 use Prim.Native.Nat.{ℕ, _+_, _≤_, _<_}
 use mathlib.Core.Path.{_≡_}
 use mathlib.Core.Logic.{_⊎_, _↔_}
 use mathlib.Core.List.{List}
 use lib.ListN.{length, getD}
 use Rattle.refusal.specs.Checks.{pass}
-use Rattle.refusal.specs.Answers.{wrote}
+use Rattle.refusal.specs.Answers.{returned}
 use Rattle.packet_rules.specs.Packet.{macAt}
 use Rattle.packet_rules.specs.Mac.{macInput, packetCheck, checkCheck, signAnswer, signBuffer}
 
@@ -21,7 +20,7 @@ pub record AgreeOutside (at : ℕ) (p q : List ℕ) : Type 0 where
 
 -- what the writer signs, the checker accepts under the same key and type number
 abbrev pub SignedPasses : (List ℕ → List ℕ → List ℕ) → Type 0
-SignedPasses mac = (key p : List ℕ) (type : ℕ) → signAnswer key type p ≡ wrote 32 → checkCheck mac key type (signBuffer mac key type p) ≡ pass
+SignedPasses mac = (key p : List ℕ) (type : ℕ) → signAnswer key type p ≡ returned 32 → checkCheck mac key type (signBuffer mac key type p) ≡ pass
 
 -- all packet bytes but the MAC's 32 stay as they were, and the length does
 abbrev pub OthersStay : (List ℕ → List ℕ → List ℕ) → Type 0

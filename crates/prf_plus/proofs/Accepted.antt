@@ -1,5 +1,4 @@
 -- What an expansion's tests say where they pass, and what a call's tests come to.
--- Assumes nothing.
 use Prim.Native.Nat.{ℕ, _≤_}
 use mathlib.Core.Path.{_≡_}
 use borrow.Author.Tests.{leb-true}

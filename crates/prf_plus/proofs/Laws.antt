@@ -1,5 +1,4 @@
 -- Laws of the expansion, each once over the key, the text and the MAC; those on lengths over any MAC whose results have 32 bytes.
--- Assumes nothing.
 use Prim.Native.Nat.{ℕ, zero, suc, _+_, _*_, _/_, _≤_}
 use mathlib.Core.Path.{_≡_, refl, sym, ap, _∙_}
 use mathlib.Core.List.{List, [], _∷_, _++_, append-assoc}

@@ -1,5 +1,4 @@
 -- Two joined lists that are equal, cancelled by the length of the front or by that of the back: each part is `take` or `drop` at that length.
--- Assumes nothing.
 use Prim.Native.Nat.{ℕ}
 use mathlib.Core.Path.{_≡_, refl, sym, ap, _∙_}
 use mathlib.Core.List.{List, _++_}

@@ -1,5 +1,4 @@
 -- A block's input by its parts, and that the MAC of it, from a key's two hash values, is the next block.
--- Assumes nothing.
 use Prim.Native.Nat.{ℕ, _+_, _-_, _*_}
 use mathlib.Core.Path.{_≡_, ap, _∙_}
 use mathlib.Core.List.{List, [], _∷_, _++_, append-assoc}

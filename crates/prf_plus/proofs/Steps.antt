@@ -1,6 +1,5 @@
 -- A loop that expands into a buffer: its blocks stand there one after another, so each block finds the one before it in the buffer.
 -- Over any MAC whose results have 32 bytes.
--- Assumes nothing.
 use Prim.Native.Nat.{ℕ, zero, suc, min, _+_, _-_, _*_, _<_, _≤_}
 use mathlib.Core.Path.{_≡_, sym, ap, _∙_}
 use mathlib.Core.List.{List, _++_, append-assoc}

@@ -1,6 +1,5 @@
 -- The expansion prf+ of RFC 4306, section 2.13, as document 01 reads it ("Hash, MAC and expansion"), over any MAC; and the tests of a
 -- call that expands. A byte string is a list of numbers.
--- Assumes nothing.
 use Prim.Native.Nat.{ℕ, zero, suc, _+_, _/_}
 use mathlib.Core.List.{List, [], _∷_, _++_}
 use lib.ListN.{take}

@@ -1,4 +1,4 @@
--- What is proved of the expansion. Assumes nothing.
+-- What is proved of the expansion.
 use Prim.Native.Nat.{ℕ, suc}
 use mathlib.Core.Path.{_≡_}
 use mathlib.Core.List.{List, [], _∷_, _++_}

@@ -10,9 +10,9 @@ ghost use Rattle.hmac.specs.Rfc2104.{hmacSha256};
 ghost use Rattle.hmac.specs.Keyed.{macByValues};
 ghost use Rattle.prf_plus.specs.PrfPlus.{inputAfter, prfPlus, expandCheck};
 use hmac::Keyed;
+use refusal::Answered;
 use refusal::Checked;
 use refusal::Refusal;
-use refusal::Written;
 use sha256::Sha256;
 
 // The longest key: a block's number is a byte, from 1 on.
@@ -85,15 +85,15 @@ pub fn expand<'a>(
     d: &'a [u8],
     n: usize,
     out: &mut [u8],
-) -> Written
+) -> Answered
     ensures answer { λ r. ⌜ answerOf r ≡ answerTo (checkedAs check andThen expandCheck n (length (now (out .entry)))) n ⌝ }
     ensures buffer { λ _. ⌜ now (out .exit) ≡ bufferAfter (checkedAs check andThen expandCheck n (length (now (out .entry)))) n (prfPlus hmacSha256 (now (key .entry)) (now (a .entry) ++ (now (b .entry) ++ (now (c .entry) ++ now (d .entry)))) n) (now (out .entry)) ⌝ }
 {
     match refusal::then_check(check, check_expand(n, out.len())) {
-        Checked::Failed(why) => Written::Refused(why),
+        Checked::Failed(why) => Answered::Refused(why),
         Checked::Passed => {
             fill(key, a, b, c, d, n, out);
-            Written::Wrote(n)
+            Answered::Accepted(n)
         }
     }
 }

@@ -1,5 +1,4 @@
--- What the calls answer, by document 01's numbers, and what a call that writes leaves in the buffer that it is lent ("Refusal numbers").
--- Assumes nothing.
+-- What the calls answer, by the numbers of both papers, and what a call that writes leaves in the buffer that it is lent ("Refusal numbers").
 use Prim.Native.Nat.{ℕ}
 use mathlib.Core.List.{List, _++_}
 use lib.ListN.{drop}
@@ -57,8 +56,8 @@ use Rattle.refusal.specs.declared.Refusal.the-variants.{
   TooDeep,
   KeyIdUnlikeContents,
 }
-use Rattle.refusal.specs.declared.Written.{Written}
-use Rattle.refusal.specs.declared.Written.the-variants.{Wrote, Refused}
+use Rattle.refusal.specs.declared.Answered.{Answered}
+use Rattle.refusal.specs.declared.Answered.the-variants.{Accepted, Refused}
 use Rattle.refusal.specs.declared.Checked.{Checked}
 use Rattle.refusal.specs.declared.Checked.the-variants.{Passed, Failed}
 
@@ -128,18 +127,18 @@ abbrev pub checkedAs : Checked → Check
 checkedAs Passed = pass
 checkedAs (Failed x) = refuse (reasonOf x)
 
--- what a call that writes answers: the count of what it wrote, or a refusal
+-- what a call answers: a number, as a rule the count of what it wrote, or a refusal
 pub data Answer : Type 0 where
-  wrote : ℕ → Answer
+  returned : ℕ → Answer
   refused : Reason → Answer
 
-abbrev pub answerOf : Written → Answer
-answerOf (Wrote n) = wrote n
+abbrev pub answerOf : Answered → Answer
+answerOf (Accepted n) = returned n
 answerOf (Refused x) = refused (reasonOf x)
 
--- the answer of a call that writes n values, by its tests
+-- the answer of a call by its tests, where its number is n
 abbrev pub answerTo : Check → ℕ → Answer
-answerTo pass n = wrote n
+answerTo pass n = returned n
 answerTo (refuse x) n = refused x
 
 -- the buffer after a call that writes n values: on acceptance the values, and after them what stood there; on a refusal all that stood there
@@ -149,5 +148,5 @@ bufferAfter (refuse x) n values buffer = buffer
 
 -- what stands after a call whose tests come to this: a refusal changes nothing
 abbrev pub afterCheck : {T : Type 0} → Check → T → T → T
-afterCheck pass next now = next
-afterCheck (refuse x) next now = now
+afterCheck pass after before = after
+afterCheck (refuse x) after before = before

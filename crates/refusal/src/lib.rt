@@ -6,17 +6,16 @@ ghost use Rattle.refusal.specs.Checks.{within, _andThen_, check1, check6
 ghost use Rattle.refusal.specs.Checks;
 ghost use Rattle.refusal.specs.Answers.{reasonOf, checkedAs, answerOf, answerTo, bufferAfter};
 
-// Why a call refuses. A refusal is document 01's term: a numbered answer that leaves every lent buffer as it was. Each variant has the words of
-// its paper: 1 to 28 those of document 01, 29 to 50 those of document 02, with the request in brackets. No call gives a number of a request
-// that has not landed. `reasonOf` of specs/Answers.antt gives each its number, and the place that it carries.
-
 mod numbers; // the number and the place of a refusal
 
 pub use numbers::number;
 pub use numbers::place;
 
+// Why a call refuses. A refusal is document 01's term: a numbered answer that leaves every lent buffer as it was. The variants stand in the order
+// of their numbers: 1 to 28 are those of document 01, 29 to 50 those of document 02, with the request in brackets.
+// `reasonOf` of specs/Answers.antt gives each its number, and the position or offset that it carries.
 pub enum Refusal {
-    // root key (EMSK, VRK, VMSK) not 64 to 128 bytes
+    // root key (EMSK, VRK, VMSK) or MAC key (8) not 64 to 128 bytes; the parent of RFC 5296's key not 64 bytes (6)
     RootKeyLength,
     // label not 1 to 255 bytes
     LabelLength,
@@ -50,7 +49,7 @@ pub enum Refusal {
     AttributeBounds(usize),
     // AT_KDF whose length is not 1
     KdfLength,
-    // AT_KDF_INPUT whose length disagrees with its name length, or whose padding is not zero
+    // AT_KDF_INPUT whose length disagrees with its name length
     KdfInput,
     // AT_KDF_INPUT missing or repeated
     NetworkName,
@@ -72,7 +71,7 @@ pub enum Refusal {
     IvField,
     // unwrapping does not yield the initial value A6 (eight times)
     Integrity,
-    // padding that is not zero (request 1)
+    // AT_KDF_INPUT whose padding is not zero (request 1)
     KdfInputPadding,
     // a differing name (5)
     NetworkNameDiffers,
@@ -124,9 +123,9 @@ pub enum Checked {
     Failed(Refusal),
 }
 
-// What a call that writes answers: the count of what it wrote, or a refusal.
-pub enum Written {
-    Wrote(usize),
+// What a call answers: a number, as a rule the count of what it wrote, or a refusal.
+pub enum Answered {
+    Accepted(usize),
     Refused(Refusal),
 }
 
@@ -158,7 +157,7 @@ pub fn then_check(so_far: Checked, next: Checked) -> Checked
     }
 }
 
-// The test of a root key, which EMSK, VRK and VMSK share.
+// The test of a root key or a MAC key.
 pub fn check_root_key(key: &[u8]) -> Checked
     ensures { λ r. ⌜ checkedAs r ≡ check1 (now (key .entry)) ⌝ }
 {
@@ -173,17 +172,17 @@ pub fn check_room(n: usize, room: usize) -> Checked
 }
 
 // The answer of a call whose result is at hand, by its tests and then that of the room: the bytes go to the start of out, or nothing does.
-pub fn put(check: Checked, bytes: &[u8], out: &mut [u8]) -> Written
+pub fn put(check: Checked, bytes: &[u8], out: &mut [u8]) -> Answered
     ensures answer { λ r. ⌜ answerOf r ≡ answerTo (checkedAs check andThen check6 (length (now (bytes .entry))) (length (now (out .entry)))) (length (now (bytes .entry))) ⌝ }
     ensures buffer { λ _. ⌜ now (out .exit) ≡ bufferAfter (checkedAs check andThen check6 (length (now (bytes .entry))) (length (now (out .entry)))) (length (now (bytes .entry))) (now (bytes .entry)) (now (out .entry)) ⌝ }
 {
     let n = bytes.len();
     let all = then_check(check, check_room(n, out.len()));
     match all {
-        Checked::Failed(reason) => Written::Refused(reason),
+        Checked::Failed(reason) => Answered::Refused(reason),
         Checked::Passed => {
             bytes::copy(bytes, out);
-            Written::Wrote(n)
+            Answered::Accepted(n)
         }
     }
 }

@@ -1,5 +1,4 @@
 -- What acceptance says of a request: its tests taken apart, one by one.
--- Assumes nothing.
 use Prim.Native.Nat.{ℕ, _≤_}
 use mathlib.Core.Path.{_≡_, refl}
 use mathlib.Core.Bool.{true}

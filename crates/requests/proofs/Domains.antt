@@ -1,5 +1,4 @@
 -- Requests for a domain beside usage requests: 31 keeps the kinds apart, and demand 3 the domains.
--- Assumes nothing.
 use Prim.Native.Nat.{ℕ}
 use mathlib.Core.Path.{_≡_, refl, sym, ap, _∙_}
 use mathlib.Core.Bool.{true}

@@ -1,5 +1,4 @@
 -- The key of a request is made of its blocks, a VRK is the usage request with its label, and some requests are accepted.
--- Assumes nothing.
 use Prim.Native.Nat.{ℕ, zero, suc}
 use mathlib.Core.Path.{_≡_, refl}
 use mathlib.Core.List.{List}

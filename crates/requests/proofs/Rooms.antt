@@ -1,5 +1,4 @@
 -- The expansion's tests at 64 bytes come to that of the room alone, so the tests of a key of 64 bytes with the expansion's after them are one chain.
--- Assumes nothing.
 use Prim.Native.Nat.{ℕ}
 use mathlib.Core.Path.{_≡_, refl}
 use Rattle.refusal.specs.Checks.{Check, unless, _andThen_, within, check6}

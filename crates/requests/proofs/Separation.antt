@@ -1,6 +1,5 @@
 -- Usage keys are separated. The last byte of a block's input gives the block number; the block before it has one length for one number, so
 -- the texts are equal; the first zero byte of a text ends its label, since no accepted label holds one; its last two bytes give the length.
--- Assumes nothing.
 use Prim.Native.Nat.{ℕ, zero, suc, _≤_, _/_, _%_, _^_}
 use mathlib.Core.Path.{_≡_, refl, ap}
 use mathlib.Core.Bool.{Bool, true, false}

@@ -1,7 +1,6 @@
 -- Requests for keys under an EMSK: when one is accepted, the bytes handed to HMAC for each of its blocks, its key, and what the call
 -- answers and leaves (document 01, "Usage keys"; document 02, request 6). The contracts of the calls under an EMSK and the separation of their keys speak of
 -- these same definitions.
--- Assumes nothing.
 use Prim.Native.Nat.{ℕ, _≤_}
 use mathlib.Core.List.{List, []}
 use mathlib.Core.Path.{_≡_}

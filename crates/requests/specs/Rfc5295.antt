@@ -1,6 +1,5 @@
 -- The text S of a usage key: RFC 5295, as source document 000 section 3 writes it and document 01 reads it ("Usage keys"). A byte
 -- string is a list of numbers.
--- Assumes nothing.
 use Prim.Native.Nat.{ℕ}
 use mathlib.Core.List.{List, _∷_, _++_}
 use lib.Dec.{leb}

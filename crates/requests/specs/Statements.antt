@@ -1,7 +1,6 @@
 -- What is proved of requests under an EMSK (document 01, demand 3, "Usage keys", "Visited keys"; document 02, request 6). The proofs are `separated`
 -- and `gate-texts` of proofs/Separation.antt, those of the two statements on domains in proofs/Domains.antt, and `key-of-blocks`, `vrk-is-usage` and
 -- `some-accepted` of proofs/Requests.antt.
--- Assumes nothing.
 use Prim.Native.Nat.{ℕ, _≤_}
 use mathlib.Core.Path.{_≡_}
 use mathlib.Core.Bool.{Bool, true, false}

@@ -1,5 +1,4 @@
 -- The blocks of HMAC's key: a copy with zeros after it, a block masked byte by byte, and the key's block by the key's length.
--- Assumes nothing.
 use Prim.Native.Nat.{ℕ, zero, suc, _+_, _-_, _<_, _≤_}
 use mathlib.Core.Path.{_≡_, sym, ap, _∙_}
 use mathlib.Core.Bool.{Bool, cond}

@@ -1,5 +1,4 @@
 -- HMAC by the hash values after a key's two blocks is RFC 2104's HMAC, since both are blocks of 64 bytes.
--- Assumes nothing.
 use Prim.Native.Nat.{ℕ, _≤_}
 use mathlib.Core.Path.{_≡_, ap, _∙_}
 use mathlib.Core.List.{List, _++_}

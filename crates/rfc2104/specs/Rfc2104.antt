@@ -1,5 +1,5 @@
 -- RFC 2104 (HMAC: Keyed-Hashing for Message Authentication), section 2, over any hash whose blocks have 64 bytes (the RFC's B).
--- A byte string is a list of numbers. Assumes nothing.
+-- A byte string is a list of numbers.
 use Prim.Native.Nat.{ℕ, _-_}
 use mathlib.Core.Bool.{cond}
 use mathlib.Core.List.{List, _++_, map}

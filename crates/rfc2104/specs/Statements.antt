@@ -1,4 +1,4 @@
--- What is proved of HMAC's definitions. Assumes nothing.
+-- What is proved of HMAC's definitions.
 use mathlib.Core.Path.{_≡_}
 use mathlib.Core.List.{List}
 use Prim.Native.Nat.{ℕ, _≤_}

@@ -1,6 +1,5 @@
 -- What is wrapped is unwrapped again, with the initial value; and bytes that unwrap with the initial value are what wrapping their key gives. Both hold under any
 -- KEK of bytes, for a key of any length: the passes run over its whole blocks of eight.
--- Assumes nothing.
 use mathlib.Core.Path.{_≡_, refl, sym, ap, ap₂, _∙_}
 use mathlib.Core.Bool.{true}
 use mathlib.Core.List.{List, _++_}

@@ -1,6 +1,5 @@
 -- A step of the wrapping and the step that unwraps it undo each other, both ways, over any cipher whose two directions do; so do passes, and any number of
 -- passes. A step keeps eight bytes in A, and the count of bytes in R.
--- Assumes nothing.
 use mathlib.Core.Path.{_≡_, refl, sym, ap, ap₂, _∙_}
 use mathlib.Core.List.{List, [], _∷_, _++_}
 use Prim.Native.Nat.{ℕ, zero, suc, _+_, _*_, _/_, _%_, _^_, _≤_, _<_}

@@ -1,6 +1,5 @@
 -- RFC 3394, the key wrap, over any block cipher E with its inverse D, and then with AES-128. Bytes are numbers; a semiblock of the document, 64 bits, is eight
 -- bytes. The wrapping and the unwrapping are those of sections 2.2.1 and 2.2.2 in their indexed form, with i counted from 0: the document's R[i + 1] is block i.
--- Assumes nothing.
 use mathlib.Core.Bool.{Bool, true, false}
 use mathlib.Core.List.{List, [], _∷_, _++_}
 use Prim.Native.Nat.{ℕ, zero, suc, _+_, _*_, _/_, _%_, _^_}

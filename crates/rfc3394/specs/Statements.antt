@@ -1,5 +1,4 @@
 -- What is proved of the key wrap, under any KEK of bytes and for a key of any length: the passes run over its whole blocks of eight.
--- Assumes nothing.
 use mathlib.Core.Path.{_≡_}
 use mathlib.Core.List.{List}
 use Prim.Native.Nat.{ℕ, _+_, _-_, _≤_}

@@ -1,5 +1,4 @@
 -- What a hash at a block's start comes to, from the parts that the code computes (Marked.antt of the crate fips180).
--- Assumes nothing.
 use mathlib.Core.Path.{_≡_, refl, sym, ap, _∙_}
 use mathlib.Core.List.{List, _++_}
 use Prim.Native.Nat.{ℕ, _+_, _*_, _/_, _%_, _^_, _<_}

@@ -1,5 +1,4 @@
 -- The digest of SHA-1's hash in progress is the standard's hash, of 20 bytes, and has the words of the last hash value.
--- Assumes nothing.
 use mathlib.Core.Path.{_≡_, refl}
 use mathlib.Core.List.{List}
 use Prim.Native.Nat.{ℕ}

@@ -1,5 +1,5 @@
 -- What only the contracts of private functions need. Nothing here has to be believed.
--- SHA-1's last hash value, from a message's last bytes. Assumes nothing.
+-- SHA-1's last hash value, from a message's last bytes.
 use mathlib.Core.List.{List}
 use Prim.Native.Nat.{ℕ}
 use Rattle.fips180.specs.Internal.{closingBy}

@@ -1,5 +1,4 @@
 -- Runs of SHA-1's rounds: which of them have which function and constant, and the words that they find in the window.
--- Assumes nothing.
 use mathlib.Core.Path.{_≡_, refl, sym, ap, _∙_}
 use mathlib.Core.List.{List}
 use Prim.Native.Nat.{ℕ, zero, suc, _+_, _*_, _/_, _%_, _<_, _≤_}

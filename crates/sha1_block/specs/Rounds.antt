@@ -1,4 +1,4 @@
--- Rounds of SHA-1 (FIPS 180-4, 6.1.2, 3) of one function and one constant with given words. Assumes nothing.
+-- Rounds of SHA-1 (FIPS 180-4, 6.1.2, 3) of one function and one constant with given words.
 use mathlib.Core.List.{List}
 use Prim.Native.Nat.{ℕ, zero, suc, _+_}
 use lib.ListN.{getD}

@@ -1,4 +1,4 @@
--- The working variables of SHA-1 (FIPS 180-4, 6.1.2) as the code keeps them, and a round by its function and its constant. Assumes nothing.
+-- The working variables of SHA-1 (FIPS 180-4, 6.1.2) as the code keeps them, and a round by its function and its constant.
 use mathlib.Core.List.{List, [], _∷_}
 use Prim.Native.Nat.{ℕ}
 use lib.ListN.{getD}

@@ -1,5 +1,4 @@
 -- A digest in the last block after one whole block, as the code writes it there: copied over zeros, the bit 1, the count of bits.
--- Assumes nothing.
 use mathlib.Core.Path.{_≡_, refl, sym, ap, _∙_}
 use mathlib.Core.List.{List, _++_}
 use Prim.Native.Nat.{ℕ, _+_, _*_, _/_, _%_, _^_, _<_}

@@ -1,5 +1,4 @@
 -- The digest of SHA-256's hash in progress is the standard's hash, and it has 32 bytes.
--- Assumes nothing.
 use mathlib.Core.Path.{_≡_, refl}
 use mathlib.Core.List.{List}
 use Prim.Native.Nat.{ℕ}

@@ -1,5 +1,5 @@
 -- What only the contracts of private functions need. Nothing here has to be believed.
--- A hash in progress by its parts, its last hash value, and one of six parts by its place. Assumes nothing.
+-- A hash in progress by its parts, its last hash value, and one of six parts by its place.
 use mathlib.Core.List.{List, [], _∷_}
 use Prim.Native.Nat.{ℕ}
 use lib.ListN.{getD}

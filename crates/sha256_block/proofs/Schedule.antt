@@ -1,5 +1,4 @@
 -- SHA-256's window while it is refilled (Window.antt of the crate fips180), word by word.
--- Assumes nothing.
 use mathlib.Core.List.{List}
 use mathlib.Core.Path.{_≡_}
 use Prim.Native.Nat.{ℕ, suc, _+_}

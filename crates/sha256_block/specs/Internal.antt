@@ -1,5 +1,5 @@
 -- What only the contracts of private functions need. Nothing here has to be believed.
--- Sixteen words of the schedule, and constants by their rounds. Assumes nothing.
+-- Sixteen words of the schedule, and constants by their rounds.
 use mathlib.Core.Path.{_≡_}
 use mathlib.Core.List.{List}
 use Prim.Native.Nat.{ℕ, _+_, _<_}

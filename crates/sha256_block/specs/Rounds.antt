@@ -1,4 +1,4 @@
--- Rounds of SHA-256 (FIPS 180-4, 6.2.2, 3) with given constants and words. Assumes nothing.
+-- Rounds of SHA-256 (FIPS 180-4, 6.2.2, 3) with given constants and words.
 use mathlib.Core.List.{List}
 use Prim.Native.Nat.{ℕ, zero, suc}
 use lib.ListN.{getD}

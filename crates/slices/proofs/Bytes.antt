@@ -1,5 +1,4 @@
 -- Lists of bytes: what is taken from one or joined of two is one.
--- Assumes nothing.
 use mathlib.Core.List.{List, [], _∷_, _++_}
 use Prim.Native.Nat.{ℕ, zero, suc}
 use native.Mathlib.Omega.{arith}

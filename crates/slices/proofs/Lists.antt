@@ -1,5 +1,4 @@
 -- Laws of parts of lists, and of a copy to the start of a list, element by element.
--- Assumes nothing.
 use Prim.Native.Nat.{ℕ, _+_, _-_, _<_, _≤_, min}
 use mathlib.Core.Path.{_≡_, sym, ap, _∙_}
 use mathlib.Core.List.{List, _++_}

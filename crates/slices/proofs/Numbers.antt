@@ -1,5 +1,4 @@
 -- Numbers as four bytes, high byte first: the bytes of a number hold it, and four bytes are those of the number that they hold.
--- Assumes nothing.
 use Prim.Native.Nat.{ℕ, _+_, _*_, _/_, _%_, _^_, _≤_, _<_}
 use mathlib.Core.Path.{_≡_, refl, sym, _∙_}
 use mathlib.Core.List.{List, [], _∷_, _++_}

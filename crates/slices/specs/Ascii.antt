@@ -1,5 +1,4 @@
 -- Texts as byte strings, so that a fixed label stands in the definitions as the papers write it.
--- Assumes nothing.
 use Prim.Native.Nat.{ℕ}
 use Prim.Native.Char.{code}
 use Prim.Native.String.{String, [] as empty, _∷_ as _then_}

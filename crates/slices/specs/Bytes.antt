@@ -1,5 +1,4 @@
 -- A list of bytes, as every lent slice of bytes is one.
--- Assumes nothing.
 use mathlib.Core.List.{List}
 use Prim.Native.Nat.{ℕ, _<_}
 use lib.ListN.{getD}

@@ -1,6 +1,4 @@
--- Whether two lists are equal, element by element: network names, lists of offers, initial values (document 01, "Attribute area", "Offers",
--- "Key attribute").
--- Assumes nothing.
+-- Whether two lists are equal, element by element.
 use Prim.Native.Nat.{ℕ}
 use mathlib.Core.Path.{_≡_}
 use mathlib.Core.Bool.{Bool, true, false, _&&_}

@@ -1,6 +1,5 @@
 -- What the operations on the word of taken slots come to in the table: the lowest zero digit is the lowest free slot, the count of the set digits
 -- is that of the live slots, and a digit set or cleared is a slot taken or freed.
--- Assumes nothing.
 use mathlib.Core.Path.{_≡_, refl, sym, ap, ap₂, _∙_}
 use mathlib.Core.Bool.{Bool, true, false, cond, _&&_}
 use mathlib.Core.List.{List, [], _∷_, map}

@@ -1,5 +1,4 @@
 -- Every table that calls make from the empty one is sound: a live slot's parent is none or live, and a root is near.
--- Assumes nothing.
 use mathlib.Core.Path.{_≡_, refl, sym, ap, ap₂, _∙_}
 use mathlib.Core.Bool.{Bool, true, false, cond, _&&_, _||_, false≢true}
 use mathlib.Core.List.{List, [], _∷_}
@@ -10,7 +9,7 @@ use lib.Dec.{ltb, eqb}
 use lib.ListN.{length, getD, set, replicate}
 use lib.Seq.{getD-set-same, getD-set-other}
 use Rattle.refusal.specs.Checks.{Check, pass, refuse, bare, unless, _andThen_}
-use Rattle.refusal.specs.Answers.{Answer, wrote, refused}
+use Rattle.refusal.specs.Answers.{Answer, returned, refused}
 use Rattle.refusal.proofs.Passing.{before-passed, last-passed, test-passed}
 use Rattle.slot_rules.specs.declared.Name.{Name}
 use Rattle.slot_rules.specs.declared.Parent.{Parent}

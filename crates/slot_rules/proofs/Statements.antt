@@ -1,5 +1,4 @@
 -- What holds of any calls on slots.
--- Assumes nothing.
 use mathlib.Core.Path.{_≡_, refl, sym, ap, _∙_}
 use mathlib.Core.Bool.{Bool, true, false, cond, _&&_, _||_}
 use mathlib.Core.List.{List, [], _∷_}
@@ -11,7 +10,7 @@ use lib.ListN.{length, getD, replicate}
 use lib.Seq.{getD-set-other}
 use Rattle.slices.proofs.Truth.{and-left}
 use Rattle.refusal.specs.Checks.{Check, pass, refuse, bare, unless, _andThen_}
-use Rattle.refusal.specs.Answers.{Answer, wrote, refused, answerTo}
+use Rattle.refusal.specs.Answers.{Answer, returned, refused, answerTo}
 use Rattle.refusal.proofs.Passing.{last-passed, test-passed, test-holds}
 use Rattle.slot_rules.specs.declared.Parent.{Parent}
 use Rattle.slot_rules.specs.Table.{Slot, free, holding, lowestFree, liveCount, isHolding, isLive}
@@ -108,7 +107,7 @@ said-46 true true false n e = (refl, refl, refl)
 said-46 true false c n e = let z : _≡_ {A = ℕ} 49 46 = cc in absurd (omega arith)
 said-46 false b c n e = let z : _≡_ {A = ℕ} 48 46 = cc in absurd (omega arith)
 
-said-wrote : (a b c : Bool) (n i : ℕ) → said a b c n ≡ wrote i → (c ≡ true) × (n ≡ i)
+said-wrote : (a b c : Bool) (n i : ℕ) → said a b c n ≡ returned i → (c ≡ true) × (n ≡ i)
 unfolding said unless _andThen_
 said-wrote true true true n i e = (refl, cc)
 said-wrote true true false n i e = let z : _≡_ {A = ℕ} 0 1 = cc (sym e) in absurd (omega arith)

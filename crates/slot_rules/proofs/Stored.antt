@@ -1,5 +1,4 @@
 -- What the operations on stored slots come to in the table that they hold.
--- Assumes nothing.
 use mathlib.Core.Path.{_≡_, refl, sym, ap, ap₂, _∙_}
 use mathlib.Core.Bool.{Bool, true, false}
 use mathlib.Core.List.{List}
@@ -11,7 +10,7 @@ use lib.Count.{ones, trailingZeros}
 use lib.Dec.{ltb, eqb}
 use lib.ListN.{length, set}
 use Rattle.refusal.specs.Checks.{Reason, Check, pass, refuse, bare, unless, _andThen_}
-use Rattle.refusal.specs.Answers.{wrote, refused, answerTo}
+use Rattle.refusal.specs.Answers.{returned, refused, answerTo}
 use Rattle.refusal.proofs.Passing.{before-passed, last-passed, test-passed, test-holds}
 use Rattle.slot_rules.specs.declared.Name.{Name}
 use Rattle.slot_rules.specs.declared.Slots.{Slots}
@@ -158,18 +157,18 @@ module _ (s : Slots) (f : Fits s) where
       go pass e = simp e (rw keys-size at (freed-law (goesWith (tableOf s) n) (keysOf (s .names) (s .parents)) (s .taken) 0))
       go (refuse y) e = simp e
 
-  pub drop-count : (n : ℕ) → isLive (tableOf s) n ≡ true → wrote (ones (goneWith s n)) ≡ dropAnswer (tableOf s) n
+  pub drop-count : (n : ℕ) → isLive (tableOf s) n ≡ true → returned (ones (goneWith s n)) ≡ dropAnswer (tableOf s) n
   unfolding dropAnswer check47
   drop-count n e =
-      ap wrote (count-law (goesWith (tableOf s) n) 0 64 ∙ ap (countGone (goesWith (tableOf s) n) 0) (sym size))
+      ap returned (count-law (goesWith (tableOf s) n) 0 64 ∙ ap (countGone (goesWith (tableOf s) n) 0) (sym size))
       ∙ sym (ap (λ (d : Check). answerTo d (countGone (goesWith (tableOf s) n) 0 (length (tableOf s)))) (test-holds _ _ e))
 
 -- ---- the other cases of the calls
 
 module _ (s : Slots) (p : Parent) where
-  pub put-number : (i : ℕ) → i ≡ lowestFree (tableOf s) → putCheck (tableOf s) p ≡ pass → wrote i ≡ putAnswer (tableOf s) p
+  pub put-number : (i : ℕ) → i ≡ lowestFree (tableOf s) → putCheck (tableOf s) p ≡ pass → returned i ≡ putAnswer (tableOf s) p
   unfolding putAnswer
-  put-number i e h = rw h (ap wrote e)
+  put-number i e h = rw h (ap returned e)
 
   pub put-none : (y : Reason) → putCheck (tableOf s) p ≡ refuse y → refused y ≡ putAnswer (tableOf s) p
   unfolding putAnswer

@@ -1,5 +1,4 @@
 -- The calls on a table of slots (document 02, requests 12 and 13): what each answers, and the table after it. An accepted call answers a number.
--- Assumes nothing.
 use Prim.Native.Nat.{ℕ}
 use mathlib.Core.List.{List}
 use lib.Dec.{ltb}

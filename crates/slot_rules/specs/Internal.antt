@@ -1,5 +1,4 @@
 -- Steps as the code makes them, on the word of taken slots and the bytes of their parents. Only private functions' contracts need this.
--- Assumes nothing.
 use Prim.Native.Nat.{ℕ}
 use mathlib.Core.Path.{_≡_}
 use mathlib.Core.Bool.{Bool, cond, _&&_, _||_}

@@ -1,5 +1,4 @@
 -- Keys and their parents (document 02, request 13). A step goes from a live slot to its parent. A root is a live slot without a parent.
--- Assumes nothing.
 use Prim.Native.Nat.{ℕ, zero, suc}
 use mathlib.Core.Bool.{Bool, true, false, _||_, _&&_}
 use mathlib.Core.List.{List}

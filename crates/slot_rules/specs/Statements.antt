@@ -1,12 +1,11 @@
 -- What is proved of the calls on slots (document 02, requests 12 and 13). The proofs are in proofs/.
--- Assumes nothing.
 use Prim.Native.Nat.{ℕ, _+_, _<_}
 use mathlib.Core.Path.{_≡_}
 use mathlib.Core.Bool.{Bool, true, false}
 use mathlib.Core.List.{List, [], _∷_}
 use lib.ListN.{length, getD, replicate}
 use Rattle.refusal.specs.Checks.{bare}
-use Rattle.refusal.specs.Answers.{Answer, wrote, refused}
+use Rattle.refusal.specs.Answers.{Answer, returned, refused}
 use Rattle.slot_rules.specs.declared.Name.{Name}
 use Rattle.slot_rules.specs.declared.Parent.{Parent}
 use Rattle.slot_rules.specs.declared.Parent.the-variants.{Root, Below}
@@ -34,11 +33,11 @@ afterAll t (x ∷ calls) = afterAll (after t x) calls
 
 -- 1 for an accepted put; how many an accepted drop says went; 0 for a refusal
 abbrev pub onePut : Answer → ℕ
-onePut (wrote n) = 1
+onePut (returned n) = 1
 onePut (refused x) = 0
 
 abbrev pub gone : Answer → ℕ
-gone (wrote n) = n
+gone (returned n) = n
 gone (refused x) = 0
 
 abbrev pub putBy : List (Slot Key) → Call → ℕ
@@ -86,7 +85,7 @@ PutRefused =
 abbrev pub LowestTaken : Type 0
 LowestTaken =
     (t : List (Slot Key)) (p : Parent) (i : ℕ)
-    → putAnswer t p ≡ wrote i
+    → putAnswer t p ≡ returned i
     → (i < length t) × (isLive t i ≡ false) × ((j : ℕ) → j < i → isLive t j ≡ true)
 
 abbrev pub OthersStay : Type 0

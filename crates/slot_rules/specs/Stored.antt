@@ -1,5 +1,4 @@
 -- How `Slots` holds a table of slots, and what each call leaves in it, the names and parents of free slots included.
--- Assumes nothing.
 use Prim.Native.Nat.{ℕ, _-_, _^_}
 use mathlib.Core.Bool.{cond}
 use mathlib.Core.List.{List, [], _∷_}

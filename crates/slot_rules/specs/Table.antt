@@ -1,6 +1,5 @@
 -- A table of slots (document 02, requests 12 and 13), whatever a slot holds, and how a word tells which slots are taken. Slots are counted from 0, and
 -- slot 0 is the word's lowest binary digit.
--- Assumes nothing.
 use Prim.Native.Nat.{ℕ, zero, suc, _+_, _*_, _/_, _%_, _^_}
 use mathlib.Core.Bool.{Bool, true, false, cond, _&&_}
 use mathlib.Core.List.{List, [], _∷_}

@@ -1,5 +1,4 @@
 -- A number that is none of the first n is past the end of a table of at most n entries, and a look-up there gives 0.
--- Assumes nothing.
 use mathlib.Core.Path.{_≡_, refl}
 use mathlib.Core.List.{List, [], _∷_}
 use Prim.Native.Nat.{ℕ, zero, suc, _≤_}

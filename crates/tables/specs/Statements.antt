@@ -1,5 +1,4 @@
 -- The two laws of this crate. Nothing here is of a standard.
--- Assumes nothing.
 use mathlib.Core.Path.{_≡_}
 use mathlib.Core.List.{List}
 use Prim.Native.Nat.{ℕ, _+_, _<_, _≤_}

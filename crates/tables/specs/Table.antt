@@ -1,5 +1,4 @@
 -- The last arm of a `match` over the first n numbers. Nothing here is of a standard.
--- Assumes nothing.
 use mathlib.Core.Path.{_≡_}
 use Prim.Native.Nat.{ℕ, zero, suc}
 

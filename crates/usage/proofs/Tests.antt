@@ -1,5 +1,4 @@
 -- The tests of a usage request, of which the expansion makes the last two: one chain, grouped otherwise.
--- Assumes nothing.
 use Prim.Native.Nat.{ℕ}
 use mathlib.Core.Path.{_≡_, sym, ap, _∙_}
 use mathlib.Core.List.{List}

@@ -11,9 +11,9 @@ ghost use Rattle.requests.specs.Rfc5295.{check4};
 ghost use Rattle.requests.specs.Requests.{forUsage, requestAnswer, requestBuffer};
 use labels::check_domain_label;
 use labels::check_label;
+use refusal::Answered;
 use refusal::Checked;
 use refusal::Refusal;
-use refusal::Written;
 
 // The most bytes of optional data.
 const MOST_DATA: usize = 2048;
@@ -37,7 +37,7 @@ pub fn usage_key<'a>(
     data: &'a [u8],
     n: usize,
     out: &mut [u8],
-) -> Written
+) -> Answered
     ensures answer { λ r. ⌜ answerOf r ≡ requestAnswer (now (emsk .entry)) (forUsage (now (label .entry)) (now («data» .entry)) n (length (now (out .entry)))) ⌝ }
     ensures buffer { λ _. ⌜ now (out .exit) ≡ requestBuffer (now (emsk .entry)) (forUsage (now (label .entry)) (now («data» .entry)) n (length (now (out .entry)))) (now (out .entry)) ⌝ }
 {

@@ -1,5 +1,4 @@
 -- NIST's examples, computed from the definitions.
--- Assumes nothing.
 use mathlib.Core.Path.{refl}
 use Rattle.fips180.specs.Hash.{padding, padded, scheduleBy, blocksBy, hashBy}
 use Rattle.fips180.specs.Sha256.{H0, nextW, wordAt, W, T1, T2, round, rounds, sums, compress, digest, sha256}

@@ -1,5 +1,4 @@
 -- NIST's example of SHA-1, computed from the definitions.
--- Assumes nothing.
 use mathlib.Core.Path.{refl}
 use Rattle.fips180.specs.Hash.{padding, padded, scheduleBy, blocksBy, hashBy}
 use Rattle.fips180.specs.Sha1.{H0, nextW, wordAt, W, T, step, round, rounds, sums, compress, digest, sha1}

@@ -1,4 +1,4 @@
--- The two examples of SHA-256 that NIST publishes for FIPS 180-4, as statements about the definition. Assumes nothing.
+-- The two examples of SHA-256 that NIST publishes for FIPS 180-4, as statements about the definition.
 use mathlib.Core.Path.{_≡_}
 use mathlib.Core.List.{[], _∷_}
 use Rattle.sha256_block.specs.Fips180.{sha256}

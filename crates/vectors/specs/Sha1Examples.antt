@@ -1,4 +1,4 @@
--- The example of SHA-1 of one block that NIST publishes for FIPS 180-4, as a statement about the definition. Assumes nothing.
+-- The example of SHA-1 of one block that NIST publishes for FIPS 180-4, as a statement about the definition.
 use mathlib.Core.Path.{_≡_}
 use mathlib.Core.List.{[], _∷_}
 use Rattle.fips180.specs.Sha1.{sha1}

@@ -3,7 +3,7 @@
 // expected lines; docs/VECTORS.md says where each comes from.
 ghost use Prim.Native.Nat.{_≤_};
 use libc::STDOUT_FILENO;
-use refusal::Written;
+use refusal::Answered;
 use sha1_block::compress_blocks;
 use sha256::Sha256;
 
@@ -327,13 +327,13 @@ fn fips_197() {
 fn wrap(name: &[u8], key: &[u8]) {
     let kek = [0, 1, 2, 3, 4, 5, 6, 7, 8, 9, 10, 11, 12, 13, 14, 15];
     let mut wrapped = [0u8; 200];
-    let Written::Wrote(n) = keywrap_aes::wrap(kek, key, &mut wrapped) else {
+    let Answered::Accepted(n) = keywrap_aes::wrap(kek, key, &mut wrapped) else {
         return;
     };
     let m = within(n, 200);
     line(name, &wrapped[..m]);
     let mut back = [0u8; 200];
-    let Written::Wrote(k) = keywrap_aes::unwrap(kek, &wrapped[..m], &mut back) else {
+    let Answered::Accepted(k) = keywrap_aes::unwrap(kek, &wrapped[..m], &mut back) else {
         return;
     };
     let j = within(k, 200);

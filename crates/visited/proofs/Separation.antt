@@ -1,5 +1,4 @@
 -- Of VMSK requests with one domain, the texts are equal exactly when the server IDs are: the domain is cancelled from the back.
--- Assumes nothing.
 use mathlib.Core.Path.{refl}
 use mathlib.Core.List.{append-cancel-right}
 use Rattle.visited.specs.Visited.{vmskText, vmskKey}

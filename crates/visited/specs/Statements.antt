@@ -1,5 +1,4 @@
 -- What is proved of VMSK requests (document 01, "Visited keys"), and what is not promised of them. The proofs are in proofs/Separation.antt.
--- Assumes nothing.
 use Prim.Native.Nat.{ℕ}
 use mathlib.Core.Path.{_≡_}
 use mathlib.Core.Logic.{_↔_}

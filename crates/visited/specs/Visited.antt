@@ -1,6 +1,5 @@
 -- The visited-domain keys under a VRK and under a VMSK (source document 001, sections 4.2 and 5.1; document 01, "Visited keys"). The VRK
 -- itself is a request under the EMSK: `forVrk` of the crate requests' specs/Requests.antt.
--- Assumes nothing.
 use Prim.Native.Nat.{ℕ}
 use mathlib.Core.List.{List, _++_}
 use lib.ListN.{length}

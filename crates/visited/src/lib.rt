@@ -7,11 +7,11 @@ ghost use Rattle.refusal.specs.Answers.{checkedAs, answerOf};
 ghost use Rattle.labels.specs.IdentifiersChecks.{check7, check8};
 ghost use Rattle.requests.specs.Requests.{forVrk, requestAnswer, requestBuffer};
 ghost use Rattle.visited.specs.Visited.{vmskAnswer, vmskBuffer, reauthAnswer, reauthBuffer};
+use refusal::Answered;
 use refusal::Checked;
-use refusal::Written;
 
 // Writes the VRK: the usage key of its fixed label, with no data and n = 64.
-pub fn visited_root_key(emsk: &[u8], out: &mut [u8]) -> Written
+pub fn visited_root_key(emsk: &[u8], out: &mut [u8]) -> Answered
     ensures answer { λ r. ⌜ answerOf r ≡ requestAnswer (now (emsk .entry)) (forVrk (length (now (out .entry)))) ⌝ }
     ensures buffer { λ _. ⌜ now (out .exit) ≡ requestBuffer (now (emsk .entry)) (forVrk (length (now (out .entry)))) (now (out .entry)) ⌝ }
 {
@@ -36,7 +36,7 @@ pub fn visited_master_key<'a>(
     server: &'a [u8],
     domain: &'a [u8],
     out: &mut [u8],
-) -> Written
+) -> Answered
     ensures answer { λ r. ⌜ answerOf r ≡ vmskAnswer (now (vrk .entry)) (now (server .entry)) (now (domain .entry)) (length (now (out .entry))) ⌝ }
     ensures buffer { λ _. ⌜ now (out .exit) ≡ vmskBuffer (now (vrk .entry)) (now (server .entry)) (now (domain .entry)) (now (out .entry)) ⌝ }
 {
@@ -45,7 +45,7 @@ pub fn visited_master_key<'a>(
 }
 
 // Writes the V-rRK. Its S is the label alone.
-pub fn visited_reauth_key(vmsk: &[u8], out: &mut [u8]) -> Written
+pub fn visited_reauth_key(vmsk: &[u8], out: &mut [u8]) -> Answered
     ensures answer { λ r. ⌜ answerOf r ≡ reauthAnswer (now (vmsk .entry)) (length (now (out .entry))) ⌝ }
     ensures buffer { λ _. ⌜ now (out .exit) ≡ reauthBuffer (now (vmsk .entry)) (now (out .entry)) ⌝ }
 {

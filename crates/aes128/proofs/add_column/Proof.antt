@@ -1,5 +1,3 @@
--- `aes128::add_column` meets its contract.
--- Assumes nothing.
 use mathlib.Core.Path.{_∙_}
 use Rattle.aes128.proofs.columns.Words.{added-columns}
 use borrow.Author.Needs.{needs}

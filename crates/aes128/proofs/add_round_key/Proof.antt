@@ -1,5 +1,3 @@
--- `aes128::add_round_key` meets its contract.
--- Assumes nothing.
 use Rattle.fips197.specs.State.{addRoundKey}
 use Rattle.fips197.proofs.Four.{four}
 use borrow.Author.Needs.{needs}

@@ -1,5 +1,4 @@
 -- `aes128::decrypt` meets its contract: what is left of the rounds at place i is what was left at the start.
--- Assumes nothing.
 use mathlib.Core.Path.{_≡_, refl, _∙_}
 use Prim.Native.Nat.{_≤_, _-_}
 use native.Mathlib.Omega.{arith}

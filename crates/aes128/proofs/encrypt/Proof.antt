@@ -1,5 +1,4 @@
 -- `aes128::encrypt` meets its contract: after i turns the state is that of i rounds.
--- Assumes nothing.
 use mathlib.Core.Path.{_≡_, refl}
 use Prim.Native.Nat.{_≤_, _-_}
 use native.Mathlib.Omega.{arith}

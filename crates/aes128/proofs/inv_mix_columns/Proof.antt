@@ -1,5 +1,3 @@
--- `aes128::inv_mix_columns` meets its contract.
--- Assumes nothing.
 use Rattle.aes128.proofs.Lookups.{inv-mix-by}
 use borrow.Author.Needs.{needs}
 use Rattle.aes128.proofs.inv_mix_columns.Statement.{statement}

@@ -1,5 +1,3 @@
--- `aes128::inv_sub_bytes` meets its contract.
--- Assumes nothing.
 use Rattle.aes128.proofs.Lookups.{inv-sub-by}
 use borrow.Author.Needs.{needs}
 use Rattle.aes128.proofs.inv_sub_bytes.Statement.{statement}

@@ -1,5 +1,4 @@
 -- The key expansion, step by step. Each lemma is over plain lists and numbers, and its premises are what the callees ensure.
--- Assumes nothing.
 use mathlib.Core.Path.{_≡_, refl, sym, ap, ap₂, _∙_}
 use mathlib.Core.List.{List, [], _∷_}
 use Prim.Native.Nat.{ℕ, zero, suc, _+_, _-_, _<_}

@@ -1,5 +1,4 @@
 -- Doubling a word doubles each of its bytes, and so the column that the code mixes as one word is the mixed column of FIPS 197.
--- Assumes nothing.
 use mathlib.Core.Path.{_≡_, sym, ap, ap₂, _∙_}
 use mathlib.Core.List.{List, [], _∷_}
 use Prim.Native.Nat.{ℕ, _+_, _*_, _/_, _%_, _<_}

@@ -1,5 +1,3 @@
--- `aes128::mix_columns` meets its contract.
--- Assumes nothing.
 use Rattle.aes128.proofs.Lookups.{mix-by}
 use borrow.Author.Needs.{needs}
 use Rattle.aes128.proofs.mix_columns.Statement.{statement}

@@ -1,5 +1,3 @@
--- `aes128::sub_bytes` meets its contract.
--- Assumes nothing.
 use Rattle.aes128.proofs.Lookups.{sub-by}
 use borrow.Author.Needs.{needs}
 use Rattle.aes128.proofs.sub_bytes.Statement.{statement}

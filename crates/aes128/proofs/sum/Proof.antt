@@ -1,5 +1,3 @@
--- `aes128::sum` meets its contract.
--- Assumes nothing.
 use Rattle.aes128.proofs.Lookups.{sum-by}
 use borrow.Author.Needs.{needs}
 use Rattle.aes128.proofs.sum.Statement.{statement}

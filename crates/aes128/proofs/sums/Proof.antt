@@ -1,5 +1,3 @@
--- `aes128::sums` meets its contract.
--- Assumes nothing.
 use Rattle.fips197.proofs.Four.{four}
 use borrow.Author.Needs.{needs}
 use Rattle.aes128.proofs.sums.Statement.{statement}

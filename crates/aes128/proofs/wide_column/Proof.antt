@@ -1,5 +1,3 @@
--- `aes128::wide_column` meets its contract.
--- Assumes nothing.
 use Rattle.fips197.specs.State.{column}
 use Rattle.fips197.proofs.Four.{four}
 use borrow.Author.Needs.{needs}

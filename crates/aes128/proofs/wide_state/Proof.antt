@@ -1,5 +1,3 @@
--- `aes128::wide_state` meets its contract.
--- Assumes nothing.
 use Rattle.fips197.specs.State.{block}
 use Rattle.fips197.proofs.Four.{four}
 use borrow.Author.Needs.{needs}

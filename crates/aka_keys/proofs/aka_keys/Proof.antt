@@ -1,5 +1,4 @@
 -- `aka_keys::aka_keys` meets its contract: by what all its tests came to, and on acceptance by the expansion.
--- Assumes nothing.
 use mathlib.Core.Path.{_≡_, refl, _∙_}
 use denote.Ref.{now}
 use lib.ListN.{length}

@@ -1,5 +1,3 @@
--- `aka_keys::check_inputs` meets its contract.
--- Assumes nothing.
 use mathlib.Core.Path.{_≡_, refl}
 use Rattle.refusal.specs.Checks.{_andThen_}
 use Rattle.refusal.specs.Answers.{checkedAs}

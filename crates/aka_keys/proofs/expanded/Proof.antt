@@ -1,5 +1,4 @@
 -- `aka_keys::expanded` meets its contract: the expansion, and its text by its parts.
--- Assumes nothing.
 use denote.Ref.{now}
 use lib.ListN.{length}
 use Rattle.refusal.specs.Checks.{_andThen_}

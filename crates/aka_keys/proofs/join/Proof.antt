@@ -1,5 +1,4 @@
 -- `aka_keys::join` meets its contract: the first key copied to the start, and the second behind it.
--- Assumes nothing.
 use denote.Ref.{now}
 use Rattle.aka_keys.proofs.Joining.{joined-both}
 use borrow.Author.Needs.{needs}

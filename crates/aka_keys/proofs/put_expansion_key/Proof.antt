@@ -1,5 +1,4 @@
 -- `aka_keys::put_expansion_key` meets its contract: the MAC of the text's parts under CK then IK, its halves swapped.
--- Assumes nothing.
 use denote.Ref.{now}
 use Rattle.aka_keys.proofs.Deriving.{key-by-parts}
 use borrow.Author.Needs.{needs}

@@ -1,5 +1,4 @@
 -- `aka_keys::put_swapped` meets its contract: the two halves, joined the other way round.
--- Assumes nothing.
 use Prim.Native.Nat.{ℕ}
 use mathlib.Core.Path.{ap, _∙_}
 use mathlib.Core.List.{List, _++_}

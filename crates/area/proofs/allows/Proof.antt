@@ -1,5 +1,3 @@
--- `area::allows` meets its contract.
--- Assumes nothing.
 use mathlib.Core.Path.{refl}
 use borrow.Author.Needs.{needs}
 use Rattle.area.proofs.allows.Statement.{statement}

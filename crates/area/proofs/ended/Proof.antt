@@ -1,5 +1,4 @@
 -- `area::ended` meets its contract: the name and the count say which case of `ended` holds.
--- Assumes nothing.
 use native.Mathlib.Omega.{arith}
 use Rattle.area.proofs.Keeping.{no-offer, some-offer}
 use borrow.Author.Needs.{needs}

@@ -1,5 +1,3 @@
--- `area::is_own_name` meets its contract.
--- Assumes nothing.
 use Prim.Native.Nat.{_+_, _-_}
 use mathlib.Core.Path.{_≡_}
 use native.Mathlib.Omega.{arith}

@@ -1,5 +1,4 @@
 -- Laws of names that are compared byte by byte from their start: the loop that gathers differences, and what the shorter decides.
--- Assumes nothing.
 use Prim.Native.Nat.{ℕ, suc, min, _+_, _-_, _≤_, _<_}
 use mathlib.Core.Path.{_≡_, refl, sym, ap, ap₂, _∙_}
 use mathlib.Core.Bool.{Bool, true, false, _&&_}

@@ -1,6 +1,5 @@
 -- `area::read_area` meets its contract: what the walk came to settles the answer and the buffer, and the name that it found lies within the area
 -- (`name-within`).
--- Assumes nothing.
 use Prim.Native.Nat.{_≤_, _<_}
 use mathlib.Core.Path.{_≡_, sym, _∙_}
 use mathlib.Core.List.{[], _++_}

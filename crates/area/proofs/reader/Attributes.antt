@@ -1,5 +1,4 @@
 -- Laws of one attribute: what each test of its length, its type and its padding makes of it.
--- Assumes nothing.
 use Prim.Native.Nat.{ℕ, _≤_, _<_}
 use mathlib.Core.Path.{_≡_, refl, sym}
 use mathlib.Core.Bool.{Bool, true, false, _&&_}

@@ -1,5 +1,4 @@
 -- Laws of the bytes from an offset to another that are all zero: one for each way on in a loop that looks for another byte.
--- Assumes nothing.
 use Prim.Native.Nat.{ℕ, suc, _+_, _-_, _≤_, _<_}
 use mathlib.Core.Path.{_≡_, sym, ap, _∙_}
 use mathlib.Core.Bool.{Bool, true, false, _&&_}

@@ -1,5 +1,4 @@
 -- `area::refusal_at` meets its contract: the fault that was matched says which clause of `faultAt` holds.
--- Assumes nothing.
 use mathlib.Core.Path.{refl}
 use borrow.Author.Needs.{needs}
 use Rattle.area.proofs.refusal_at.Statement.{statement}

@@ -1,6 +1,5 @@
 -- `area::walk` meets its contract. The loop's invariant: reading the area is reading on from the offset, past what was met so far (`ReadTo`); the
 -- measure is what is left of the area. In each arm the attribute that was matched says which clause of `readOn` holds.
--- Assumes nothing.
 use borrow.Author.Needs.{needs}
 use Prim.Native.Nat.{_+_, _-_, _≤_}
 use mathlib.Core.Path.{_≡_, refl, sym, _∙_}

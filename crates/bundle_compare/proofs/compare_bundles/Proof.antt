@@ -1,5 +1,3 @@
--- `bundle_compare::compare_bundles` meets its contract.
--- Assumes nothing.
 use mathlib.Core.Path.{refl, sym, ap, _∙_}
 use native.Mathlib.Omega.{arith}
 use denote.Ref.{now}

@@ -1,5 +1,4 @@
 -- The kinds of a file's lines, put one after the other to the start of an array.
--- Assumes nothing.
 use Prim.Native.Nat.{ℕ, suc, _+_, _≤_, _<_, min}
 use native.Mathlib.Decide.{decLt}
 use native.Mathlib.Nat.{min-eq-left, min-eq-right, min-le-left, min-le-right}

@@ -1,5 +1,4 @@
 -- What the call answers and leaves in its two arrays, by what the tests came to.
--- Assumes nothing.
 use Prim.Native.Nat.{ℕ}
 use mathlib.Core.Path.{_≡_, refl}
 use mathlib.Core.List.{List, _++_}

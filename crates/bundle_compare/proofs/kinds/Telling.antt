@@ -1,5 +1,4 @@
 -- The kind of a line of one file, by the place of its Key ID in the other.
--- Assumes nothing.
 use Prim.Native.Nat.{ℕ, _≤_, _<_}
 use mathlib.Core.Path.{_≡_, sym, ap}
 use mathlib.Core.Bool.{Bool, cond}

@@ -1,5 +1,3 @@
--- `bundle_compare::one_of` meets its contract.
--- Assumes nothing.
 use borrow.Author.Tests.{eq-eqb, ne-eqb}
 use Rattle.bundle_compare.proofs.one_of.Statement.{statement}
 use Rattle.bundle_compare.proofs.one_of.Tie as tie

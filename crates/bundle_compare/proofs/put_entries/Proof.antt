@@ -1,5 +1,3 @@
--- `bundle_compare::put_entries` meets its contract.
--- Assumes nothing.
 use Prim.Native.Nat.{_+_, _*_, _-_, _≤_, _<_}
 use mathlib.Core.Path.{refl}
 use native.Mathlib.Omega.{arith}

@@ -1,5 +1,3 @@
--- `bundle_contents::check_bodies` meets its contract.
--- Assumes nothing.
 use denote.Ref.{now}
 use Prim.Native.Nat.{_≤_, _-_}
 use mathlib.Core.Path.{_≡_, ap, _∙_}

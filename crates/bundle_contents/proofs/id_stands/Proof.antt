@@ -1,5 +1,3 @@
--- `bundle_contents::id_stands` meets its contract.
--- Assumes nothing.
 use Prim.Native.Nat.{_≤_, _-_}
 use mathlib.Core.Path.{_≡_, refl, sym}
 use native.Mathlib.Omega.{arith}

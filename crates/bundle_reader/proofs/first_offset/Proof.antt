@@ -1,5 +1,3 @@
--- `bundle_reader::first_offset` meets its contract.
--- Assumes nothing.
 use mathlib.Core.Path.{_≡_}
 use denote.Ref.{now}
 use Rattle.slices.specs.Numbers.{be16At}

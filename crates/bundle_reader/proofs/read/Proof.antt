@@ -1,5 +1,3 @@
--- `bundle_reader::read` meets its contract.
--- Assumes nothing.
 use Rattle.bundle_reader.proofs.Reading.{read-so}
 use borrow.Author.Needs.{needs}
 use Rattle.bundle_reader.proofs.read.Statement.{statement}

@@ -1,5 +1,4 @@
 -- The writer's tests of packed attributes, in their order.
--- Assumes nothing.
 use Prim.Native.Nat.{ℕ, _≤_, _<_}
 use mathlib.Core.Path.{_≡_, ap}
 use mathlib.Core.Bool.{true, false, and-false}
@@ -8,11 +7,11 @@ use borrow.Author.Tests.{lt-leb}
 use lib.ListN.{length}
 use Rattle.refusal.proofs.Passing.{within-holds}
 use Rattle.refusal.specs.Checks.{Reason, Check, pass, refuse, bare, unless, _andThen_, within}
-use Rattle.refusal.specs.Answers.{wrote, refused, answerTo}
+use Rattle.refusal.specs.Answers.{returned, refused, answerTo}
 use Rattle.bundle_rules.specs.Bundle.{keyIdIn, idRepeats, packed, framesCheck, packedCheck}
 
 -- what tests come to, as an answer with a count
-pub told : {c : Check} {m n : ℕ} → pass ≡ c → n ≡ m → wrote n ≡ answerTo c m
+pub told : {c : Check} {m n : ℕ} → pass ≡ c → n ≡ m → returned n ≡ answerTo c m
 told p q = λ i. answerTo (p i) (q i)
 
 pub refused-count : {c : Check} (m : ℕ) {x : Reason} → refuse x ≡ c → refused x ≡ answerTo c m

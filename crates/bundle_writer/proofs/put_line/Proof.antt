@@ -1,5 +1,3 @@
--- `bundle_writer::put_line` meets its contract.
--- Assumes nothing.
 use denote.Ref.{now}
 use Rattle.bundle_writer.proofs.Parts.{line-parts}
 use borrow.Author.Needs.{needs}

@@ -1,5 +1,3 @@
--- `bundle_writer::put_lines` meets its contract.
--- Assumes nothing.
 use Prim.Native.Nat.{_+_, _≤_, _-_}
 use mathlib.Core.Path.{refl}
 use native.Mathlib.Omega.{arith}

@@ -1,5 +1,4 @@
 -- `compare_bundles::compare` is safe and ends: the entries that are listed are within the buffer lent for them.
--- Assumes nothing.
 use Prim.Native.Nat.{ℕ, _+_, _*_, _≤_}
 use mathlib.Core.Path.{_≡_, sym}
 use mathlib.Core.Bool.{true}
@@ -11,7 +10,7 @@ use lib.Dec.{leb}
 use lib.ListN.{length}
 use lib.Seq.{length-take-le}
 use Rattle.refusal.specs.Checks.{_andThen_, check6}
-use Rattle.refusal.specs.Answers.{wrote}
+use Rattle.refusal.specs.Answers.{returned}
 use Rattle.refusal.proofs.Passing.{last-passed, test-passed}
 use Rattle.refusal.proofs.Answering.{told-count}
 use Rattle.bundle_rules.specs.Bundle.{bundleCheck}
@@ -20,7 +19,7 @@ use Rattle.compare_bundles.proofs.compare.Statement.{statement}
 use Rattle.compare_bundles.proofs.compare.Tie as tie
 
 -- a list that was written is within the room
-within-room : (first second : List ℕ) (room n : ℕ) → wrote n ≡ compareAnswer first second room → n ≤ room
+within-room : (first second : List ℕ) (room n : ℕ) → returned n ≡ compareAnswer first second room → n ≤ room
 unfolding compareAnswer compareCheck
 within-room first second room n e =
     let told = told-count (compareCheck first second room) (entriesLength first second) n e in

@@ -1,5 +1,4 @@
 -- `compare_bundles::main` is safe and ends: what was read of a file is within its buffer.
--- Assumes nothing.
 use mathlib.Core.Path.{sym}
 use borrow.Author.Needs.{needs}
 use lib.Seq.{length-take-le}

@@ -1,5 +1,4 @@
 -- `compare_bundles::write_entries` is safe and ends: an entry is within the slice, and what is left of it falls.
--- Assumes nothing.
 use Prim.Native.Nat.{_-_, _≤_}
 use borrow.Author.Needs.{needs}
 use native.Mathlib.Omega.{arith}

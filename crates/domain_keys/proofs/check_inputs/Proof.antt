@@ -1,5 +1,3 @@
--- `domain_keys::check_inputs` meets its contract.
--- Assumes nothing.
 use mathlib.Core.Path.{refl}
 use Rattle.domain_keys.proofs.check_inputs.Statement.{statement}
 use Rattle.domain_keys.proofs.check_inputs.Tie as tie

@@ -1,5 +1,4 @@
 -- `domain_keys::domain_reauth_key` meets its contract: its tests are one chain, and its text is the label, a zero byte and the length.
--- Assumes nothing.
 use mathlib.Core.Path.{refl}
 use borrow.Author.Needs.{needs}
 use denote.Ref.{now}

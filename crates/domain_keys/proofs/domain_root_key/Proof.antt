@@ -1,5 +1,4 @@
 -- `domain_keys::domain_root_key` meets its contract: its tests and its text are those of the request for a domain.
--- Assumes nothing.
 use mathlib.Core.Path.{refl}
 use borrow.Author.Needs.{needs}
 use denote.Ref.{now}

@@ -1,5 +1,3 @@
--- `handover::check_call` meets its contract.
--- Assumes nothing.
 use borrow.Author.Needs.{needs}
 use Rattle.handover.proofs.check_call.Statement.{statement}
 use Rattle.handover.proofs.check_call.Tie as tie

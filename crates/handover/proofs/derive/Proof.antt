@@ -1,5 +1,4 @@
 -- `handover::derive` meets its contract: two iterations, whose MACs are put one after the other.
--- Assumes nothing.
 use mathlib.Core.Path.{sym}
 use denote.Ref.{now}
 use lib.Seq.{length-take-le}

@@ -1,5 +1,4 @@
 -- `handover::iteration` meets its contract: the blocks of the text compressed from the inner value, and the outer hash of that.
--- Assumes nothing.
 use mathlib.Core.Path.{ap, _∙_}
 use mathlib.Core.List.{List}
 use Prim.Native.Nat.{ℕ}

@@ -1,5 +1,3 @@
--- `handover::r0_key` meets its contract.
--- Assumes nothing.
 use mathlib.Core.Path.{sym}
 use mathlib.Core.Bool.{_&&_}
 use native.Mathlib.Omega.{arith}

@@ -1,5 +1,3 @@
--- `handover::r0_name` meets its contract.
--- Assumes nothing.
 use mathlib.Core.Path.{sym, _∙_}
 use mathlib.Core.List.{_++_}
 use denote.Ref.{now}

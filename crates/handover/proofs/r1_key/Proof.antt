@@ -1,5 +1,3 @@
--- `handover::r1_key` meets its contract.
--- Assumes nothing.
 use mathlib.Core.Bool.{_&&_}
 use native.Mathlib.Omega.{arith}
 use denote.Ref.{now}

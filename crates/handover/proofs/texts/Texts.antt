@@ -1,5 +1,4 @@
 -- The texts of the KDF with their padding, as their parts are put in place: the identifiers last to first, so that what stands after each is known.
--- Assumes nothing.
 use Prim.Native.Nat.{ℕ, _+_, _-_, _≤_}
 use mathlib.Core.Path.{_≡_, refl, sym, ap, _∙_}
 use mathlib.Core.List.{List, [], _∷_, _++_, append-nil, append-assoc}

@@ -1,5 +1,4 @@
 -- `hmac::hash_after` meets its contract: the message absorbed after the block.
--- Assumes nothing.
 use mathlib.Core.Path.{ap, _∙_}
 use denote.Ref.{now}
 use Rattle.fips180.specs.Stream.{Progress}

@@ -1,5 +1,3 @@
--- `hmac::key_block` meets its contract.
--- Assumes nothing.
 use denote.Ref.{now}
 use Rattle.sha256_block.specs.Fips180.{sha256}
 use Rattle.rfc2104.proofs.Blocks.{key-short, key-long}

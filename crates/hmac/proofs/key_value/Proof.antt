@@ -1,5 +1,4 @@
 -- `hmac::key_value` meets its contract: the masked block compressed.
--- Assumes nothing.
 use mathlib.Core.Path.{ap, _∙_}
 use Rattle.sha256_block.specs.Fips180.{compress, H0}
 use borrow.Author.Needs.{needs}

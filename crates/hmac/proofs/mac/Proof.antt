@@ -1,5 +1,4 @@
 -- `hmac::mac` meets its contract: the inner and the outer hash from the key's two hash values (proofs/Laws.antt, `kept-values-give-mac`).
--- Assumes nothing.
 use mathlib.Core.Path.{_≡_, ap, _∙_}
 use mathlib.Core.List.{List}
 use Prim.Native.Nat.{ℕ}

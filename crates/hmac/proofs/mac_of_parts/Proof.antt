@@ -1,5 +1,4 @@
 -- `hmac::mac_of_parts` meets its contract: the inner hash of the parts, and the outer hash of that, from the key's two hash values.
--- Assumes nothing.
 use mathlib.Core.List.{_++_}
 use denote.Ref.{now}
 use Rattle.rfc2104.specs.Rfc2104.{ipad, opad}

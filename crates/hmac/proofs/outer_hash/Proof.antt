@@ -1,5 +1,4 @@
 -- `hmac::outer_hash` meets its contract: the digest absorbed after the block.
--- Assumes nothing.
 use Rattle.rfc2104.specs.Keyed.{hashAfterBy}
 use borrow.Author.Needs.{needs}
 use Rattle.hmac.proofs.outer_hash.Statement.{statement}

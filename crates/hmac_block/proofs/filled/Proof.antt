@@ -1,5 +1,4 @@
 -- `hmac_block::filled` meets its contract: as many bytes as there is room for, copied over zeros.
--- Assumes nothing.
 use mathlib.Core.Path.{sym}
 use denote.Ref.{now}
 use Rattle.hmac_block.proofs.Filling.{part-length, part-fits, part-filled}

@@ -1,5 +1,4 @@
 -- `hmac_block::masked` meets its contract. The loop's invariant: the first j bytes are those of the masked block.
--- Assumes nothing.
 use Prim.Native.Nat.{ℕ, _-_, _≤_}
 use mathlib.Core.Path.{_≡_, refl, ap, _∙_}
 use mathlib.Core.List.{_++_}

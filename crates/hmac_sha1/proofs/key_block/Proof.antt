@@ -1,5 +1,3 @@
--- `hmac_sha1::key_block` meets its contract.
--- Assumes nothing.
 use denote.Ref.{now}
 use Rattle.fips180.specs.Sha1.{sha1}
 use Rattle.rfc2104.proofs.Blocks.{key-short, key-long}

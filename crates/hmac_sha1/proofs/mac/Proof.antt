@@ -1,5 +1,4 @@
 -- `hmac_sha1::mac` meets its contract: the MAC by the key's two hash values is RFC 2104's.
--- Assumes nothing.
 use denote.Ref.{now}
 use Rattle.hmac_sha1.proofs.Laws.{mac-by-values}
 use borrow.Author.Needs.{needs}

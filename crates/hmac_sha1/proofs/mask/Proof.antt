@@ -1,5 +1,4 @@
 -- `hmac_sha1::mask` meets its contract. The loop's invariant: the first j words are those of the masked block.
--- Assumes nothing.
 use Prim.Native.Nat.{_-_, _*_, _≤_}
 use mathlib.Core.Path.{_≡_, refl}
 use mathlib.Core.List.{_++_}

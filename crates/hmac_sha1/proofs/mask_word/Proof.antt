@@ -1,5 +1,3 @@
--- `hmac_sha1::mask_word` meets its contract.
--- Assumes nothing.
 use native.Mathlib.Omega.{arith}
 use denote.Ref.{now}
 use lib.ListN.{length-set}

@@ -1,5 +1,4 @@
 -- `key_frame::check_frame` meets its contract: a wrong length is refused first; else the header's tests are those that are left.
--- Assumes nothing.
 use mathlib.Core.Path.{_≡_, sym, _∙_}
 use mathlib.Core.Bool.{true}
 use native.Mathlib.Omega.{arith}

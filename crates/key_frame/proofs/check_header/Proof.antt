@@ -1,5 +1,4 @@
 -- `key_frame::check_header` meets its contract: each test answers its check, and the combinators join them in their order.
--- Assumes nothing.
 use mathlib.Core.Path.{_≡_, ap, _∙_}
 use mathlib.Core.Bool.{Bool}
 use Rattle.refusal.specs.Checks as Checks

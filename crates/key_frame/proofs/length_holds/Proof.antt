@@ -1,5 +1,4 @@
 -- `key_frame::length_holds` meets its contract: fewer than 60 bytes are no attribute; of more the two tests are the definition's.
--- Assumes nothing.
 use Prim.Native.Nat.{_-_}
 use mathlib.Core.Path.{_≡_}
 use denote.Ref.{now}

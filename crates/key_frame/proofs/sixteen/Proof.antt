@@ -1,5 +1,4 @@
 -- `key_frame::sixteen` meets its contract: as many bytes as there are, up to sixteen, are copied over zeros.
--- Assumes nothing.
 use denote.Ref.{now}
 use Rattle.key_frame.proofs.ByValue.{taken-count, taken-fits, sixteen-copied}
 use borrow.Author.Needs.{needs}

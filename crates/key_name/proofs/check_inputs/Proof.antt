@@ -1,5 +1,3 @@
--- `key_name::check_inputs` meets its contract.
--- Assumes nothing.
 use mathlib.Core.Path.{refl}
 use Rattle.key_name.proofs.check_inputs.Statement.{statement}
 use Rattle.key_name.proofs.check_inputs.Tie as tie

@@ -1,5 +1,4 @@
 -- `key_name::key_name` meets its contract: the room's test after its own is the chain, and what is put is the hash's first 8 bytes.
--- Assumes nothing.
 use mathlib.Core.Path.{refl, sym, ap, _∙_}
 use borrow.Author.Needs.{needs}
 use denote.Ref.{now}

@@ -1,5 +1,4 @@
 -- `key_reader::fields` meets its contract: field by field, from what each call answers.
--- Assumes nothing.
 use denote.Ref.{now}
 use Prim.Native.Nat.{_+_, _≤_}
 use native.Mathlib.Omega.{arith}

@@ -1,6 +1,5 @@
 -- `key_reader::read` meets its contract: by what the tests before the unwrapping came to; where they pass, what the unwrapping tests is what is left of the
 -- order, so that its answer is the reader's.
--- Assumes nothing.
 use mathlib.Core.Path.{_≡_, sym, ap, _∙_}
 use native.Mathlib.Omega.{arith}
 use denote.Ref.{now}

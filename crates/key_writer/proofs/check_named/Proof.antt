@@ -1,5 +1,4 @@
 -- `key_writer::check_named` meets its contract: each test answers its check, and the combinators join them in their order.
--- Assumes nothing.
 use mathlib.Core.Path.{_≡_, sym}
 use denote.Ref.{now}
 use Rattle.refusal.specs.Checks.{_andThen_}

@@ -1,5 +1,4 @@
 -- `key_writer::put_at` meets its contract: the part that was lent begins with the bytes, and the list before it is as it was.
--- Assumes nothing.
 use denote.Ref.{now}
 use Rattle.key_frame.proofs.Parts.{part-after}
 use borrow.Author.Needs.{needs}

@@ -1,5 +1,4 @@
 -- `key_writer::put_header` meets its contract: six parts, one after the other, are the header.
--- Assumes nothing.
 use mathlib.Core.Path.{sym}
 use denote.Ref.{now}
 use Rattle.key_writer.proofs.Parts.{header-parts}

@@ -1,6 +1,5 @@
 -- `key_writer::write` meets its contract: by what the tests before the wrapping came to; where they pass, what the wrap routine tests of the part that it is
 -- lent is what is left of the order, so that its refusal is the writer's; where it accepts, the header goes before what it wrote.
--- Assumes nothing.
 use mathlib.Core.Path.{_≡_, refl, sym, ap, _∙_}
 use native.Mathlib.Omega.{arith}
 use denote.Ref.{now}

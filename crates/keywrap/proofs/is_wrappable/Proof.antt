@@ -1,5 +1,3 @@
--- `keywrap::is_wrappable` meets its contract.
--- Assumes nothing.
 use Prim.Native.Nat.{_%_}
 use mathlib.Core.Path.{ap}
 use mathlib.Core.Bool.{Bool, _&&_}

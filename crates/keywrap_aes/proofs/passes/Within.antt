@@ -1,5 +1,4 @@
 -- The passes over a key of at most 192 bytes are RFC 3394's.
--- Assumes nothing.
 use mathlib.Core.Path.{_≡_, ap}
 use mathlib.Core.Bool.{Bool, cond}
 use mathlib.Core.List.{List}

@@ -1,5 +1,4 @@
 -- A count below 256 is added to the last byte of A alone, and the ciphers take a state by its bytes.
--- Assumes nothing.
 use mathlib.Core.Path.{_≡_, refl, sym, ap, _∙_}
 use mathlib.Core.List.{List, [], _∷_}
 use Prim.Native.Nat.{ℕ, _/_, _%_, _^_, _<_}

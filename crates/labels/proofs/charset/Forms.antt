@@ -1,5 +1,4 @@
 -- Laws of a text's form: a scan is clean exactly when every byte passes, and what code that tests the length before it scans finds.
--- Assumes nothing.
 use Prim.Native.Nat.{ℕ, suc}
 use mathlib.Core.Path.{_≡_, refl}
 use mathlib.Core.Bool.{Bool, true, false, cond, _&&_}

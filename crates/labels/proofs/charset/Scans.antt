@@ -1,5 +1,4 @@
 -- Laws of a scan for the first byte that fails a test, one for each way on in a loop whose invariant is `Scanned`.
--- Assumes nothing.
 use Prim.Native.Nat.{ℕ, _+_, _≤_, _<_}
 use mathlib.Core.Path.{_≡_, sym, ap, _∙_}
 use mathlib.Core.Bool.{Bool, true, false, cond}

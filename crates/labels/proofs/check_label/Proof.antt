@@ -1,5 +1,3 @@
--- `labels::check_label` meets its contract.
--- Assumes nothing.
 use mathlib.Core.Path.{sym, _∙_}
 use borrow.Author.Needs.{needs}
 use Rattle.labels.proofs.charset.Forms.{form-length}

@@ -1,5 +1,3 @@
--- `labels::check_syntax` meets its contract.
--- Assumes nothing.
 use borrow.Author.Needs.{needs}
 use borrow.Author.Tests.{not-true, not-false}
 use Rattle.labels.proofs.Labels.{no-breach, on-breach}

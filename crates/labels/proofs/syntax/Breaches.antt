@@ -1,5 +1,4 @@
 -- The test of a label's syntax finds exactly the breaches of request 7: how often a byte stands in a text, and where.
--- Assumes nothing.
 use Prim.Native.Nat.{ℕ, zero, suc, _+_, _-_, _≤_, _<_}
 use mathlib.Core.Path.{_≡_, refl, sym, _∙_}
 use mathlib.Core.Bool.{Bool, true, false, cond, _&&_, _||_}

@@ -1,5 +1,4 @@
 -- `list_offers::list` is safe and ends: the count that an area is read with is within the buffer lent for the offers.
--- Assumes nothing.
 use Prim.Native.Nat.{_≤_}
 use mathlib.Core.Path.{sym}
 use borrow.Author.Needs.{needs}

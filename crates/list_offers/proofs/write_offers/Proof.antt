@@ -1,5 +1,4 @@
 -- `list_offers::write_offers` is safe and ends: the index is within the slice, and what is left of it falls.
--- Assumes nothing.
 use Prim.Native.Nat.{_-_, _≤_}
 use borrow.Author.Needs.{needs}
 use native.Mathlib.Omega.{arith}

@@ -1,5 +1,4 @@
 -- `negotiation::play_reply` is safe and ends: the count that the server answers lies within its buffer.
--- Assumes nothing.
 use Prim.Native.Nat.{_≤_}
 use mathlib.Core.Path.{sym, ap, _∙_}
 use native.Mathlib.Omega.{arith}

@@ -1,5 +1,4 @@
 -- `offer_exchange::negotiate` meets its contract: each step answers as its definition, and a negotiation is the steps one after the other.
--- Assumes nothing.
 use Prim.Native.Nat.{_≤_}
 use mathlib.Core.Path.{_≡_, sym, ap, _∙_}
 use native.Mathlib.Omega.{arith}

@@ -1,5 +1,3 @@
--- `offer_exchange::value_named` meets its contract.
--- Assumes nothing.
 use mathlib.Core.Path.{refl}
 use borrow.Author.Needs.{needs}
 use Rattle.offer_exchange.proofs.value_named.Statement.{statement}

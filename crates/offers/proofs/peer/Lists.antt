@@ -1,5 +1,4 @@
 -- Laws of the search for a supported offer, one for each way on in its loop, and of a renewed list by its first value.
--- Assumes nothing.
 use Prim.Native.Nat.{ℕ, suc, _+_, _-_, _≤_, _<_}
 use mathlib.Core.Path.{_≡_, refl, sym, _∙_}
 use mathlib.Core.Bool.{true, false}

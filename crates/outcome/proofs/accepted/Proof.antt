@@ -1,5 +1,3 @@
--- `outcome::accepted` meets its contract.
--- Assumes nothing.
 use mathlib.Core.Path.{refl}
 use Rattle.outcome.proofs.accepted.Statement.{statement}
 use Rattle.outcome.proofs.accepted.Tie as tie

@@ -1,5 +1,3 @@
--- `outcome::checked` meets its contract.
--- Assumes nothing.
 use mathlib.Core.Path.{_∙_}
 use borrow.Author.Needs.{needs}
 use Rattle.outcome.proofs.checked.Statement.{statement}

@@ -1,5 +1,3 @@
--- `outcome::refused` meets its contract.
--- Assumes nothing.
 use borrow.Author.Needs.{needs}
 use Rattle.outcome.proofs.refused.Statement.{statement}
 use Rattle.outcome.proofs.refused.Tie as tie

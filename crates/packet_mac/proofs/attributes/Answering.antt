@@ -1,5 +1,4 @@
 -- What the tests in the code come to is `packetCheck`, and what is answered by it.
--- Assumes nothing.
 use Prim.Native.Nat.{ℕ, _≤_}
 use mathlib.Core.Path.{_≡_, refl, sym, ap, _∙_}
 use mathlib.Core.Bool.{_&&_}

@@ -1,5 +1,4 @@
 -- `prf_plus::block` meets its contract: the inner hash of the parts, and the outer hash of that.
--- Assumes nothing.
 use denote.Ref.{now}
 use Rattle.prf_plus.proofs.Parts.{mac-of-input}
 use borrow.Author.Needs.{needs}

@@ -1,5 +1,3 @@
--- `prf_plus::check_expand` meets its contract.
--- Assumes nothing.
 use mathlib.Core.Path.{_≡_, refl, sym}
 use Rattle.refusal.specs.Checks.{_andThen_}
 use Rattle.refusal.specs.Answers.{checkedAs}

@@ -1,5 +1,3 @@
--- `prf_plus::expand` meets its contract.
--- Assumes nothing.
 use Prim.Native.Nat.{ℕ, _≤_}
 use mathlib.Core.Path.{_≡_, refl, sym, ap}
 use denote.Ref.{now}

@@ -1,6 +1,5 @@
 -- `prf_plus::fill` meets its contract. The loop's invariant: i blocks stand at the start of the buffer, the last cut at n, and after them what
 -- stood there; the last block starts at `from`, where the next finds it.
--- Assumes nothing.
 use Prim.Native.Nat.{ℕ, min, _+_, _-_, _*_, _/_, _≤_, _<_}
 use mathlib.Core.Path.{_≡_, refl, sym, ap, _∙_}
 use mathlib.Core.List.{List, _++_}

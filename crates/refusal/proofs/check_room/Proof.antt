@@ -1,5 +1,3 @@
--- `refusal::check_room` meets its contract.
--- Assumes nothing.
 use borrow.Author.Needs.{needs}
 use Rattle.refusal.proofs.check_room.Statement.{statement}
 use Rattle.refusal.proofs.check_room.Tie as tie

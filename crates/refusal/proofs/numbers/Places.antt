@@ -1,5 +1,4 @@
 -- The refusals that carry no place: all but 3 and 16.
--- Assumes nothing.
 use Prim.Native.Nat.{ℕ}
 use mathlib.Core.Path.{_≡_, refl}
 use mathlib.Core.List.{List, [], _∷_}

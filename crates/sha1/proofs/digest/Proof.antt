@@ -1,5 +1,3 @@
--- `sha1::digest` meets its contract.
--- Assumes nothing.
 use mathlib.Core.Path.{sym, ap, _∙_}
 use denote.Ref.{now}
 use Rattle.fips180.specs.Sha1.{digest}

@@ -1,5 +1,4 @@
 -- `sha1::last_value` meets its contract: one block more, or two (proofs/Marked.antt of fips180).
--- Assumes nothing.
 use mathlib.Core.Path.{_≡_}
 use Prim.Native.Nat.{_≤_, _%_}
 use native.Mathlib.Omega.{arith}

@@ -1,5 +1,4 @@
 -- `sha1::marked` meets its contract: the bytes after the whole blocks are copied to an empty block (`marked-rest` of fips180).
--- Assumes nothing.
 use denote.Ref.{now}
 use Rattle.fips180.proofs.Marked.{marked-rest}
 use borrow.Author.Needs.{needs}

@@ -1,5 +1,3 @@
--- `sha1::marked_digest` meets its contract.
--- Assumes nothing.
 use mathlib.Core.Path.{ap}
 use mathlib.Core.List.{List}
 use Prim.Native.Nat.{ℕ}

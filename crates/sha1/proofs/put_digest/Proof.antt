@@ -1,5 +1,4 @@
 -- `sha1::put_digest` meets its contract. The loop's invariant: the first j words are written (proofs/Digests.antt, `next-word`).
--- Assumes nothing.
 use mathlib.Core.Path.{_≡_, refl, ap, _∙_}
 use Prim.Native.Nat.{_+_, _-_, _*_, _≤_}
 use native.Mathlib.Omega.{arith}

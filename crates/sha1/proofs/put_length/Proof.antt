@@ -1,5 +1,4 @@
 -- `sha1::put_length` meets its contract: eight stores, and the bytes of the count of bits (`length-put` of fips180).
--- Assumes nothing.
 use denote.Ref.{now}
 use Rattle.fips180.proofs.Closing.{length-put}
 use borrow.Author.Needs.{needs}

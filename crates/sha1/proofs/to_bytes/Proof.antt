@@ -1,5 +1,3 @@
--- `sha1::to_bytes` meets its contract.
--- Assumes nothing.
 use mathlib.Core.Path.{_∙_}
 use mathlib.Core.List.{append-nil}
 use Rattle.fips180.specs.Sha1.{digest}

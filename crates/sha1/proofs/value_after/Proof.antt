@@ -1,5 +1,4 @@
 -- `sha1::value_after` meets its contract: the blocks compressed.
--- Assumes nothing.
 use Rattle.fips180.specs.Sha1.{H0}
 use borrow.Author.Needs.{needs}
 use Rattle.sha1.proofs.value_after.Statement.{statement}

@@ -1,5 +1,4 @@
 -- `sha1_block::compress` meets its contract: one run of rounds after another, each with the window that it finds (proofs/Rounds.antt).
--- Assumes nothing.
 use mathlib.Core.Path.{refl, _∙_}
 use lib.Dec.{lit≤}
 use denote.Ref.{now}

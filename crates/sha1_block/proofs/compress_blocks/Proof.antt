@@ -1,5 +1,4 @@
 -- `sha1_block::compress_blocks` meets its contract: after k turns, the hash value after k blocks.
--- Assumes nothing.
 use mathlib.Core.Path.{_≡_, refl, ap, _∙_}
 use Prim.Native.Nat.{ℕ, _/_, _-_, _≤_}
 use native.Mathlib.Omega.{arith}

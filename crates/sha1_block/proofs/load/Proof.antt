@@ -1,5 +1,4 @@
 -- `sha1_block::load` meets its contract: each word of the block is the schedule's (`loaded` of fips180).
--- Assumes nothing.
 use native.Mathlib.Nat.{le-trans}
 use lib.Dec.{lit≤}
 use denote.Ref.{now}

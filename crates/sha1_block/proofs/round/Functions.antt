@@ -1,5 +1,4 @@
 -- SHA-1's functions as the code computes them: of y and z before their rotation, with one rotation for both. A round, from its sum, and the values kept of a hash value.
--- Assumes nothing.
 use mathlib.Core.Path.{_≡_, refl, ap, _∙_}
 use mathlib.Core.List.{List, [], _∷_}
 use Prim.Native.Nat.{ℕ, _+_, _%_, _^_, _<_}

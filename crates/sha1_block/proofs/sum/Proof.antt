@@ -1,5 +1,3 @@
--- `sha1_block::sum` meets its contract.
--- Assumes nothing.
 use mathlib.Core.List.{[], _∷_}
 use Rattle.fips180.specs.Sha1.{sums}
 use borrow.Author.Needs.{needs}

@@ -1,5 +1,4 @@
 -- `sha256::absorb_blocks` meets its contract: the full block, the whole blocks after it, and the rest.
--- Assumes nothing.
 use mathlib.Core.Path.{ap, _∙_}
 use mathlib.Core.List.{List}
 use Prim.Native.Nat.{ℕ, _/_}

@@ -1,6 +1,5 @@
 -- `sha256::absorb_into` meets its contract: bytes that leave the block short of full (`part-law` of fips180), or those that put it, the whole
 -- blocks after them, and the rest (`over-law`).
--- Assumes nothing.
 use mathlib.Core.Path.{_≡_, sym}
 use Prim.Native.Nat.{_+_, _%_, _^_, _<_, _≤_}
 use native.Mathlib.Omega.{arith}

@@ -1,5 +1,4 @@
 -- `sha256::begin` meets its contract: the bytes after the whole blocks are put into an empty block (`begun` of fips180).
--- Assumes nothing.
 use denote.Ref.{now}
 use Rattle.fips180.proofs.Absorbing.{begun}
 use borrow.Author.Needs.{needs}

@@ -1,5 +1,4 @@
 -- `sha256::close` meets its contract: one block more, or two (proofs/Closing.antt of fips180).
--- Assumes nothing.
 use Prim.Native.Nat.{_≤_, _%_}
 use native.Mathlib.Omega.{arith}
 use mathlib.Core.Path.{_≡_}

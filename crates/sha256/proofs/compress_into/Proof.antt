@@ -1,5 +1,4 @@
 -- `sha256::compress_into` meets its contract: it stores what the compression returns.
--- Assumes nothing.
 use borrow.Author.Needs.{needs}
 use Rattle.sha256.proofs.compress_into.Statement.{statement}
 use Rattle.sha256.proofs.compress_into.Tie as tie

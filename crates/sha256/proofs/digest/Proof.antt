@@ -1,5 +1,4 @@
 -- `sha256::digest` meets its contract: the whole blocks from the message itself, the bytes after them from a block (`at-once` of fips180).
--- Assumes nothing.
 use mathlib.Core.Path.{ap, _∙_}
 use Prim.Native.Nat.{_^_, _<_}
 use native.Mathlib.Omega.{arith}

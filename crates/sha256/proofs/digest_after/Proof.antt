@@ -1,5 +1,4 @@
 -- `sha256::digest_after` meets its contract: the digest stands in the last block (proofs/Outer.antt).
--- Assumes nothing.
 use mathlib.Core.Path.{_≡_, sym}
 use lib.ListN.{length}
 use Rattle.sha256.proofs.Outer.{outer-length, outer-law}

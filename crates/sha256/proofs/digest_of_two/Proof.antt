@@ -1,5 +1,4 @@
 -- `sha256::digest_of_two` meets its contract: what is absorbed in two parts is absorbed joined.
--- Assumes nothing.
 use mathlib.Core.Path.{refl, sym, ap, _∙_}
 use mathlib.Core.List.{_++_}
 use Prim.Native.Nat.{_^_, _<_}

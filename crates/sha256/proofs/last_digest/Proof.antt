@@ -1,5 +1,4 @@
 -- `sha256::last_digest` meets its contract: the last hash value's bytes.
--- Assumes nothing.
 use mathlib.Core.Path.{ap, _∙_}
 use Rattle.sha256_block.specs.Fips180.{digest}
 use borrow.Author.Needs.{needs}

@@ -1,5 +1,4 @@
 -- `sha256::mark` meets its contract: after the turn at j, zeros from at + 1 to j (proofs/Closing.antt, `mark-turn`).
--- Assumes nothing.
 use mathlib.Core.Path.{_≡_}
 use Prim.Native.Nat.{_+_, _-_, _<_, _≤_}
 use native.Mathlib.Omega.{arith}

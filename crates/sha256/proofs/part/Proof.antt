@@ -1,5 +1,3 @@
--- `sha256::part` meets its contract.
--- Assumes nothing.
 use mathlib.Core.Path.{refl}
 use denote.Ref.{now}
 use Rattle.sha256.proofs.Parts.{last-part}

@@ -1,5 +1,4 @@
 -- `sha256_block::compress` meets its contract: after g groups, g times sixteen rounds are done, and the words are those of the last group.
--- Assumes nothing.
 use mathlib.Core.Path.{_≡_, ap, _∙_}
 use Prim.Native.Nat.{ℕ, _*_, _-_, _≤_}
 use native.Mathlib.Omega.{arith}

@@ -1,5 +1,4 @@
 -- `sha256_block::group_constants` meets its contract: after j turns the first j constants are looked up.
--- Assumes nothing.
 use mathlib.Core.Path.{_≡_, refl, subst}
 use Prim.Native.Nat.{ℕ, _*_, _-_, _≤_}
 use native.Mathlib.Omega.{arith}

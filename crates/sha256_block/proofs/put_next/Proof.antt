@@ -1,5 +1,4 @@
 -- `sha256_block::put_next` meets its contract: one store of the next word.
--- Assumes nothing.
 use mathlib.Core.Path.{ap}
 use Prim.Native.Nat.{ℕ}
 use lib.ListN.{set}

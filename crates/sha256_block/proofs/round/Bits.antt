@@ -1,5 +1,4 @@
 -- Other forms of SHA-256's functions on words, with fewer steps: Σ and σ by rotations of a sum without carry.
--- Assumes nothing.
 use mathlib.Core.Path.{_≡_, refl, ap, ap₂, _∙_}
 use Prim.Native.Nat.{ℕ, _+_, _-_, _^_, _<_}
 use native.Mathlib.Omega.{arith}

@@ -1,5 +1,4 @@
 -- `sha256_block::sum` meets its contract: word by word, from `add`'s answers.
--- Assumes nothing.
 use mathlib.Core.List.{[], _∷_}
 use Rattle.fips180.specs.Sha256.{sums}
 use borrow.Author.Needs.{needs}

@@ -1,5 +1,4 @@
 -- `slices::copy_values` meets its contract. The loop's invariant: the values copied so far, and after them what stood there.
--- Assumes nothing.
 use Prim.Native.Nat.{_≤_, _<_, _-_}
 use mathlib.Core.Path.{_≡_, refl, sym, _∙_}
 use mathlib.Core.List.{_++_}

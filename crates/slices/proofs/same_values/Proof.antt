@@ -1,5 +1,4 @@
 -- `slices::same_values` meets its contract. The loop's invariant: the lists are equal exactly if the elements compared so far are and the rest is.
--- Assumes nothing.
 use Prim.Native.Nat.{_≤_, _-_}
 use mathlib.Core.Path.{_≡_, refl}
 use mathlib.Core.Bool.{_&&_}

@@ -1,12 +1,10 @@
--- `slots::drop` meets its contract.
--- Assumes nothing.
 use borrow.Author.Needs.{needs}
 use mathlib.Core.Path.{_≡_, sym, ap, _∙_}
 use mathlib.Core.Bool.{true}
 use native.Mathlib.Omega.{arith}
 use Prim.Native.Nat.{ℕ, _<_, _≤_, _^_}
 use lib.Count.{ones, ones-le}
-use Rattle.refusal.specs.Answers.{wrote}
+use Rattle.refusal.specs.Answers.{returned}
 use Rattle.slot_rules.specs.Table.{isLive}
 use Rattle.slot_rules.specs.Stored.{tableOf, freeing}
 use Rattle.slot_rules.proofs.Digits.{length-mapped}
@@ -41,7 +39,7 @@ returns c =
     let a = s .args in
     let yes = found (g .before) in
     let went = g .gone .ensures in
-    let said = ap (λ (w : ℕ). wrote (ones w)) went ∙ drop-count (a .slots) (stored s) (a .number) yes in
+    let said = ap (λ (w : ℕ). returned (ones w)) went ∙ drop-count (a .slots) (stored s) (a .number) yes in
     let e = drop-frees (a .slots) (a .number) _ yes (ap (freeing (a .slots)) went) in
     (said, (e, ap tableOf e ∙ drop-stored (a .slots) (stored s) (a .number)))
 

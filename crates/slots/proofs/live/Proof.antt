@@ -1,5 +1,3 @@
--- `slots::live` meets its contract.
--- Assumes nothing.
 use borrow.Author.Needs.{needs}
 use Rattle.slot_rules.proofs.Digits.{length-mapped}
 use Rattle.slot_rules.proofs.Stored.{Fits, counted}

@@ -1,5 +1,3 @@
--- `slots::lowest_free` meets its contract.
--- Assumes nothing.
 use borrow.Author.Needs.{needs}
 use Rattle.slot_rules.proofs.Digits.{length-mapped}
 use Rattle.slot_rules.proofs.Stored.{Fits, lowest}

@@ -1,5 +1,3 @@
--- `slots::parent_byte` meets its contract.
--- Assumes nothing.
 use borrow.Author.Needs.{needs}
 use Rattle.slots.proofs.parent_byte.Statement.{statement}
 use Rattle.slots.proofs.parent_byte.Tie as tie

@@ -1,5 +1,3 @@
--- `usage::check_inputs` meets its contract.
--- Assumes nothing.
 use mathlib.Core.Path.{refl}
 use Rattle.usage.proofs.check_inputs.Statement.{statement}
 use Rattle.usage.proofs.check_inputs.Tie as tie

@@ -1,5 +1,4 @@
 -- `usage::usage_key` meets its contract: the expansion's tests after its own are the request's, and the text in parts is the request's.
--- Assumes nothing.
 use Prim.Native.Nat.{ℕ}
 use mathlib.Core.Path.{refl}
 use borrow.Author.Needs.{needs}

@@ -1,5 +1,3 @@
--- `visited::check_visited` meets its contract.
--- Assumes nothing.
 use mathlib.Core.Path.{refl}
 use Rattle.visited.proofs.check_visited.Statement.{statement}
 use Rattle.visited.proofs.check_visited.Tie as tie

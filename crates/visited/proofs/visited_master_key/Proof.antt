@@ -1,5 +1,4 @@
 -- `visited::visited_master_key` meets its contract: its tests are one chain, and the parts after the domain are empty.
--- Assumes nothing.
 use mathlib.Core.Path.{refl}
 use borrow.Author.Needs.{needs}
 use denote.Ref.{now}

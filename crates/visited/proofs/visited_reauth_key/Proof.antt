@@ -1,5 +1,4 @@
 -- `visited::visited_reauth_key` meets its contract: its tests are one chain, and the parts after the label are empty.
--- Assumes nothing.
 use mathlib.Core.Path.{refl}
 use borrow.Author.Needs.{needs}
 use denote.Ref.{now}

@@ -1,5 +1,4 @@
 -- `visited::visited_root_key` meets its contract: its tests and its text are those of the request for a VRK.
--- Assumes nothing.
 use mathlib.Core.Path.{refl}
 use borrow.Author.Needs.{needs}
 use denote.Ref.{now}

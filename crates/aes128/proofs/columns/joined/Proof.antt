@@ -1,5 +1,3 @@
--- `aes128::columns::joined` meets its contract.
--- Assumes nothing.
 use mathlib.Core.Path.{refl}
 use Rattle.aes128.proofs.columns.Words.{column-word}
 use borrow.Author.Needs.{needs}

@@ -1,5 +1,4 @@
 -- `aes128::keys::expand_key` meets its contract: after i turns the round keys 0 to i stand in their places.
--- Assumes nothing.
 use mathlib.Core.Path.{_≡_, refl, _∙_}
 use mathlib.Core.List.{[]}
 use Prim.Native.Nat.{ℕ, _+_, _-_, _≤_, _<_}

@@ -1,5 +1,3 @@
--- `aes128::keys::inv_mix_column` meets its contract.
--- Assumes nothing.
 use mathlib.Core.Path.{_∙_}
 use borrow.Author.Needs.{needs}
 use Rattle.aes128.proofs.keys.inv_mix_column.Statement.{statement}

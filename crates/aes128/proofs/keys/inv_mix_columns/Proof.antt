@@ -1,5 +1,3 @@
--- `aes128::keys::inv_mix_columns` meets its contract.
--- Assumes nothing.
 use Rattle.fips197.proofs.Four.{four}
 use Rattle.fips197.specs.State.{invMixColumns}
 use borrow.Author.Needs.{needs}

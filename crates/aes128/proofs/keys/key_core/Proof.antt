@@ -1,5 +1,3 @@
--- `aes128::keys::key_core` meets its contract.
--- Assumes nothing.
 use Rattle.aes128.proofs.keys.Expansion.{core-by}
 use borrow.Author.Needs.{needs}
 use Rattle.aes128.proofs.keys.key_core.Statement.{statement}

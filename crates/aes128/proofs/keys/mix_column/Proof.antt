@@ -1,5 +1,3 @@
--- `aes128::keys::mix_column` meets its contract.
--- Assumes nothing.
 use mathlib.Core.Path.{refl}
 use Rattle.aes128.proofs.keys.Words.{mix-by}
 use borrow.Author.Needs.{needs}

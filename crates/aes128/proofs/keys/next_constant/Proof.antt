@@ -1,5 +1,3 @@
--- `aes128::keys::next_constant` meets its contract.
--- Assumes nothing.
 use mathlib.Core.Path.{_≡_, ap₂}
 use Prim.Native.Nat.{_*_, _/_, _%_}
 use native.Mathlib.Omega.{arith}

@@ -1,5 +1,3 @@
--- `aes128::keys::next_key` meets its contract.
--- Assumes nothing.
 use Rattle.aes128.proofs.keys.Expansion.{next-words}
 use borrow.Author.Needs.{needs}
 use Rattle.aes128.proofs.keys.next_key.Statement.{statement}

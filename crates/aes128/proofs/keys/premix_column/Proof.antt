@@ -1,5 +1,3 @@
--- `aes128::keys::premix_column` meets its contract.
--- Assumes nothing.
 use Rattle.aes128.proofs.keys.Words.{premix-by}
 use borrow.Author.Needs.{needs}
 use Rattle.aes128.proofs.keys.premix_column.Statement.{statement}

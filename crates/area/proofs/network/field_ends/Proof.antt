@@ -1,5 +1,3 @@
--- `area::network::field_ends` meets its contract.
--- Assumes nothing.
 use Rattle.area.proofs.network.Fronts.{ends-at, ends-past}
 use borrow.Author.Needs.{needs}
 use Rattle.area.proofs.network.field_ends.Statement.{statement}

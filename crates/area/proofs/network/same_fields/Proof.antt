@@ -1,6 +1,5 @@
 -- `area::network::same_fields` meets its contract: the names agree exactly if a field ends in both after the bytes of the shorter and these are the same
 -- (`agreed`).
--- Assumes nothing.
 use mathlib.Core.Path.{_≡_, sym, _∙_}
 use mathlib.Core.Bool.{_&&_}
 use denote.Ref.{now}

@@ -1,6 +1,5 @@
 -- `area::network::same_front` meets its contract. The loop's invariant: the bytes are equal exactly if no difference was gathered and what is left to
 -- compare is equal.
--- Assumes nothing.
 use Prim.Native.Nat.{_≤_, _-_}
 use mathlib.Core.Path.{_≡_}
 use mathlib.Core.Bool.{_&&_}

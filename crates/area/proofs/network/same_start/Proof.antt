@@ -1,5 +1,4 @@
 -- `area::network::same_start` meets its contract: either way compares the first n bytes.
--- Assumes nothing.
 use mathlib.Core.Path.{sym}
 use native.Mathlib.Omega.{arith}
 use lib.Seq.{length-take-le}

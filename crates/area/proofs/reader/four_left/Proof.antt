@@ -1,5 +1,3 @@
--- `area::reader::four_left` meets its contract.
--- Assumes nothing.
 use Prim.Native.Nat.{_+_, _-_, _≤_}
 use mathlib.Core.Path.{sym}
 use denote.Ref.{now}

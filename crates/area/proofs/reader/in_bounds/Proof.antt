@@ -1,5 +1,4 @@
 -- `area::reader::in_bounds` meets its contract: with four bytes the two tests are the definition's.
--- Assumes nothing.
 use mathlib.Core.Path.{sym}
 use denote.Ref.{now}
 use Rattle.area.proofs.reader.Attributes.{long-enough}

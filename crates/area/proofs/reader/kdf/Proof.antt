@@ -1,5 +1,4 @@
 -- `area::reader::kdf` meets its contract: the test of the length says which case of `kdf` holds. One word is four bytes.
--- Assumes nothing.
 use mathlib.Core.Path.{_≡_, ap, _∙_}
 use native.Mathlib.Omega.{arith}
 use denote.Ref.{now}

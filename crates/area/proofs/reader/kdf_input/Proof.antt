@@ -1,6 +1,5 @@
 -- `area::reader::kdf_input` meets its contract: the two tests of the length together say that it belongs to the name length (`agrees`), and what is looked
 -- at after them is the padding (`padded`).
--- Assumes nothing.
 use mathlib.Core.Path.{_≡_, sym, ap, _∙_}
 use native.Mathlib.Omega.{arith}
 use borrow.Author.Needs.{needs}

@@ -1,5 +1,4 @@
 -- `area::reader::length_in` meets its contract: an element of the slice is a byte.
--- Assumes nothing.
 use mathlib.Core.Path.{refl}
 use native.Mathlib.Omega.{arith}
 use borrow.Author.Needs.{needs}

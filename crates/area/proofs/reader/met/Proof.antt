@@ -1,5 +1,4 @@
 -- `area::reader::met` meets its contract: the type that was matched says which case of `attribute` holds.
--- Assumes nothing.
 use mathlib.Core.Path.{_∙_}
 use denote.Ref.{now}
 use Rattle.area.proofs.reader.Attributes.{type-24, type-23, type-other}

@@ -1,5 +1,4 @@
 -- `area::reader::named` meets its contract: the test says whether the attribute is within the area.
--- Assumes nothing.
 use mathlib.Core.Path.{_≡_, sym, ap, _∙_}
 use mathlib.Core.Bool.{true}
 use native.Mathlib.Omega.{arith}

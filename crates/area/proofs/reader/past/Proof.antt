@@ -1,5 +1,4 @@
 -- `area::reader::past` meets its contract: each test says whether the attribute is within the area.
--- Assumes nothing.
 use Prim.Native.Nat.{_≤_, _<_}
 use mathlib.Core.Path.{_≡_, ap, _∙_}
 use native.Mathlib.Omega.{arith}

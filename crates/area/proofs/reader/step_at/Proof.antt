@@ -1,5 +1,4 @@
 -- `area::reader::step_at` meets its contract: the part of the area from an offset to its end is what `drop` leaves.
--- Assumes nothing.
 use Prim.Native.Nat.{_+_, _-_, _≤_, _<_}
 use mathlib.Core.Path.{_≡_, sym, ap, _∙_}
 use native.Mathlib.Omega.{arith}

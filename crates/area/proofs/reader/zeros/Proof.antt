@@ -1,5 +1,4 @@
 -- `area::reader::zeros` meets its contract. The loop's invariant: all bytes are zero exactly if those not yet looked at are.
--- Assumes nothing.
 use Prim.Native.Nat.{_≤_, _-_}
 use mathlib.Core.Path.{_≡_, refl}
 use native.Mathlib.Omega.{arith}

@@ -1,5 +1,3 @@
--- `bundle_compare::kinds::check_both` meets its contract.
--- Assumes nothing.
 use mathlib.Core.Path.{sym, ap, _∙_}
 use Rattle.refusal.specs.Answers.{checkedAs}
 use Rattle.refusal.proofs.Passing.{first-refuses, second-decides}

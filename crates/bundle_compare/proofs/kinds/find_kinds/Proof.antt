@@ -1,5 +1,3 @@
--- `bundle_compare::kinds::find_kinds` meets its contract.
--- Assumes nothing.
 use mathlib.Core.Path.{_≡_, sym, ap, _∙_}
 use borrow.Author.Needs.{needs}
 use denote.Ref.{now}

@@ -1,5 +1,3 @@
--- `bundle_compare::kinds::first_kind` meets its contract.
--- Assumes nothing.
 use mathlib.Core.Path.{sym, ap, _∙_}
 use mathlib.Core.Bool.{Bool, cond}
 use Rattle.bundle_compare.proofs.kinds.Telling.{first-missing, first-found}

@@ -1,5 +1,3 @@
--- `bundle_compare::kinds::same_body` meets its contract.
--- Assumes nothing.
 use mathlib.Core.Path.{_∙_}
 use native.Mathlib.Omega.{arith}
 use Rattle.slices.specs.Same.{sameList}

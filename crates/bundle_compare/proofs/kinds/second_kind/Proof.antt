@@ -1,5 +1,3 @@
--- `bundle_compare::kinds::second_kind` meets its contract.
--- Assumes nothing.
 use Rattle.bundle_compare.proofs.kinds.Telling.{second-missing, second-found}
 use borrow.Author.Needs.{needs}
 use Rattle.bundle_compare.proofs.kinds.second_kind.Statement.{statement}

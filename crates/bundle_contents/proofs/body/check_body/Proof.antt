@@ -1,5 +1,3 @@
--- `bundle_contents::body::check_body` meets its contract.
--- Assumes nothing.
 use Rattle.bundle_rules.proofs.Packing.{sized}
 use Rattle.bundle_rules.specs.Bundle.{keyIdIn}
 use Rattle.refusal.proofs.Passing.{first-refuses, second-decides}

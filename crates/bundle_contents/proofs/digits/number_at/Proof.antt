@@ -1,5 +1,3 @@
--- `bundle_contents::digits::number_at` meets its contract.
--- Assumes nothing.
 use denote.Ref.{now}
 use native.Mathlib.Omega.{arith}
 use borrow.Author.Needs.{needs}

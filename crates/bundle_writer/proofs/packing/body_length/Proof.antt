@@ -1,5 +1,3 @@
--- `bundle_writer::packing::body_length` meets its contract.
--- Assumes nothing.
 use native.Mathlib.Omega.{arith}
 use mathlib.Core.Path.{refl}
 use Rattle.bundle_writer.proofs.packing.Walking.{length-short, length-low, length-past, length-byte}

@@ -1,5 +1,3 @@
--- `bundle_writer::packing::count_bodies` meets its contract.
--- Assumes nothing.
 use Prim.Native.Nat.{_+_, _≤_, _-_}
 use mathlib.Core.Path.{_≡_, refl, sym, ap, _∙_}
 use native.Mathlib.Omega.{arith}

@@ -1,5 +1,3 @@
--- `bundle_writer::packing::length_at` meets its contract.
--- Assumes nothing.
 use Prim.Native.Nat.{_+_}
 use mathlib.Core.Path.{refl}
 use native.Mathlib.Omega.{arith}

@@ -1,5 +1,3 @@
--- `handover::texts::r1_text` meets its contract.
--- Assumes nothing.
 use native.Mathlib.Omega.{arith}
 use lib.ListN.{length, length-set}
 use mathlib.Core.Path.{_≡_, ap}

@@ -1,5 +1,4 @@
 -- `hmac::Keyed::close` meets its contract: the outer hash.
--- Assumes nothing.
 use borrow.Author.Needs.{needs}
 use Rattle.hmac.proofs.Keyed.close.Statement.{statement}
 use Rattle.hmac.proofs.Keyed.close.Tie as tie

@@ -1,5 +1,4 @@
 -- `hmac_sha1::Keyed::close` meets its contract: the outer hash of the digest of a hash value.
--- Assumes nothing.
 use Rattle.hmac_sha1.proofs.Laws.{outer-law}
 use borrow.Author.Needs.{needs}
 use Rattle.hmac_sha1.proofs.Keyed.close.Statement.{statement}

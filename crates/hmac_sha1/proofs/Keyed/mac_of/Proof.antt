@@ -1,5 +1,4 @@
 -- `hmac_sha1::Keyed::mac_of` meets its contract: the inner hash of the message, and the outer hash of that.
--- Assumes nothing.
 use denote.Ref.{now}
 use Rattle.hmac_sha1.proofs.Laws.{mac-of-law}
 use borrow.Author.Needs.{needs}

@@ -1,5 +1,4 @@
 -- `hmac_sha1::Keyed::new` meets its contract: the hash values of the key's block.
--- Assumes nothing.
 use denote.Ref.{now}
 use Rattle.rfc2104.specs.Rfc2104.{ipad, opad}
 use Rattle.hmac_sha1.proofs.Laws.{key-value}

@@ -1,5 +1,4 @@
 -- `hmac_sha1::Keyed::of_block` meets its contract: the block masked by each of the two pads, and compressed.
--- Assumes nothing.
 use mathlib.Core.Path.{_≡_, sym}
 use lib.ListN.{length}
 use Rattle.rfc2104.specs.Rfc2104.{ipad, opad}

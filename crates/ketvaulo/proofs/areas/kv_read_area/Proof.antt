@@ -1,5 +1,3 @@
--- `ketvaulo::areas::kv_read_area` meets its contract.
--- Assumes nothing.
 use mathlib.Core.Path.{ap, _∙_}
 use Rattle.outcome.specs.Areas.{areaOutcome}
 use Rattle.outcome.proofs.Counts.{count-small}

@@ -1,5 +1,3 @@
--- `ketvaulo::bundles::kv_compare_bundles` meets its contract.
--- Assumes nothing.
 use mathlib.Core.Path.{_∙_}
 use Rattle.outcome.specs.Comparisons.{comparisonOutcome}
 use borrow.Author.Needs.{needs}

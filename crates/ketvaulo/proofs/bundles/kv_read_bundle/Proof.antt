@@ -1,5 +1,3 @@
--- `ketvaulo::bundles::kv_read_bundle` meets its contract.
--- Assumes nothing.
 use Rattle.outcome.proofs.Handing.{handed}
 use borrow.Author.Needs.{needs}
 use Rattle.ketvaulo.proofs.bundles.kv_read_bundle.Statement.{statement}

@@ -1,5 +1,3 @@
--- `ketvaulo::handovers::kv_r0_name` meets its contract.
--- Assumes nothing.
 use Rattle.outcome.proofs.Handing.{handed}
 use borrow.Author.Needs.{needs}
 use Rattle.ketvaulo.proofs.handovers.kv_r0_name.Statement.{statement}

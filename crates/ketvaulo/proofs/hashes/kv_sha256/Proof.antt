@@ -1,5 +1,3 @@
--- `ketvaulo::hashes::kv_sha256` meets its contract.
--- Assumes nothing.
 use borrow.Author.Needs.{needs}
 use Rattle.ketvaulo.proofs.hashes.kv_sha256.Statement.{statement}
 use Rattle.ketvaulo.proofs.hashes.kv_sha256.Tie as tie

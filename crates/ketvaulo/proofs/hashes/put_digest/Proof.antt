@@ -1,5 +1,3 @@
--- `ketvaulo::hashes::put_digest` meets its contract.
--- Assumes nothing.
 use mathlib.Core.Path.{_≡_}
 use borrow.Author.Needs.{needs}
 use denote.Ref.{now}

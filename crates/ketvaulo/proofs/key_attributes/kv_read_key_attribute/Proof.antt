@@ -1,5 +1,3 @@
--- `ketvaulo::key_attributes::kv_read_key_attribute` meets its contract.
--- Assumes nothing.
 use borrow.Author.Needs.{needs}
 use denote.Ref.{now}
 use lib.ListN.{length}

@@ -1,5 +1,3 @@
--- `ketvaulo::key_attributes::kv_write_key_attribute` meets its contract.
--- Assumes nothing.
 use Rattle.outcome.proofs.Handing.{handed}
 use borrow.Author.Needs.{needs}
 use Rattle.ketvaulo.proofs.key_attributes.kv_write_key_attribute.Statement.{statement}

@@ -1,5 +1,3 @@
--- `ketvaulo::keys::kv_aka_keys` meets its contract.
--- Assumes nothing.
 use Rattle.outcome.proofs.Handing.{handed}
 use borrow.Author.Needs.{needs}
 use Rattle.ketvaulo.proofs.keys.kv_aka_keys.Statement.{statement}

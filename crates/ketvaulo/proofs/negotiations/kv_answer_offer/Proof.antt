@@ -1,5 +1,3 @@
--- `ketvaulo::negotiations::kv_answer_offer` meets its contract.
--- Assumes nothing.
 use Rattle.outcome.proofs.Handing.{handed}
 use borrow.Author.Needs.{needs}
 use Rattle.ketvaulo.proofs.negotiations.kv_answer_offer.Statement.{statement}

@@ -1,5 +1,3 @@
--- `ketvaulo::negotiations::kv_check_renewed` meets its contract.
--- Assumes nothing.
 use mathlib.Core.Path.{ap, _∙_}
 use Rattle.outcome.specs.Negotiations.{renewedOutcome}
 use borrow.Author.Needs.{needs}

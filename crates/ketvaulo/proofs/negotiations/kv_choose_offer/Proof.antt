@@ -1,5 +1,3 @@
--- `ketvaulo::negotiations::kv_choose_offer` meets its contract.
--- Assumes nothing.
 use mathlib.Core.Path.{ap, _∙_}
 use borrow.Author.Needs.{needs}
 use Rattle.outcome.specs.Negotiations.{firstRoundOutcome}

@@ -1,5 +1,3 @@
--- `ketvaulo::packets::kv_check_packet` meets its contract.
--- Assumes nothing.
 use mathlib.Core.Path.{ap, _∙_}
 use Rattle.outcome.specs.Outcomes.{checkOutcome}
 use borrow.Author.Needs.{needs}

@@ -1,5 +1,3 @@
--- `ketvaulo::packets::kv_sign_packet` meets its contract.
--- Assumes nothing.
 use Rattle.outcome.proofs.Handing.{handed}
 use borrow.Author.Needs.{needs}
 use Rattle.ketvaulo.proofs.packets.kv_sign_packet.Statement.{statement}

@@ -1,5 +1,3 @@
--- `ketvaulo::slot_tables::kv_live_slots` meets its contract.
--- Assumes nothing.
 use borrow.Author.Needs.{needs}
 use Rattle.ketvaulo.proofs.slot_tables.kv_live_slots.Statement.{statement}
 use Rattle.ketvaulo.proofs.slot_tables.kv_live_slots.Tie as tie

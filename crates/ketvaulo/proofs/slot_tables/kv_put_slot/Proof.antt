@@ -1,5 +1,3 @@
--- `ketvaulo::slot_tables::kv_put_slot` meets its contract.
--- Assumes nothing.
 use mathlib.Core.Path.{ap, _∙_}
 use Rattle.outcome.specs.Outcomes.{outcomeOf}
 use Rattle.outcome.specs.SlotTables.{slotsOutcome}

@@ -1,5 +1,3 @@
--- `keywrap_aes::passes::front` meets its contract.
--- Assumes nothing.
 use denote.Ref.{now}
 use Rattle.keywrap_aes.proofs.passes.Parts.{front-is}
 use borrow.Author.Needs.{needs}

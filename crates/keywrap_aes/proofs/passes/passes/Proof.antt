@@ -1,5 +1,3 @@
--- `keywrap_aes::passes::passes` meets its contract.
--- Assumes nothing.
 use mathlib.Core.Path.{sym, ap, _∙_}
 use denote.Ref.{now}
 use lib.ListN.{length}

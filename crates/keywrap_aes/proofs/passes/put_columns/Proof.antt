@@ -1,5 +1,3 @@
--- `keywrap_aes::passes::put_columns` meets its contract.
--- Assumes nothing.
 use denote.Ref.{now}
 use lib.ListN.{length-set}
 use native.Mathlib.Omega.{arith}

@@ -1,5 +1,4 @@
 -- `keywrap_aes::passes::unwrap_pass` meets its contract: what is left of the pass, from block i down, comes to what the whole pass comes to.
--- Assumes nothing.
 use mathlib.Core.Path.{_≡_, refl, sym, ap, _∙_}
 use mathlib.Core.List.{[], _∷_}
 use Prim.Native.Nat.{ℕ, _+_, _-_, _*_, _≤_}

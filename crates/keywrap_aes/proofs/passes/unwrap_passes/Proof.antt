@@ -1,5 +1,4 @@
 -- `keywrap_aes::passes::unwrap_passes` meets its contract: the j passes that are left come to what all six come to, and the count is n * j.
--- Assumes nothing.
 use mathlib.Core.Path.{_≡_, refl, sym, ap, _∙_}
 use mathlib.Core.List.{List}
 use Prim.Native.Nat.{ℕ, _+_, _-_, _*_, _≤_}

@@ -1,5 +1,3 @@
--- `keywrap_aes::passes::wrap_block` meets its contract.
--- Assumes nothing.
 use denote.Ref.{now}
 use Rattle.keywrap_aes.proofs.passes.Parts.{wrap-block-is}
 use borrow.Author.Needs.{needs}

@@ -1,5 +1,4 @@
 -- `keywrap_aes::passes::wrap_pass` meets its contract: after i turns A and the blocks are those of the pass over i blocks.
--- Assumes nothing.
 use mathlib.Core.Path.{_≡_, refl, sym, ap, _∙_}
 use mathlib.Core.List.{[], _∷_}
 use Prim.Native.Nat.{ℕ, _+_, _-_, _*_, _≤_}

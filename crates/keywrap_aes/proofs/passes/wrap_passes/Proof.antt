@@ -1,5 +1,4 @@
 -- `keywrap_aes::passes::wrap_passes` meets its contract: after j turns A and the blocks are those of j passes, and the count is n * j.
--- Assumes nothing.
 use mathlib.Core.Path.{_≡_, refl, sym, ap, _∙_}
 use mathlib.Core.List.{List}
 use Prim.Native.Nat.{ℕ, _+_, _-_, _*_, _≤_}

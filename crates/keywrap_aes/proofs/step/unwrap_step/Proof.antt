@@ -1,5 +1,3 @@
--- `keywrap_aes::step::unwrap_step` meets its contract.
--- Assumes nothing.
 use Rattle.keywrap_aes.proofs.step.Counts.{unwrap-by}
 use borrow.Author.Needs.{needs}
 use Rattle.keywrap_aes.proofs.step.unwrap_step.Statement.{statement}

@@ -1,5 +1,3 @@
--- `keywrap_aes::step::wrap_step` meets its contract.
--- Assumes nothing.
 use Rattle.keywrap_aes.proofs.step.Counts.{wrap-by}
 use borrow.Author.Needs.{needs}
 use Rattle.keywrap_aes.proofs.step.wrap_step.Statement.{statement}

@@ -1,5 +1,3 @@
--- `keywrap_aes::unwrapping::check_unwrap` meets its contract.
--- Assumes nothing.
 use Rattle.refusal.specs.Checks.{bare, unless, _andThen_}
 use mathlib.Core.Bool.{Bool}
 use mathlib.Core.Path.{ap, ap₂, _∙_}

@@ -1,5 +1,3 @@
--- `keywrap_aes::unwrapping::first_eight` meets its contract.
--- Assumes nothing.
 use denote.Ref.{now}
 use Rattle.keywrap_aes.proofs.unwrapping.Parts.{front-is}
 use borrow.Author.Needs.{needs}

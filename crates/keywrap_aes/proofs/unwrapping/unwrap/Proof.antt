@@ -1,5 +1,3 @@
--- `keywrap_aes::unwrapping::unwrap` meets its contract.
--- Assumes nothing.
 use Rattle.rfc3394.specs.Rfc3394.{unwrappedKey}
 use Rattle.keywrap.specs.Calls.{keyLength}
 use Rattle.keywrap_aes.proofs.unwrapping.Parts.{unwrap-bounds, unwrap-refused, unwrap-passed}

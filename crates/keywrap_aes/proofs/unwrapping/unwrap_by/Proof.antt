@@ -1,11 +1,10 @@
 -- `keywrap_aes::unwrapping::unwrap_by` meets its contract, by the two outcomes of the integrity check: the buffer is written in one of them alone.
--- Assumes nothing.
 use mathlib.Core.Path.{_≡_, refl, sym, ap, _∙_}
 use mathlib.Core.Bool.{Bool}
 use mathlib.Core.List.{List}
 use Prim.Native.Nat.{ℕ}
 use denote.Ref.{now}
-use Rattle.refusal.specs.Answers.{checkedAs, wrote, answerTo, bufferAfter}
+use Rattle.refusal.specs.Answers.{checkedAs, returned, answerTo, bufferAfter}
 use Rattle.refusal.specs.Checks.{Check, bare, unless}
 use Rattle.slices.specs.Same.{sameList}
 use Rattle.rfc3394.specs.Rfc3394.{initialValue, unwrappedKey}
@@ -39,7 +38,7 @@ returns-2 c =
     let e = sym (ap checkedAs (c .before .before .before .before .before .enum-told .given .1)) ∙ tested (c .before .before .before .before .before .before .before)
     ∙ ap (λ (b : Bool). unless b (bare 28)) (initial (c .before .before .before .before .before .before .before .before) ∙ ap (λ (a : List ℕ). sameList a initialValue) (u .unwrap-into .ensures .0)) in
     let n = u .unwrap-into .kept .1 .1 .0 ∙ s .pre .3 in (
-      ap wrote n ∙ ap (λ (x : Check). answerTo x (keyLength (now (s .args .wrapped)))) e,
+      ap returned n ∙ ap (λ (x : Check). answerTo x (keyLength (now (s .args .wrapped)))) e,
       released _ _ _ _ _ (now (s .args .out)) _ (c .before .before .copy .ensures .1) refl (u .unwrap-into .ensures .1 .0) n e,
     )
 

@@ -1,5 +1,3 @@
--- `keywrap_aes::unwrapping::unwrap_into` meets its contract.
--- Assumes nothing.
 use denote.Ref.{now}
 use Rattle.keywrap_aes.proofs.unwrapping.Parts.{copied-rest, unwrapped-in-scratch}
 use borrow.Author.Needs.{needs}

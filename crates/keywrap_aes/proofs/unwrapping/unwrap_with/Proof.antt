@@ -1,5 +1,3 @@
--- `keywrap_aes::unwrapping::unwrap_with` meets its contract.
--- Assumes nothing.
 use native.Mathlib.Omega.{arith}
 use lib.ListN.{length-take}
 use borrow.Author.Needs.{needs}

@@ -1,5 +1,3 @@
--- `keywrap_aes::wrapping::check_wrap` meets its contract.
--- Assumes nothing.
 use Rattle.keywrap.proofs.Lengths.{passed-high}
 use Rattle.keywrap_aes.proofs.wrapping.Parts.{wrap-refused, wrap-passed}
 use Rattle.refusal.specs.Answers.{checkedAs}

@@ -1,5 +1,3 @@
--- `keywrap_aes::wrapping::wrap` meets its contract.
--- Assumes nothing.
 use Rattle.rfc3394.specs.Rfc3394.{wrapped}
 use Rattle.keywrap_aes.proofs.wrapping.Parts.{wrap-bounds}
 use lib.ListN.{length}

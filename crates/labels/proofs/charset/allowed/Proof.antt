@@ -1,5 +1,3 @@
--- `labels::charset::allowed` meets its contract.
--- Assumes nothing.
 use borrow.Author.Needs.{needs}
 use Rattle.labels.specs.Bytes.{labelByte, serverByte}
 use Rattle.labels.proofs.charset.allowed.Statement.{statement}

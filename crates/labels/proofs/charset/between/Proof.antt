@@ -1,5 +1,3 @@
--- `labels::charset::between` meets its contract.
--- Assumes nothing.
 use mathlib.Core.Path.{refl}
 use Rattle.refusal.specs.Checks.{within}
 use Rattle.labels.proofs.charset.between.Statement.{statement}

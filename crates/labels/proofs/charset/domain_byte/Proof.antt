@@ -1,5 +1,3 @@
--- `labels::charset::domain_byte` meets its contract.
--- Assumes nothing.
 use mathlib.Core.Path.{refl}
 use Rattle.labels.specs.Bytes.{domainByte}
 use Rattle.labels.proofs.charset.domain_byte.Statement.{statement}

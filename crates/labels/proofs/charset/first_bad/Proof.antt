@@ -1,5 +1,4 @@
 -- `labels::charset::first_bad` meets its contract: the loop's invariant is that no byte before i fails the test, and the laws of a scan take each turn.
--- Assumes nothing.
 use Prim.Native.Nat.{_-_, _≤_}
 use mathlib.Core.Path.{refl, sym, _∙_}
 use borrow.Author.Needs.{needs}

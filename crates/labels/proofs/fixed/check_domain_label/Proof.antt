@@ -1,5 +1,3 @@
--- `labels::fixed::check_domain_label` meets its contract.
--- Assumes nothing.
 use mathlib.Core.Path.{refl}
 use Rattle.labels.specs.FixedLabels.{dsrkLabel}
 use Rattle.labels.specs.FixedChecks.{check31}

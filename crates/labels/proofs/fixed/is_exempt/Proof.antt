@@ -1,5 +1,3 @@
--- `labels::fixed::is_exempt` meets its contract.
--- Assumes nothing.
 use mathlib.Core.Path.{refl}
 use Rattle.labels.specs.FixedLabels.{vrkLabel, visitedReauthLabel, rrkLabel, exempt}
 use Rattle.labels.proofs.fixed.is_exempt.Statement.{statement}

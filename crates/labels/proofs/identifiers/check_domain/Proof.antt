@@ -1,5 +1,3 @@
--- `labels::identifiers::check_domain` meets its contract.
--- Assumes nothing.
 use mathlib.Core.Path.{refl}
 use Rattle.labels.specs.IdentifiersChecks.{check8}
 use Rattle.labels.proofs.charset.Forms.{well-formed}

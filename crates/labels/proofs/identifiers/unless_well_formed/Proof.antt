@@ -1,5 +1,3 @@
--- `labels::identifiers::unless_well_formed` meets its contract.
--- Assumes nothing.
 use mathlib.Core.Path.{refl}
 use borrow.Author.Needs.{needs}
 use Rattle.refusal.specs.Checks

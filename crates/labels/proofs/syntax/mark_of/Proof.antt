@@ -1,5 +1,3 @@
--- `labels::syntax::mark_of` meets its contract.
--- Assumes nothing.
 use Rattle.labels.proofs.syntax.Marks.{mark-at, mark-two, mark-none}
 use Rattle.labels.proofs.syntax.mark_of.Statement.{statement}
 use Rattle.labels.proofs.syntax.mark_of.Tie as tie

@@ -1,5 +1,4 @@
 -- `labels::syntax::marks_in` meets its contract: the loop's invariant is that the sum and the marks still to come are those of the label.
--- Assumes nothing.
 use Prim.Native.Nat.{_+_, _*_, _-_, _≤_}
 use mathlib.Core.Path.{_≡_, refl}
 use borrow.Author.Needs.{needs}

@@ -1,5 +1,3 @@
--- `offers::checks::check_reply` meets its contract.
--- Assumes nothing.
 use mathlib.Core.Path.{refl}
 use borrow.Author.Needs.{needs}
 use Rattle.offers.proofs.checks.check_reply.Statement.{statement}

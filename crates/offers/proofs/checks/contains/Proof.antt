@@ -1,5 +1,4 @@
 -- `offers::checks::contains` meets its contract: whether the value stands in the list is whether it stands from index i on.
--- Assumes nothing.
 use Prim.Native.Nat.{_≤_, _-_}
 use mathlib.Core.Path.{_≡_, refl}
 use native.Mathlib.Omega.{arith}

@@ -1,5 +1,3 @@
--- `offers::checks::is_first` meets its contract.
--- Assumes nothing.
 use borrow.Author.Needs.{needs}
 use Rattle.offers.proofs.checks.Lists.{first-none, first-head}
 use Rattle.offers.proofs.checks.is_first.Statement.{statement}

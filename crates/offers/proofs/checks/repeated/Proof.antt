@@ -1,5 +1,4 @@
 -- `offers::checks::repeated` meets its contract: whether a value occurs twice is whether one does from index i on.
--- Assumes nothing.
 use Prim.Native.Nat.{_≤_, _-_}
 use mathlib.Core.Path.{_≡_, refl, sym, _∙_}
 use native.Mathlib.Omega.{arith}

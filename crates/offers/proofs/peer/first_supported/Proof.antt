@@ -1,5 +1,4 @@
 -- `offers::peer::first_supported` meets its contract: where no offer before index i is supported, the position is counted on from i.
--- Assumes nothing.
 use Prim.Native.Nat.{_+_, _≤_, _-_}
 use mathlib.Core.Path.{_≡_, sym, _∙_}
 use native.Mathlib.Nat.{zero-add}

@@ -1,5 +1,4 @@
 -- `offers::peer::is_renewal` meets its contract: the first value, then the others.
--- Assumes nothing.
 use mathlib.Core.Path.{_∙_}
 use borrow.Author.Needs.{needs}
 use denote.Ref.{now}

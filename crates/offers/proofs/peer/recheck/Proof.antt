@@ -1,5 +1,3 @@
--- `offers::peer::recheck` meets its contract.
--- Assumes nothing.
 use mathlib.Core.Path.{_≡_, refl}
 use borrow.Author.Needs.{needs}
 use denote.Ref.{now}

@@ -1,5 +1,4 @@
 -- `offers::server::put_list` meets its contract: the value at the start of the buffer, and the list copied to the part behind it.
--- Assumes nothing.
 use Prim.Native.Nat.{ℕ, suc, _+_, _-_, _≤_}
 use mathlib.Core.Path.{_≡_, ap, _∙_}
 use mathlib.Core.List.{List, [], _∷_, _++_, append-nil}

@@ -1,5 +1,3 @@
--- `outcome::areas::flag` meets its contract.
--- Assumes nothing.
 use mathlib.Core.Path.{refl}
 use borrow.Author.Needs.{needs}
 use Rattle.outcome.proofs.areas.flag.Statement.{statement}

@@ -1,5 +1,3 @@
--- `outcome::areas::returned` meets its contract.
--- Assumes nothing.
 use borrow.Author.Needs.{needs}
 use Rattle.outcome.proofs.areas.returned.Statement.{statement}
 use Rattle.outcome.proofs.areas.returned.Tie as tie

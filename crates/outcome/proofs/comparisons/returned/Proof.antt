@@ -1,5 +1,3 @@
--- `outcome::comparisons::returned` meets its contract.
--- Assumes nothing.
 use mathlib.Core.Path.{refl}
 use borrow.Author.Needs.{needs}
 use Rattle.outcome.proofs.comparisons.returned.Statement.{statement}

@@ -1,5 +1,3 @@
--- `outcome::key_attributes::returned` meets its contract.
--- Assumes nothing.
 use mathlib.Core.Path.{refl}
 use borrow.Author.Needs.{needs}
 use Rattle.outcome.proofs.key_attributes.returned.Statement.{statement}

@@ -1,5 +1,3 @@
--- `outcome::key_attributes::told` meets its contract.
--- Assumes nothing.
 use mathlib.Core.Path.{refl}
 use Rattle.outcome.proofs.key_attributes.told.Statement.{statement}
 use Rattle.outcome.proofs.key_attributes.told.Tie as tie

@@ -1,5 +1,3 @@
--- `outcome::negotiations::first_round` meets its contract.
--- Assumes nothing.
 use mathlib.Core.Path.{refl}
 use borrow.Author.Needs.{needs}
 use Rattle.outcome.proofs.negotiations.first_round.Statement.{statement}

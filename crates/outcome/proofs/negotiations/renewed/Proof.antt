@@ -1,5 +1,3 @@
--- `outcome::negotiations::renewed` meets its contract.
--- Assumes nothing.
 use borrow.Author.Needs.{needs}
 use Rattle.outcome.proofs.negotiations.renewed.Statement.{statement}
 use Rattle.outcome.proofs.negotiations.renewed.Tie as tie

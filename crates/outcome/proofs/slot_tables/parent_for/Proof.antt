@@ -1,5 +1,3 @@
--- `outcome::slot_tables::parent_for` meets its contract.
--- Assumes nothing.
 use borrow.Author.Tests.{eq-eqb, ne-eqb}
 use Rattle.outcome.proofs.slot_tables.parent_for.Statement.{statement}
 use Rattle.outcome.proofs.slot_tables.parent_for.Tie as tie

@@ -1,5 +1,3 @@
--- `packet_mac::attributes::check_type` meets its contract.
--- Assumes nothing.
 use borrow.Author.Needs.{needs}
 use Rattle.packet_mac.proofs.attributes.check_type.Statement.{statement}
 use Rattle.packet_mac.proofs.attributes.check_type.Tie as tie

@@ -1,5 +1,4 @@
 -- `packet_mac::attributes::is_mac` meets its contract: fewer than four bytes have no MAC Type.
--- Assumes nothing.
 use mathlib.Core.Path.{refl}
 use Rattle.packet_rules.specs.Packet.{isMac}
 use Rattle.packet_mac.proofs.attributes.Fields.{mac-short}

@@ -1,5 +1,4 @@
 -- `packet_mac::attributes::length_holds` meets its contract: outside the limits no byte is read.
--- Assumes nothing.
 use mathlib.Core.Path.{_≡_, sym, _∙_}
 use mathlib.Core.Bool.{true, false}
 use native.Mathlib.Omega.{arith}

@@ -1,5 +1,4 @@
 -- `packet_mac::attributes::mac_place` meets its contract: by what its tests came to.
--- Assumes nothing.
 use mathlib.Core.Path.{_≡_, _∙_}
 use denote.Ref.{now}
 use borrow.Author.Needs.{needs}

@@ -1,5 +1,3 @@
--- `sha1::Sha1::finish_with_digest` meets its contract.
--- Assumes nothing.
 use Rattle.sha1.proofs.Parts.{digest-of-value}
 use borrow.Author.Needs.{needs}
 use Rattle.sha1.proofs.Sha1.finish_with_digest.Statement.{statement}

@@ -1,5 +1,4 @@
 -- `sha1::Sha1::new` meets its contract: its table is the first hash value.
--- Assumes nothing.
 use mathlib.Core.Path.{refl}
 use Rattle.fips180.specs.Sha1.{H0}
 use Rattle.sha1.proofs.Sha1.new.Statement.{statement}

@@ -1,5 +1,3 @@
--- `sha1::Sha1::value_with` meets its contract.
--- Assumes nothing.
 use denote.Ref.{now}
 use Rattle.sha1.proofs.Parts.{value-law}
 use borrow.Author.Needs.{needs}

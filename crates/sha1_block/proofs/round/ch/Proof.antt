@@ -1,5 +1,3 @@
--- `sha1_block::round::ch` meets its contract.
--- Assumes nothing.
 use Rattle.sha1_block.proofs.round.Functions.{rotated-ch}
 use borrow.Author.Needs.{needs}
 use Rattle.sha1_block.proofs.round.ch.Statement.{statement}

@@ -1,5 +1,3 @@
--- `sha1_block::round::kept` meets its contract.
--- Assumes nothing.
 use Rattle.sha1_block.proofs.round.Functions.{kept-variables}
 use borrow.Author.Needs.{needs}
 use Rattle.sha1_block.proofs.round.kept.Statement.{statement}

@@ -1,5 +1,3 @@
--- `sha1_block::round::maj` meets its contract.
--- Assumes nothing.
 use Rattle.sha1_block.proofs.round.Functions.{rotated-maj}
 use borrow.Author.Needs.{needs}
 use Rattle.sha1_block.proofs.round.maj.Statement.{statement}

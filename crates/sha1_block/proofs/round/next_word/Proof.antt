@@ -1,5 +1,3 @@
--- `sha1_block::round::next_word` meets its contract.
--- Assumes nothing.
 use mathlib.Core.Path.{refl}
 use Rattle.fips180.specs.Sha1.{nextW}
 use Rattle.sha1_block.proofs.round.next_word.Statement.{statement}

@@ -1,5 +1,3 @@
--- `sha1_block::round::parity` meets its contract.
--- Assumes nothing.
 use Rattle.sha1_block.proofs.round.Functions.{rotated-parity}
 use borrow.Author.Needs.{needs}
 use Rattle.sha1_block.proofs.round.parity.Statement.{statement}

@@ -1,5 +1,3 @@
--- `sha1_block::round::step` meets its contract.
--- Assumes nothing.
 use mathlib.Core.Path.{_≡_}
 use lib.ListN.{getD}
 use Rattle.fips180.specs.Words.{ROTL}

@@ -1,5 +1,3 @@
--- `sha1_block::round::unrotated` meets its contract.
--- Assumes nothing.
 use mathlib.Core.Path.{_≡_, ap, _∙_}
 use Prim.Native.Nat.{ℕ}
 use Rattle.fips180.specs.Words.{ROTL}

@@ -1,5 +1,3 @@
--- `sha1_block::round::variables_of` meets its contract.
--- Assumes nothing.
 use mathlib.Core.List.{[], _∷_}
 use lib.ListN.{getD}
 use Rattle.sha1_block.specs.Variables.{variables}

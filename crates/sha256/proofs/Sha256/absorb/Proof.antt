@@ -1,5 +1,4 @@
 -- `sha256::Sha256::absorb` meets its contract: the bytes absorbed into copies of the state's parts.
--- Assumes nothing.
 use borrow.Author.Needs.{needs}
 use Rattle.sha256.proofs.Sha256.absorb.Statement.{statement}
 use Rattle.sha256.proofs.Sha256.absorb.Tie as tie

@@ -1,5 +1,4 @@
 -- `sha256::Sha256::after` meets its contract: its fields are those of a hash after one block.
--- Assumes nothing.
 use mathlib.Core.Path.{refl}
 use Rattle.sha256.proofs.Sha256.after.Statement.{statement}
 use Rattle.sha256.proofs.Sha256.after.Tie as tie

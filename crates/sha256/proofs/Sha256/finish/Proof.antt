@@ -1,5 +1,4 @@
 -- `sha256::Sha256::finish` meets its contract: the digest from the state's parts (`finished-closing` of fips180).
--- Assumes nothing.
 use mathlib.Core.Path.{_≡_, sym, _∙_}
 use Prim.Native.Nat.{_^_, _<_}
 use lib.ListN.{length}

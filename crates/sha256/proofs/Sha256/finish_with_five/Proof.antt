@@ -1,5 +1,4 @@
 -- `sha256::Sha256::finish_with_five` meets its contract. The loop's invariant: the first j parts are absorbed; the sixth is empty.
--- Assumes nothing.
 use mathlib.Core.Path.{_≡_, refl, ap, _∙_}
 use mathlib.Core.List.{List, [], _∷_, _++_, append-nil}
 use Prim.Native.Nat.{ℕ, _-_, _^_, _<_, _≤_}

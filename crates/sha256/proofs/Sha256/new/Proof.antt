@@ -1,5 +1,4 @@
 -- `sha256::Sha256::new` meets its contract: its table is the first hash value.
--- Assumes nothing.
 use mathlib.Core.Path.{refl}
 use Rattle.sha256_block.specs.Fips180.{H0}
 use Rattle.sha256.proofs.Sha256.new.Statement.{statement}

@@ -1,5 +1,4 @@
 -- `sha256::value::of_block` meets its contract: one block compressed.
--- Assumes nothing.
 use Prim.Native.Nat.{_/_}
 use mathlib.Core.Path.{_≡_, _∙_}
 use lib.ListN.{length}

@@ -1,5 +1,4 @@
 -- `sha256::value::of_blocks` meets its contract: its table is the first hash value.
--- Assumes nothing.
 use Rattle.sha256_block.specs.Fips180.{H0}
 use borrow.Author.Needs.{needs}
 use Rattle.sha256.proofs.value.of_blocks.Statement.{statement}

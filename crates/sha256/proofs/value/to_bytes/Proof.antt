@@ -1,5 +1,4 @@
 -- `sha256::value::to_bytes` meets its contract. The loop's invariant: the first j words are written (proofs/Digests.antt, `next-word`).
--- Assumes nothing.
 use mathlib.Core.Path.{_≡_, refl, sym, ap, _∙_}
 use Prim.Native.Nat.{ℕ, _+_, _-_, _*_, _≤_}
 use native.Mathlib.Omega.{arith}

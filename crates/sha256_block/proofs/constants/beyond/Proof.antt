@@ -1,5 +1,4 @@
 -- `sha256_block::constants::beyond` meets its contract: there are 64 constants, and past the end a look-up gives 0.
--- Assumes nothing.
 use native.Mathlib.Omega.{arith}
 use Rattle.tables.proofs.Table.{beyond-end}
 use Rattle.fips180.specs.Sha256.{K}

@@ -1,5 +1,4 @@
 -- `sha256_block::round::big_sigma0` meets its contract: three rotations, each of a rotation (proofs/Bits.antt).
--- Assumes nothing.
 use Rattle.sha256_block.proofs.round.Bits.{big0}
 use borrow.Author.Needs.{needs}
 use Rattle.sha256_block.proofs.round.big_sigma0.Statement.{statement}

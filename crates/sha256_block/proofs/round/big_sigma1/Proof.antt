@@ -1,5 +1,4 @@
 -- `sha256_block::round::big_sigma1` meets its contract: three rotations, each of a rotation (proofs/Bits.antt).
--- Assumes nothing.
 use Rattle.sha256_block.proofs.round.Bits.{big1}
 use borrow.Author.Needs.{needs}
 use Rattle.sha256_block.proofs.round.big_sigma1.Statement.{statement}

@@ -1,5 +1,4 @@
 -- `sha256_block::round::maj` meets its contract: the form with one `and` (proofs/Bits.antt).
--- Assumes nothing.
 use borrow.Author.Needs.{needs}
 use Rattle.fips180.proofs.Bits.{one-and-maj}
 use Rattle.sha256_block.proofs.round.maj.Statement.{statement}

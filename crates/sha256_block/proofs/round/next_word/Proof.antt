@@ -1,5 +1,4 @@
 -- `sha256_block::round::next_word` meets its contract: the sum of four, from its callees' answers.
--- Assumes nothing.
 use mathlib.Core.Path.{_∙_}
 use Prim.Native.Nat.{_+_, _%_, _^_}
 use Rattle.fips180.specs.Sha256.{nextW}

@@ -1,5 +1,4 @@
 -- `sha256_block::round::round` meets its contract: the eight variables, from its callees' answers.
--- Assumes nothing.
 use Rattle.fips180.specs.Sha256.{round}
 use borrow.Author.Needs.{needs}
 use Rattle.sha256_block.proofs.round.round.Statement.{statement}

@@ -1,5 +1,4 @@
 -- `sha256_block::round::small_sigma1` meets its contract: a rotation of a rotation, and a shift (proofs/Bits.antt).
--- Assumes nothing.
 use Rattle.sha256_block.proofs.round.Bits.{small1}
 use borrow.Author.Needs.{needs}
 use Rattle.sha256_block.proofs.round.small_sigma1.Statement.{statement}

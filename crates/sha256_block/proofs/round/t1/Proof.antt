@@ -1,5 +1,4 @@
 -- `sha256_block::round::t1` meets its contract: the sum of five, from its callees' answers.
--- Assumes nothing.
 use Rattle.fips180.specs.Sha256.{T1}
 use borrow.Author.Needs.{needs}
 use Rattle.sha256_block.proofs.round.t1.Statement.{statement}

@@ -1,5 +1,4 @@
 -- `sha256_block::round::t2` meets its contract: the sum of two, from its callees' answers.
--- Assumes nothing.
 use Rattle.fips180.specs.Sha256.{T2}
 use borrow.Author.Needs.{needs}
 use Rattle.sha256_block.proofs.round.t2.Statement.{statement}

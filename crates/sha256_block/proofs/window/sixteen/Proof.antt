@@ -1,5 +1,4 @@
 -- `sha256_block::window::sixteen` meets its contract: each round goes on from the one before (proofs/Rounds.antt, `more`).
--- Assumes nothing.
 use Rattle.sha256_block.proofs.window.Rounds.{none, more}
 use borrow.Author.Needs.{needs}
 use Rattle.sha256_block.proofs.window.sixteen.Statement.{statement}

@@ -1,5 +1,3 @@
--- `slots::digits::has_digit` meets its contract.
--- Assumes nothing.
 use borrow.Author.Needs.{needs}
 use borrow.Author.Tests.{le-ltb}
 use Rattle.slot_rules.proofs.Digits.{low-tested, high-tested}

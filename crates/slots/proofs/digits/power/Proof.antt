@@ -1,5 +1,3 @@
--- `slots::digits::power` meets its contract.
--- Assumes nothing.
 use borrow.Author.Needs.{needs}
 use Rattle.slot_rules.proofs.Digits.{power-low, power-high}
 use Rattle.slots.proofs.digits.power.Statement.{statement}

@@ -1,5 +1,3 @@
--- `slots::tree::check_parent` meets its contract.
--- Assumes nothing.
 use borrow.Author.Needs.{needs}
 use mathlib.Core.Bool.{Bool}
 use mathlib.Core.Path.{ap, ap₂, _∙_}

@@ -1,5 +1,3 @@
--- `slots::tree::gone` meets its contract.
--- Assumes nothing.
 use borrow.Author.Needs.{needs}
 use mathlib.Core.Path.{_∙_}
 use Rattle.slot_rules.proofs.Digits.{length-mapped}

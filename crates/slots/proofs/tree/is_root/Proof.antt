@@ -1,5 +1,3 @@
--- `slots::tree::is_root` meets its contract.
--- Assumes nothing.
 use borrow.Author.Needs.{needs}
 use mathlib.Core.Path.{sym, _∙_}
 use Rattle.slot_rules.specs.Internal.{rootBy}

@@ -1,5 +1,3 @@
--- `slots::tree::step_in` meets its contract.
--- Assumes nothing.
 use borrow.Author.Needs.{needs}
 use borrow.Author.Tests.{lt-ltb, le-ltb}
 use Rattle.slots.proofs.tree.step_in.Statement.{statement}
