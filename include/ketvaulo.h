@@ -11,10 +11,10 @@
  *
  * Keys. After a login, the controller and the server share one secret, the EMSK. From it the controller derives the key
  * under which each siding reports (kv_usage_key). For a handheld that visits another domain it derives two keys:
- * kv_domain_root_key under the EMSK, and kv_domain_reauth_key under that key. No two domains share these. For a peer that
- * only knows draft-dondeti-eap-vkh-00 it derives three keys instead, each under the one before: kv_visited_root_key under
- * the EMSK, kv_visited_master_key under that key, and kv_visited_reauth_key under that one. kv_key_name makes a public name
- * for a key. All of these are made of kv_sha256 and kv_hmac_sha256.
+ * kv_domain_root_key under the EMSK, and kv_domain_reauth_key under that key. The first is never derived from the same bytes
+ * for two domains. For a peer that only knows draft-dondeti-eap-vkh-00 it derives three keys instead, each under the one
+ * before: kv_visited_root_key under the EMSK, kv_visited_master_key under that key, and kv_visited_reauth_key under that one.
+ * kv_key_name makes a public name for a key. All of these are made of kv_sha256 and kv_hmac_sha256.
  *
  * Handover keys. A handheld that moves from one access node to another does not log in again. The server and the handheld hold
  * the rRK, a usage key of 64 bytes. For each access domain the server derives an R0-Key (kv_r0_key) and gives it to that
@@ -57,12 +57,13 @@
  *
  * - A slice is a pointer and then its length. The pointer is aligned for its type, and the length counts values of that
  *   type. A slice of length 0 may have a null pointer.
- * - `out` is the slice that a call writes, always from its start (kv_sign_packet writes a part of `packet`). It must not overlap an input of the same call. Inputs
- *   may overlap each other, and no call alters one.
+ * - `out` is the slice that a call writes, always from its start. It must not overlap an input of the same call. Inputs may
+ *   overlap each other, and no call alters one. kv_sign_packet has no `out`: it writes the MAC's 32 bytes of `packet`, which
+ *   must not overlap the key.
  * - Every input has an answer. A call gives only the refusals that its comment lists. If several hold, it gives the
  *   first of them.
- * - A refused call alters no byte of `out`. An accepted call returns 0 as its refusal and alters only the bytes that it
- *   says it writes.
+ * - A refused call alters no byte of `out`, nor of the `packet` that kv_sign_packet is lent. An accepted call returns 0 as
+ *   its refusal and alters only the bytes that it says it writes.
  * - No call keeps a pointer, allocates memory, blocks, or has a state. Calls may run at the same time where none writes a
  *   buffer that another uses. The same call with the same input gives the same answer.
  * - Every answer has to be looked at. A compiler that can do so warns where one is ignored.
@@ -72,8 +73,11 @@
  *
  * What is proved
  *
- * Every call is proved to do what is said here, for every input, to end, and to do nothing undefined. These are not
- * proved:
+ * For every input, every call is proved to end, to do nothing undefined, to give the answer that is said here, and to leave
+ * in every slice that it writes what is said here. A proof speaks of what a call is lent and of what it leaves when it
+ * returns. What this header says of the time in between is so by the code, and no proof says it: that no byte of a key is
+ * written before its unwrapping was found right, that all 32 bytes of a MAC are compared whatever they hold, that nothing is
+ * computed on a refusal. The sizes that are "always enough" are tested. These are not proved either:
  *
  * - The compiler's back end, which makes machine code of the proved program through LLVM, and the linker.
  * - The C code that calls the library, and the C library's memcpy, memmove and memset.
@@ -116,7 +120,7 @@
 
 /* Sizes and limits. Lengths are in bytes, counts in values. */
 #define KV_DIGEST_LEN 32          /* what kv_sha256 and kv_hmac_sha256 write */
-#define KV_ROOT_KEY_MIN 64        /* an EMSK, VRK or VMSK that is lent */
+#define KV_ROOT_KEY_MIN 64        /* an EMSK, VRK, VMSK or MAC key */
 #define KV_ROOT_KEY_MAX 128
 #define KV_AKA_KEY_LEN 16         /* a CK, an IK */
 #define KV_SQN_LEN 6              /* SQN xor AK */
@@ -199,7 +203,8 @@ enum {
     KV_ACCEPTED = 0,
 
     /* document 01 */
-    KV_ROOT_KEY_LENGTH = 1,         /* root key (EMSK, VRK, VMSK) not 64 to 128 bytes */
+    KV_ROOT_KEY_LENGTH = 1,         /* root key (EMSK, VRK, VMSK) or MAC key not 64 to 128 bytes, or the parent of a domain's
+                                       rRK not 64 */
     KV_LABEL_LENGTH = 2,            /* label not 1 to 255 bytes */
     KV_LABEL_BYTE = 3,              /* a label byte outside 32 to 126 */
     KV_DATA_LENGTH = 4,             /* optional data over 2,048 bytes */
@@ -306,7 +311,8 @@ KV_USE_RESULT kv_outcome kv_usage_key(const uint8_t *emsk, size_t emsk_len, cons
 
 /* The visited-domain keys of a handheld (draft-dondeti-eap-vkh-00): the VRK under the EMSK, a VMSK for a server and its
  * domain under the VRK, and the V-rRK under a VMSK. Each call writes 64 bytes and returns 64. They are for peers that know
- * only this draft; the keys of a domain, below, do not share its seam between server ID and domain. */
+ * only this draft. Two pairs of server ID and domain can join to the same bytes there; the keys of a domain, below, have no
+ * such pairs. */
 
 /* The VRK: the usage key of the label KV_VRK_LABEL, "EAP Visited domain Root Key", with no data and n = 64.
  * Refusals, in this order: 1 EMSK not 64 to 128 bytes; 6 `out` has fewer than 64 bytes. */
@@ -344,8 +350,9 @@ KV_USE_RESULT kv_outcome kv_domain_reauth_key(const uint8_t *dsrk, size_t dsrk_l
 
 /* A name of a key, which is no secret (draft-dondeti-eap-vkh-00): the first 8 bytes of SHA-256 over the Session-ID and
  * then the label. The Session-ID is that of the login whose EMSK the key is derived from. The label of a VRK's name is
- * KV_VRK_LABEL, and that of a VMSK's name is its server ID and then its domain; the draft names no V-rRK. Writes 8 bytes and
- * returns 8.
+ * KV_VRK_LABEL, and that of a VMSK's name is its server ID and then its domain; the draft names no V-rRK. A server ID and a
+ * domain that kv_visited_master_key accepts can be refused here: by 32 where they have a comma, two at-signs, one first, or
+ * over 64 bytes and no at-sign, and by 2 where they have over 255 bytes. Writes 8 bytes and returns 8.
  * Refusals, in this order: 9 Session-ID not 1 to 255 bytes; 2 label not 1 to 255 bytes; 3 a label byte outside 32 to 126,
  * with the position of the first such byte, counted from 0, as `value`; 32 the label breaches the syntax of a label, as for
  * kv_usage_key; 6 `out` has fewer than 8 bytes. */
@@ -500,8 +507,9 @@ KV_USE_RESULT kv_key_attribute kv_read_key_attribute(const uint8_t *kek, size_t 
  * What is left to the caller: to put in the authenticator that the section names for that kind of packet, before signing and
  * before checking; to choose the MAC key by the MAC Key ID, which no call looks at; to refuse a packet that came before.
  *
- * What is signed, is accepted under the same key and type number. Signing again changes nothing. A packet is accepted exactly
- * where signing it would change nothing, and every byte outside the MAC's 32 is covered by the MAC. */
+ * What is signed is accepted under the same key and type number. Signing again changes nothing. A packet is accepted exactly
+ * where none of the refusals 1 to 37 holds and signing it would change nothing. Every byte outside the MAC's 32 is covered by
+ * the MAC. */
 
 /* Signs a packet: writes the MAC into its attribute of the type, over what stands there. All bytes of the packet but the MAC's
  * 32 stay as they were. `packet` is lent to be written, and must not overlap the key. Returns 32.
@@ -535,8 +543,9 @@ KV_USE_RESULT kv_outcome kv_write_bundle(const uint8_t *attributes, size_t attri
 /* Reads a bundle, and writes its attributes, packed end to end. Returns how many bytes these are.
  * Refusals, each settled for the whole file before the next: 39 under two bytes, or a count not 1 to 64; 40 contents cut short,
  * or an offset that is not the end of the attribute before (for the first, the end of the contents); 41 the file does not end
- * with the last attribute; 42 repeated Key ID in the contents. Then attribute by attribute 24, 20, 25, 26 and 27 as above, and
- * 50 its Key ID is not that of its line. Then 6 `out` has no room for the attributes. */
+ * with the last attribute; 42 repeated Key ID in the contents. Then attribute by attribute 24 a length byte unequal to the
+ * length in its line, or a length that is not 60 plus a multiple of 8 from 16 to 192; 20, 25, 26 and 27 as above; 50 its Key ID
+ * is not that of its line. Then 6 `out` has no room for the attributes. */
 KV_USE_RESULT kv_outcome kv_read_bundle(const uint8_t *file, size_t file_len, uint8_t *out, size_t out_len);
 
 /* What kv_compare_bundles returns: how many entries of each kind it wrote. On a refusal every count is 0. */

@@ -11,7 +11,7 @@ static inline const char *kv_refusal_text(uint32_t refusal)
 {
     switch (refusal) {
     case KV_ACCEPTED: return "accepted";
-    case KV_ROOT_KEY_LENGTH: return "root key (EMSK, VRK, VMSK) not 64 to 128 bytes";
+    case KV_ROOT_KEY_LENGTH: return "root key (EMSK, VRK, VMSK) or MAC key not 64 to 128 bytes, or the parent of a domain's rRK not 64";
     case KV_LABEL_LENGTH: return "label not 1 to 255 bytes";
     case KV_LABEL_BYTE: return "a label byte outside 32 to 126";
     case KV_DATA_LENGTH: return "optional data over 2,048 bytes";
