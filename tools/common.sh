@@ -24,9 +24,9 @@ install_for() {
         { say "cannot install ${missing[*]}"; return 1; }
 }
 
-# The module that the archive is compiled from, and the flags of that compilation. KETVAULO_MODULE names another module.
-module=${KETVAULO_MODULE:-target/staticlib/ketvaulo.bc}
-module_flags=target/staticlib/ketvaulo.flags
+# The module that the archive is compiled from, and the words of that compilation. KETVAULO_MODULE names another module.
+module=${KETVAULO_MODULE:-target/module/ketvaulo.bc}
+module_flags=target/module/ketvaulo.flags
 
 # kit_folder: where the kit of rt is; its compiler, linker and archiver are in tools_folder
 kit_folder() {
@@ -36,56 +36,42 @@ kit_folder() {
 }
 tools_folder() { echo "$(kit_folder)/on/$(uname -m)/toolchain/bin"; }
 
-# link_kit FOLDER FILE: makes FOLDER a copy of the kit by links, all but FILE, which the caller puts there
-link_kit() {
-    local kit copy=$1 at=. part file
-    kit=$(kit_folder) || return 1
-    for part in ${2//\// }; do
-        for file in "$kit/$at"/*; do [ "${file##*/}" = "$part" ] || ln -s "$file" "$copy/$at/" || return 1; done
-        at=$at/$part
-        [ "$at" = "./$2" ] || mkdir "$copy/$at" || return 1
-    done
-}
-
-# Runs rt staticlib with a copy of the kit in which clang is a script. The script keeps the module and the flags that rattle
-# hands to clang, and calls clang. So the archive is what rt staticlib makes anyway.
-build_library() {
-    local copy clang status
-    clang=on/$(uname -m)/toolchain/bin/clang
-    mkdir -p target/staticlib
-    copy=$(mktemp -d "$PWD/target/kit.XXXXXX") && link_kit "$copy" "$clang" || return 1
-    cat >"$copy/$clang" <<SCRIPT
-#!/bin/sh
-for word in "\$@"; do case \$word in *.bc) cp "\$word" "$PWD/target/staticlib/ketvaulo.bc" ;; esac; done
-printf '%s\n' "\$@" >"$PWD/$module_flags"
-exec "$(kit_folder)/$clang" "\$@"
-SCRIPT
-    chmod +x "$copy/$clang"
-    RATTLE_HOME=$copy "$copy/bin/rt" staticlib ketvaulo
-    status=$?
-    rm -rf "$copy"
-    return $status
-}
-
 # is_fresh FILE: whether it is there and no source is newer. A folder is newer when a file was taken out of it.
 is_fresh() { [ -e "$1" ] && [ -z "$(find crates crates.txt -newer "$1" -print -quit)" ]; }
 
-# Makes the archive, and with it the module, where it is not fresh. One that KETVAULO_ARCHIVE names is taken as it is.
+# logged WHAT COMMAND..: runs a command that makes something, and shows what it printed only where it failed
+logged() {
+    local what=$1 log
+    shift
+    say "making $what, which takes minutes where the crates are not proved yet"
+    log=$("$@" 2>&1) || { printf '%s\n' "$log" >&2; say "cannot make $what"; return 1; }
+}
+
+# Makes the archive by rt staticlib where it is not fresh. One that KETVAULO_ARCHIVE names is taken as it is.
 make_archive() {
     if [ -n "${KETVAULO_ARCHIVE:-}" ] || is_fresh "$archive"; then return 0; fi
-    make_library
+    logged libketvaulo.a rt staticlib ketvaulo
 }
 
-# Makes the module where it is not fresh. One that KETVAULO_MODULE names is taken as it is, with the flags of this checkout's own.
+# Makes the module where it is not fresh. One that KETVAULO_MODULE names is taken as it is, with the words of this checkout's own.
 make_module() {
     if is_fresh "$module_flags" && { [ -n "${KETVAULO_MODULE:-}" ] || is_fresh "$module"; }; then return 0; fi
-    make_library
+    logged 'the module' build_module
 }
 
-make_library() {
-    local log
-    say 'making libketvaulo.a, which takes minutes where the crates are not proved yet'
-    log=$(build_library 2>&1) || { printf '%s\n' "$log" >&2; say 'cannot make libketvaulo.a'; return 1; }
+# The module is had by a build apart from that of the archive: rattle is given a toolchain folder in which clang is tools/module/bin/clang, which
+# keeps what it is handed. tests/archive.sh holds the object in the archive against the one compiled from the module.
+build_module() {
+    local own folder=target/module name words=()
+    own=$(kit_folder)/on/$(uname -m) && rt check ketvaulo || return 1
+    rm -rf "$folder" && mkdir -p "$folder/bin" && cp tools/module/bin/clang "$folder/bin/clang" && ln -s "$own/toolchain/bin/clang" "$folder/bin/kit-clang" || return 1
+    for name in "$own/toolchain"/* "$own/toolchain/bin"/*; do
+        case $name in */toolchain/bin | */bin/clang) ;; *) ln -s "$name" "$folder/${name#"$own/toolchain/"}" || return 1 ;; esac
+    done
+    for name in $(sed -n 's/^ketvaulo: *//p' crates.txt); do words+=(--extern "$name=target/rlib/$name.rlib"); done
+    "$own/bin/rattle" build --crate-name ketvaulo crates/ketvaulo/src/lib.rt --extern "std=$own/rlib/std.rlib" "${words[@]}" \
+        -L dependency=target/rlib -L "dependency=$own/rlib" --antt-project "$(kit_folder)/logic/antt-project.json" --logic-built "$own/logic-built" \
+        --toolchain "$folder" --crate-type staticlib -o "$folder/libketvaulo.a"
 }
 
 # core_flags TARGET: the flags by which clang compiles for the core of a controller; status 1 where it is no target
