@@ -1,8 +1,9 @@
 /* Wipes secrets from memory, beside ketvaulo.h.
  *
  * This is C and not proved. It is tested, on x86-64 and on the cores of controllers: after a call and kv_wipe_stack, no eight
- * bytes of any input or output of the call stand on the stack below the caller (tests/stack.sh). Without it they do: after
- * kv_usage_key the whole EMSK, after kv_read_key_attribute most of the key. Registers are not wiped, nor what an interrupt saved. */
+ * bytes of any input or output of the call stand on the stack below the caller (tests/stack.sh). Without it secrets are left
+ * there: after kv_read_key_attribute the whole key and the KEK, after kv_sign_packet the MAC key, after a derived key what is
+ * as good as its root key. Registers are not wiped, nor what an interrupt saved. */
 #ifndef KETVAULO_WIPE_H
 #define KETVAULO_WIPE_H
 

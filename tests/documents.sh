@@ -1,5 +1,6 @@
 #!/usr/bin/env bash
-# Checks that what the documents name exists. Of the words in backticks in README.md, CHANGELOG.md and docs/*.md these are looked up:
+# Checks that what the documents name exists. Of the words in backticks in README.md, CHANGELOG.md, docs/*.md and docs/requests/*.md these are
+# looked up:
 #   usage/specs/Lib.antt, tests/run    a file or folder, from the root of the checkout, from crates/ or from docs/
 #   Separated                          right after an .antt file, or after another such name: a name in that file
 #   usage/no_zero_byte                 a crate's must-fail edit
@@ -39,7 +40,7 @@ look_up() {
     esac
 }
 
-for document in README.md CHANGELOG.md docs/*.md; do
+for document in README.md CHANGELOG.md docs/*.md docs/requests/*.md; do
     [ "$document" != docs/EXPERIMENTS.md ] || continue
     words "$document" | while read -r word file; do look_up "$document" "$word" "$file"; done
 done

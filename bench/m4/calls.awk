@@ -20,7 +20,7 @@ END {
     for (i = 1; i <= names; i++)
         printf "| `%s` | %s | %s |\n", name[i], milliseconds(cost["cortex-m4", name[i]], 1), milliseconds(cost["cortex-m4", name[i]], 1.5)
     head("Code and constants, bytes")
-    for (i = 1; i <= names; i++) printf "| `%s` | %s |\n", name[i], cells(code, name[i])
+    for (i = 1; i <= names; i++) if (("cortex-m4", name[i]) in code) printf "| `%s` | %s |\n", name[i], cells(code, name[i])
     printf "| all of them | %s |\n", cells(code, "all")
     print data ? "\nThe library has data in RAM." : "\nNo call has data in RAM, neither initialised nor zeroed."
 }
