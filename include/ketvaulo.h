@@ -82,8 +82,9 @@
  * - The compiler's back end, which makes machine code of the proved program through LLVM, and the linker.
  * - The C code that calls the library, and the C library's memcpy, memmove and memset.
  * - On a core with 32 bits, the C functions by which the calls reach the proved program: they are compared with x86-64.
- * - How long a call takes, and what it leaves on the stack. AES looks up tables by secret bytes, which can show in the
- *   cache of a processor that has one. No call wipes its stack: ketvaulo_wipe.h has functions that do.
+ * - What a call lets be known of a secret by its time. It is tested: no branch depends on a secret but the verdicts 28 and 38,
+ *   and no address but those of AES's look-ups, which can show in the cache of a processor that has one.
+ * - What a call leaves on the stack and in registers. No call wipes its stack: ketvaulo_wipe.h has functions that do.
  * - That SHA-1, SHA-256, HMAC and AES are secure. The proofs say that the library computes them as the standards define them.
  *
  * The proofs were checked with the Rattle kit whose KIT-ID is "rattle-kit-5b-plain logic 097e4c862dff5811".

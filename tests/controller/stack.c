@@ -12,8 +12,8 @@
 
 #include <stdio.h>
 
-/* The wipe has to reach from right below the caller, as it does where the caller calls it. */
-void watch_wipe(void) { kv_wipe_stack(); }
+/* The wipe has to reach from right below the caller, as it does where the caller calls it: so nothing stands between. */
+void watch_wipe(void) { kv_wipe_below(); }
 
 /* The bytes of stack from the caller down to the deepest word that is not paint. */
 static uint32_t depth(void)

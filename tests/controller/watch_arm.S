@@ -50,6 +50,14 @@ watch_start:
     .type watch_end, %function
     .thumb_func
 watch_end:
+    mov lr, r0
+    ldr r0, =watch_registers
+    stmia r0!, {r1-r3}
+    mov r1, ip
+    str r1, [r0]
+    subs r0, #12
+    ldr r1, [r0]
+    mov r0, lr
     mov ip, r0
     ldr r0, =watch_result
     stmia r0!, {r1-r3}
@@ -87,7 +95,8 @@ watch_before: .space 8
 watch_after: .space 8
 watch_saved: .space 40   /* r1 to r7, r0, lr, the call */
 watch_result: .space 16  /* r1 to r3, r0 */
-    .globl watch_image, watch_wipes, watch_before, watch_after
+    .globl watch_image, watch_wipes, watch_before, watch_after, watch_registers
+watch_registers: .space 4 * REGISTERS  /* r1 to r3, ip */
 watch_image: .space WATCHED
 watch_wipes: .space 4
 

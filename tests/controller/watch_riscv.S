@@ -31,6 +31,12 @@ watch_start:
 
     .p2align 2
 watch_end:
+    la ra, watch_registers
+    .set at, 0
+    .irp name, t0, t1, t2, t3, t4, t5, t6, a2, a3, a4, a5, a6, a7
+    sw \name, at(ra)
+    .set at, at + 4
+    .endr
     csrr t2, minstret
     la t0, watch_after
     sw t2, 0(t0)
@@ -64,7 +70,8 @@ watch_before: .space 8
 watch_after: .space 8
 watch_saved: .space 4    /* ra */
 watch_result: .space 8   /* a0, a1 */
-    .globl watch_image, watch_wipes, watch_before, watch_after
+    .globl watch_image, watch_wipes, watch_before, watch_after, watch_registers
+watch_registers: .space 4 * REGISTERS
 watch_image: .space WATCHED
 watch_wipes: .space 4
 

@@ -25,6 +25,17 @@ watch_start:
 watch_end:
     mov %rax, watch_result(%rip)
     mov %rdx, watch_result+8(%rip)
+    lea watch_registers(%rip), %rdx
+    mov %rcx, (%rdx)
+    mov %rsi, 8(%rdx)
+    mov %rdi, 16(%rdx)
+    mov %r8, 24(%rdx)
+    mov %r9, 32(%rdx)
+    mov %r10, 40(%rdx)
+    mov %r11, 48(%rdx)
+    .irp i, 0, 1, 2, 3, 4, 5, 6, 7, 8, 9, 10, 11, 12, 13, 14, 15
+    movups %xmm\i, 56+16*\i(%rdx)
+    .endr
     cmpl $0, watch_wipes(%rip)
     je 2f
     call watch_wipe
@@ -42,9 +53,10 @@ watch_before: .space 8
 watch_after: .space 8
 watch_saved: .space 8     /* the return address */
 watch_result: .space 16   /* rax, rdx */
-    .globl watch_image, watch_wipes, watch_before, watch_after
-    .p2align 4            /* as C aligns an array of that size */
+    .globl watch_image, watch_wipes, watch_before, watch_after, watch_registers
+    .p2align 4            /* as C aligns arrays of that size */
 watch_image: .space WATCHED
+watch_registers: .space 4 * REGISTERS
 watch_wipes: .space 4
 
 #include "watched.inc"
