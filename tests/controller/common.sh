@@ -94,10 +94,13 @@ run_example() {
         bare_link "$1" "$made/siding.$1" "$made/siding.$1.o" "$2" && run_bare "$1" "$made/siding.$1" | diff - examples/siding.expected
 }
 
+# Functions of the tests that are watched like calls, with what they call.
+watched_callers='deliver put_one drop_one count_live'
+
 # make_watched: what the program that looks at the stack is made of besides its sources
 make_watched() {
     make_seeds tests/controller/largest "$made/seeds.c"
-    { declared_calls; echo deliver; } | sed 's/^/watched /' >"$made/watched.inc"
+    { declared_calls; echo $watched_callers; } | tr ' ' '\n' | sed 's/^/watched /' >"$made/watched.inc"
 }
 
 # watch_program TARGET OUT ARCHIVE [FLAG]: the program that looks at the stack under the calls
@@ -109,7 +112,7 @@ watch_program() {
     cortex-*) machine=arm ;;
     rv32*) machine=riscv ;;
     esac
-    bare_objects "$target" "$out.o" tests/controller/stack.c tests/controller/delivery.c "tests/controller/watch_$machine.S" tests/controller/lent.c fuzz/calls.c \
+    bare_objects "$target" "$out.o" tests/controller/stack.c tests/controller/delivery.c tests/controller/by_value.c "tests/controller/watch_$machine.S" tests/controller/lent.c fuzz/calls.c \
         fuzz/requests.c "$made/seeds.c" "$@" || return 1
     wraps=$(sed 's/^watched /--wrap=/' "$made/watched.inc")
     # shellcheck disable=SC2086 # words

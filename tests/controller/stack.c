@@ -1,7 +1,7 @@
-/* Makes each request of a file like fuzz/seeds, first as it is and then with the stack wiped after the call. Prints for each: the call,
- * its refusal, the bytes of stack that it took, its instructions (where the machine counts them, watch.h), and how many bytes in a row of an
- * input or of the output were left on the stack, without the wipe and with it. The first line is the same for a key that a function had in
- * its frame, without kv_wipe and with it; the last line has the stack of a handover inside a key delivery. */
+/* Makes each request of a file like fuzz/seeds. Prints for each: the call, its refusal, the bytes of stack that it took, and its instructions (where the
+ * machine counts them, watch.h). The first line has how many bytes in a row of a key that a function had in its frame are left on the stack, without
+ * kv_wipe and with it. The last lines are of functions that make calls, with what the calls take: a handover inside a key delivery, and calls that take the
+ * slots by value. */
 #include "delivery.h"
 #include "ketvaulo_wipe.h"
 #include "port.h"
@@ -12,8 +12,7 @@
 
 #include <stdio.h>
 
-/* The wipe has to reach from right below the caller, as it does where the caller calls it: so nothing stands between. */
-void watch_wipe(void) { kv_wipe_below(); }
+void watch_wipe(void) {}
 
 /* The bytes of stack from the caller down to the deepest word that is not paint. */
 static uint32_t depth(void)
@@ -55,18 +54,6 @@ static uint32_t left_of(const uint8_t *bytes, size_t n)
     return most;
 }
 
-static uint32_t left(const request *asked, const answer *given)
-{
-    const shape *form = &shapes[asked->call];
-    uint32_t most = left_of((const uint8_t *)given->out, given->written * form->out_width);
-    for (int i = 0; i < form->slices; i++) {
-        uint32_t row = left_of(asked->in[i].values, asked->in[i].count * form->width);
-        if (row > most)
-            most = row;
-    }
-    return most;
-}
-
 /* A function that has a key in its frame, and wipes it or not. */
 static const uint8_t key[] = "a key that stands in the frame of a function";
 
@@ -90,24 +77,29 @@ static __attribute__((noinline)) uint32_t left_of_key(int wipe)
     return left_of(key, sizeof key);
 }
 
+/* The line of a function that was watched, and its status. */
+static void tell(const char *name, uint32_t refusal)
+{
+    uint32_t bytes = depth();
+    printf("%s %u %u %u\n", name, refusal, bytes, instructions());
+}
+
 int program(void)
 {
     static answer given;
+    static kv_slots slots;
     uint32_t unwiped = left_of_key(0);
-    printf("kv_wipe 0 0 0 %u %u\n", unwiped, left_of_key(1));
+    printf("kv_wipe %u %u 0\n", unwiped, left_of_key(1));
     for (size_t i = 0; i < seed_count; i++) {
         request asked = read_request(seeds[i].bytes, seeds[i].size);
-        watch_wipes = 0;
         perform(&asked, &given);
-        uint32_t bytes = depth(), count = instructions(), before = left(&asked, &given);
-        watch_wipes = 1;
-        perform(&asked, &given);
-        printf("%s %u %u %u %u %u\n", shapes[asked.call].name, given.refusal, bytes, count, before, left(&asked, &given));
+        tell(shapes[asked.call].name, given.refusal);
         free_request(&asked);
     }
     size_t arrived = send_r0_key();
-    watch_wipes = 0;
-    uint32_t refusal = deliver(arrived), bytes = depth();
-    printf("deliver %u %u %u 0 0\n", refusal, bytes, instructions());
+    tell("deliver", deliver(arrived));
+    tell("put_one", put_one(&slots));
+    tell("drop_one", drop_one(&slots));
+    tell("count_live", count_live(&slots));
     return 0;
 }
