@@ -5,6 +5,7 @@
  * each slice and number was, which of them were accepted, what an area was made of, and how many entries of each kind two bundles gave; an
  * input that marks something new is kept. */
 #include "calls.h"
+#include "complete.h"
 #include "relations.h"
 #include "requests.h"
 
@@ -140,13 +141,15 @@ int LLVMFuzzerTestOneInput(const uint8_t *data, size_t size)
     return 0;
 }
 
-/* Half of the mutations are libFuzzer's, which know nothing of slices; the others keep to them. */
+/* Half of the mutations are libFuzzer's, which know nothing of slices; the others keep to them, and half of those complete what they have changed. */
 size_t LLVMFuzzerCustomMutator(uint8_t *data, size_t size, size_t max_size, unsigned seed)
 {
     if (seed % 2 == 0)
         return LLVMFuzzerMutate(data, size, max_size);
     request asked = read_request(data, size);
     change_request(&asked, seed);
+    if (seed % 4 == 3)
+        complete_request(&asked, seed);
     size = write_request(&asked, data, max_size);
     free_request(&asked);
     return size;

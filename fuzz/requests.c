@@ -150,8 +150,7 @@ static void change_count(slice *changed, range accepted, size_t width, unsigned 
         resize(changed, count, width);
 }
 
-/* Brings every count within what the call accepts, and gives `out` room enough. */
-static void accept_counts(request *asked)
+void accept_counts(request *asked)
 {
     const shape *form = &shapes[asked->call];
     for (int i = 0; i < form->slices; i++) {

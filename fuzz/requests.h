@@ -17,6 +17,9 @@ size_t write_request(const request *asked, uint8_t *bytes, size_t most);
 /* Repeats or takes out a piece of a slice, or brings lengths to or within the limits of the call; `seed` picks. */
 void change_request(request *asked, unsigned seed);
 
+/* Brings every count within what the call accepts, and gives `out` room enough. */
+void accept_counts(request *asked);
+
 void free_request(request *asked);
 
 #endif
