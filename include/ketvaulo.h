@@ -53,6 +53,21 @@
  * are a value of the caller's: kv_put_slot and kv_drop_slot take them and return those after the call. When a key expires, a
  * drop of its slot takes everything that was derived from it.
  *
+ * One key, one call
+ *
+ * Under one EMSK no two of these give the same bytes to HMAC: usage keys that differ in label, data or length, the VRK, and the
+ * root keys of different domains. Under one rRK or R0-Key no two handover keys with different identifiers do. This is proved.
+ * These are not kept apart, and are the caller's to keep apart:
+ * - One key as an EMSK and as a MAC key: a packet can be made up whose MAC is a usage key. Use a key for one purpose alone.
+ * - A usage key of 64 bytes without data whose label is KV_VRK_LABEL is the VRK; whoever may choose the label gets it. Choose
+ *   labels yourself. (KV_DSRK_LABEL is refused for this reason.)
+ * - Names: Session-ID "sess1" with label "gate" and "sess" with "1gate" have one name. Give Session-IDs one length. Two slots
+ *   may hold one name, and the number of a dropped slot is given out again.
+ * - A MAC that was made for one attribute type is accepted for another, where both attributes stand in the packet and the
+ *   bytes are moved. Check a packet under one type number, and never under a second.
+ * - HMAC keys of up to 64 bytes that differ only in zeros at their end are one key. Give keys one length.
+ * - A wrapped key shows whether it is the same as another under that KEK: wrapping adds nothing random.
+ *
  * Conventions
  *
  * - A slice is a pointer and then its length. The pointer is aligned for its type, and the length counts values of that
