@@ -56,11 +56,11 @@
  * One key, one call
  *
  * Under one EMSK no two of these give the same bytes to HMAC: usage keys that differ in label, data or length, the VRK, and the
- * root keys of different domains. Under one rRK or R0-Key no two handover keys with different identifiers do. This is proved.
- * These are not kept apart, and are the caller's to keep apart:
+ * root keys of different domains (the theorems Separated and DomainsApart). Under one rRK or R0-Key no two handover keys with
+ * different identifiers do (R0Apart, R1Apart, NeverShared). These are not kept apart, and are the caller's to keep apart:
  * - One key as an EMSK and as a MAC key: a packet can be made up whose MAC is a usage key. Use a key for one purpose alone.
- * - A usage key of 64 bytes without data whose label is KV_VRK_LABEL is the VRK; whoever may choose the label gets it. Choose
- *   labels yourself. (KV_DSRK_LABEL is refused for this reason.)
+ * - A usage key of 64 bytes without data whose label is KV_VRK_LABEL is the VRK, and with KV_RRK_LABEL it is the rRK of
+ *   RFC 5296 under the EMSK. Whoever may choose the label gets these. Choose labels yourself. (KV_DSRK_LABEL is refused.)
  * - Names: Session-ID "sess1" with label "gate" and "sess" with "1gate" have one name. Give Session-IDs one length. Two slots
  *   may hold one name, and the number of a dropped slot is given out again.
  * - A MAC that was made for one attribute type is accepted for another, where both attributes stand in the packet and the
