@@ -3,7 +3,6 @@ pub mod FixedLabels
 pub mod FixedChecks
 pub mod FixedStatements
 pub mod Syntax
-pub mod Internal
 pub mod SyntaxStatements
 pub mod Bytes
 pub mod Forms
