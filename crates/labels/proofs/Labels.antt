@@ -12,7 +12,7 @@ use Rattle.labels.specs.declared.charset.Scan.{Scan}
 use Rattle.labels.specs.declared.charset.Scan.the-variants.{Clean, BadAt}
 use Rattle.labels.specs.declared.charset.Form.{Form}
 use Rattle.labels.specs.declared.charset.Form.the-variants.{WellFormed, WrongLength, BadByte}
-use Rattle.labels.specs.Forms.{scanForm, formOf, isWellFormed}
+use Rattle.labels.specs.Internal.{scanForm, formOf, isWellFormed}
 use Rattle.labels.proofs.charset.Places.{first-place}
 use Rattle.labels.proofs.charset.Forms.{scan-every}
 use Rattle.labels.specs.FixedLabels.{vrkLabel, visitedReauthLabel, dsrkLabel, rrkLabel, exempt}

@@ -4,8 +4,7 @@ use mathlib.Core.Path.{_≡_, sym, ap, _∙_}
 use mathlib.Core.List.{List}
 use Rattle.refusal.specs.Checks.{Check, _andThen_, check1, check6}
 use Rattle.refusal.proofs.Passing.{then-assoc}
-use Rattle.labels.specs.FixedChecks.{check31}
-use Rattle.labels.specs.Checks.{labelCheck}
+use Rattle.labels.specs.Checks.{labelCheck, check31}
 use Rattle.prf_plus.specs.PrfPlus.{check5, expandCheck}
 use Rattle.requests.specs.Rfc5295.{check4}
 use Rattle.requests.specs.Requests.{forUsage, checkOf}

@@ -9,7 +9,7 @@ use Rattle.refusal.proofs.Passing.{within-low}
 use Rattle.labels.specs.Bytes.{every, scanFrom, firstBad}
 use Rattle.labels.specs.declared.charset.Scan.{Scan}
 use Rattle.labels.specs.declared.charset.Scan.the-variants.{BadAt}
-use Rattle.labels.specs.Forms.{scanForm, formOf, isWellFormed}
+use Rattle.labels.specs.Internal.{scanForm, formOf, isWellFormed}
 use Rattle.labels.specs.declared.charset.Form.the-variants.{WellFormed, WrongLength}
 
 pub scan-every : (p : ℕ → Bool) (i : ℕ) (s : List ℕ) → isWellFormed (scanForm (scanFrom p i s)) ≡ every p s

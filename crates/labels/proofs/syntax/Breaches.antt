@@ -10,7 +10,7 @@ use lib.Dec.{leb, eqb}
 use lib.ListN.{length, getD}
 use Rattle.slices.proofs.Truth.{and-left, and-right, or-true}
 use Rattle.labels.specs.Syntax.{count, hasSpace, hasComma, longWithoutAt, secondAt, atFirst, atLast, breaches}
-use Rattle.labels.specs.SyntaxStatements.{Has, Twice, Breach, space, comma, long-without-at, second-at, at-first, at-last, BreachesExactly}
+use Rattle.labels.specs.Statements.{Has, Twice, Breach, space, comma, long-without-at, second-at, at-first, at-last, BreachesExactly}
 use Rattle.labels.proofs.syntax.Counts.{count-hit, count-miss, count-none}
 
 -- a byte is the first of a text, or it is not

@@ -1,15 +1,22 @@
--- The form of a text, which says what is wrong with it first: its length, then its first bad byte. The number that a text is refused with is
--- said by the tests of labels, server IDs and domains.
+-- What only the contracts of private functions need. Nothing here has to be believed.
 use Prim.Native.Nat.{ℕ}
 use mathlib.Core.Bool.{Bool, true, false, cond}
 use mathlib.Core.List.{List}
 use lib.ListN.{length}
 use Rattle.refusal.specs.Checks.{within}
-use Rattle.labels.specs.Bytes.{firstBad}
+use Rattle.labels.specs.declared.charset.ByteSet.{ByteSet}
+use Rattle.labels.specs.declared.charset.ByteSet.the-variants.{Label, Server, Domain}
 use Rattle.labels.specs.declared.charset.Scan.{Scan}
 use Rattle.labels.specs.declared.charset.Scan.the-variants.{Clean, BadAt}
 use Rattle.labels.specs.declared.charset.Form.{Form}
 use Rattle.labels.specs.declared.charset.Form.the-variants.{WellFormed, WrongLength, BadByte}
+use Rattle.labels.specs.Bytes.{labelByte, serverByte, domainByte, firstBad}
+
+-- the test of a byte of each set
+abbrev pub byteIn : ByteSet → ℕ → Bool
+byteIn Label = labelByte
+byteIn Server = serverByte
+byteIn Domain = domainByte
 
 -- what a scan says of a text of the right length
 abbrev pub scanForm : Scan → Form
