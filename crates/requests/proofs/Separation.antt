@@ -15,7 +15,7 @@ use Rattle.prf_plus.proofs.Lists.{cancel-back}
 use Rattle.prf_plus.proofs.Laws.{input-apart}
 use Rattle.requests.specs.Rfc5295.{usageText}
 use Rattle.requests.specs.Requests.{labelOf, dataOf, lengthOf, textOf, inputOf}
-use Rattle.requests.specs.Statements.{Separated, GateTexts}
+use Rattle.requests.specs.Statements.{Separated, UsageTextExample}
 use Rattle.requests.proofs.Accepting.{sound}
 
 -- z fails the test, and every element of s₁ and s₂ passes it: the first z ends both
@@ -54,6 +54,6 @@ separated emsk r₁ r₂ a₁ a₂ (suc i) (suc j) b₁ b₂ = (
   λ h. let l = h .0 in let d = h .1 in let n = h .2 in let k = h .3 in cc,
 )
 
-pub gate-texts : GateTexts
+pub usage-text-example : UsageTextExample
 unfolding textOf usageText
-gate-texts room = (refl, refl)
+usage-text-example room = (refl, refl)
