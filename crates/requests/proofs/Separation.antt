@@ -31,7 +31,8 @@ split-first p z hz (x ∷ s₁) (y ∷ s₂) t₁ t₂ h₁ h₂ e =
     (cc, r .1)
 
 -- two texts are equal only where label, data and length are
-pub text-apart : (l₁ l₂ d₁ d₂ : List ℕ) (n₁ n₂ : ℕ) → every labelByte l₁ ≡ true → every labelByte l₂ ≡ true → n₁ ≤ 8160 → n₂ ≤ 8160 → usageText l₁ d₁ n₁ ≡ usageText l₂ d₂ n₂ → (l₁ ≡ l₂) × (d₁ ≡ d₂) × (n₁ ≡ n₂)
+pub text-apart : (l₁ l₂ d₁ d₂ : List ℕ) (n₁ n₂ : ℕ) → every labelByte l₁ ≡ true → every labelByte l₂ ≡ true → n₁ ≤ 8160 → n₂ ≤ 8160
+    → usageText l₁ d₁ n₁ ≡ usageText l₂ d₂ n₂ → (l₁ ≡ l₂) × (d₁ ≡ d₂) × (n₁ ≡ n₂)
 unfolding usageText labelByte within
 text-apart l₁ l₂ d₁ d₂ n₁ n₂ h₁ h₂ b₁ b₂ e =
     let label = split-first labelByte 0 refl l₁ l₂ _ _ h₁ h₂ e in

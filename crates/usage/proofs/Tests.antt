@@ -9,6 +9,7 @@ use Rattle.prf_plus.specs.PrfPlus.{check5, expandCheck}
 use Rattle.requests.specs.Rfc5295.{check4}
 use Rattle.requests.specs.Requests.{forUsage, checkOf}
 
-pub usage-tests : (emsk label extra : List ℕ) (n room : ℕ) {c : Check} → c ≡ (check1 emsk andThen labelCheck label andThen check31 label andThen check4 extra) → (c andThen expandCheck n room) ≡ checkOf emsk (forUsage label extra n room)
+pub usage-tests : (emsk label extra : List ℕ) (n room : ℕ) {c : Check}
+    → c ≡ (check1 emsk andThen labelCheck label andThen check31 label andThen check4 extra) → (c andThen expandCheck n room) ≡ checkOf emsk (forUsage label extra n room)
 unfolding checkOf expandCheck
 usage-tests emsk label extra n room e = ap (λ (c : Check). c andThen (check5 n andThen check6 n room)) e ∙ sym (then-assoc _ _ _)

@@ -15,7 +15,7 @@ returns c =
     let k = e .before .before .before .before in
     let s = k .before .before .before .before .before .args in
     let key = vmskKey (now (s .vrk)) (now (s .server)) (now (s .domain)) in
-    key-of-64 key (now (s .out)) (k .check-visited .ensures) (rw (append-nil (now (s .domain))) at (e .expand .ensures))
+    key-of-64 key (now (s .out)) (k .check-visited .ensures) (rw append-nil at (e .expand .ensures))
 
 pub visited-master-key-spec : {M : Type 1} → statement M
 visited-master-key-spec =
