@@ -4,7 +4,7 @@ ghost use mathlib.Core.Path.{_≡_};
 ghost use lib.ListN.{length};
 ghost use Rattle.refusal.specs.Checks.{_andThen_, check1};
 ghost use Rattle.refusal.specs.Answers.{checkedAs, answerOf};
-ghost use Rattle.labels.specs.IdentifiersChecks.{check8};
+ghost use Rattle.labels.specs.Checks.{check8};
 ghost use Rattle.requests.specs.Requests.{forDomain, requestAnswer, requestBuffer};
 ghost use Rattle.domain_keys.specs.Rfc5296.{rrkAnswer, rrkBuffer};
 use refusal::Answered;

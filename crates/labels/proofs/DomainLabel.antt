@@ -8,8 +8,8 @@ use Rattle.refusal.proofs.Passing.{test-passed, test-holds}
 use Rattle.slices.specs.Same.{sameList}
 use Rattle.slices.proofs.Same.{same-exactly}
 use Rattle.labels.specs.FixedLabels.{dsrkLabel}
-use Rattle.labels.specs.FixedChecks.{check31}
-use Rattle.labels.specs.FixedStatements.{DomainLabelAlone}
+use Rattle.labels.specs.Checks.{check31}
+use Rattle.labels.specs.Statements.{DomainLabelAlone}
 
 pub domain-label-alone : DomainLabelAlone
 unfolding check31 unless

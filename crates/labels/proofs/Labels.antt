@@ -12,26 +12,22 @@ use Rattle.labels.specs.declared.charset.Scan.{Scan}
 use Rattle.labels.specs.declared.charset.Scan.the-variants.{Clean, BadAt}
 use Rattle.labels.specs.declared.charset.Form.{Form}
 use Rattle.labels.specs.declared.charset.Form.the-variants.{WellFormed, WrongLength, BadByte}
-use Rattle.labels.specs.Forms.{scanForm, formOf, isWellFormed}
+use Rattle.labels.specs.Internal.{scanForm, formOf, isWellFormed}
 use Rattle.labels.proofs.charset.Places.{first-place}
 use Rattle.labels.proofs.charset.Forms.{scan-every}
 use Rattle.labels.specs.FixedLabels.{vrkLabel, visitedReauthLabel, dsrkLabel, rrkLabel, exempt}
-use Rattle.labels.specs.Syntax.{count, breaches, badSyntax}
+use Rattle.labels.specs.Syntax.{count, breaches}
 use Rattle.labels.specs.Checks.{scanned3, labelCheck, check32}
 use Rattle.labels.specs.Statements.{LabelPlace, FixedLabelsPass}
 
 -- the test of the syntax by whether there is a breach: without one it passes, on one the exemption decides
-breach-of : (label : List ℕ) {t : Bool} → within 1 255 (length label) ≡ true → t ≡ badSyntax label → t ≡ breaches label
-unfolding badSyntax
-breach-of label h e = e ∙ rw h
-
-pub no-breach : (label : List ℕ) {t : Bool} → within 1 255 (length label) ≡ true → t ≡ badSyntax label → t ≡ false → pass ≡ check32 label
+pub no-breach : (label : List ℕ) {t : Bool} → t ≡ breaches label → t ≡ false → pass ≡ check32 label
 unfolding check32 unless
-no-breach label h b e = rw (sym (breach-of label h b), e)
+no-breach label b e = rw (sym b, e)
 
-pub on-breach : (label : List ℕ) {c : Check} {t u : Bool} → within 1 255 (length label) ≡ true → t ≡ badSyntax label → t ≡ true → u ≡ exempt label → c ≡ unless u (bare 32) → c ≡ check32 label
+pub on-breach : (label : List ℕ) {c : Check} {t u : Bool} → t ≡ breaches label → t ≡ true → u ≡ exempt label → c ≡ unless u (bare 32) → c ≡ check32 label
 unfolding check32
-on-breach label h b e x r = rw (r, x, sym (breach-of label h b), e)
+on-breach label b e x r = rw (r, x, sym b, e)
 
 -- the tests of a label by its form, before 32: 2, 3
 abbrev formCheck : Form → Check

@@ -6,8 +6,6 @@ use mathlib.Core.Bool.{Bool, true, cond, _&&_, _||_}
 use mathlib.Core.List.{List, [], _∷_}
 use lib.Dec.{eqb}
 use Rattle.refusal.specs.Checks.{within}
-use Rattle.labels.specs.declared.charset.ByteSet.{ByteSet}
-use Rattle.labels.specs.declared.charset.ByteSet.the-variants.{Label, Server, Domain}
 use Rattle.labels.specs.declared.charset.Scan.{Scan}
 use Rattle.labels.specs.declared.charset.Scan.the-variants.{Clean, BadAt}
 
@@ -22,12 +20,6 @@ serverByte b = within 33 126 b
 -- a byte of a domain: a letter (ASCII A to Z and a to z), a digit, a hyphen or a dot
 unfoldable pub domainByte : ℕ → Bool
 domainByte b = within (code "A") (code "Z") b || within (code "a") (code "z") b || within (code "0") (code "9") b || eqb b (code "-") || eqb b (code ".")
-
--- the test of a byte of each kind
-abbrev pub byteIn : ByteSet → ℕ → Bool
-byteIn Label = labelByte
-byteIn Server = serverByte
-byteIn Domain = domainByte
 
 -- every element passes the test
 unfoldable pub every : (ℕ → Bool) → List ℕ → Bool

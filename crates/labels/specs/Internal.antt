@@ -1,15 +1,33 @@
 -- What only the contracts of private functions need. Nothing here has to be believed.
-use Prim.Native.Nat.{ℕ, _+_}
-use Prim.Native.Char.{code}
-use mathlib.Core.Bool.{cond, _||_}
-use mathlib.Core.List.{List, [], _∷_}
-use lib.Dec.{eqb}
+use Prim.Native.Nat.{ℕ}
+use mathlib.Core.Bool.{Bool, true, false, cond}
+use mathlib.Core.List.{List}
+use lib.ListN.{length}
+use Rattle.refusal.specs.Checks.{within}
+use Rattle.labels.specs.declared.charset.ByteSet.{ByteSet}
+use Rattle.labels.specs.declared.charset.ByteSet.the-variants.{Label, Server, Domain}
+use Rattle.labels.specs.declared.charset.Scan.{Scan}
+use Rattle.labels.specs.declared.charset.Scan.the-variants.{Clean, BadAt}
+use Rattle.labels.specs.declared.charset.Form.{Form}
+use Rattle.labels.specs.declared.charset.Form.the-variants.{WellFormed, WrongLength, BadByte}
+use Rattle.labels.specs.Bytes.{labelByte, serverByte, domainByte, firstBad}
 
--- what a byte counts for the syntax of a label: an at-sign 1, a space and a comma 2 each. So a label whose marks are 2 or more has a space, a
--- comma or a second at-sign, and of one whose marks are fewer they are its at-signs
-abbrev pub mark : ℕ → ℕ
-mark b = cond (eqb b (code "@")) 1 (cond (eqb b (code " ") || eqb b (code ",")) 2 0)
+-- the test of a byte of each set
+abbrev pub byteIn : ByteSet → ℕ → Bool
+byteIn Label = labelByte
+byteIn Server = serverByte
+byteIn Domain = domainByte
 
-unfoldable pub marks : List ℕ → ℕ
-marks [] = 0
-marks (x ∷ s) = mark x + marks s
+-- what a scan says of a text of the right length
+abbrev pub scanForm : Scan → Form
+scanForm Clean = WellFormed
+scanForm (BadAt i) = BadByte i
+
+-- a text that should have 1 to `longest` bytes, each of which passes the test: its length first, then its first bad byte
+unfoldable pub formOf : (ℕ → Bool) → ℕ → List ℕ → Form
+formOf p longest s = cond (within 1 longest (length s)) (scanForm (firstBad p s)) WrongLength
+
+abbrev pub isWellFormed : Form → Bool
+isWellFormed WellFormed = true
+isWellFormed WrongLength = false
+isWellFormed (BadByte i) = false

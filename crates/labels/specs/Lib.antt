@@ -1,11 +1,6 @@
-pub mod IdentifiersChecks
-pub mod FixedLabels
-pub mod FixedChecks
-pub mod FixedStatements
-pub mod Syntax
-pub mod Internal
-pub mod SyntaxStatements
 pub mod Bytes
-pub mod Forms
+pub mod Syntax
+pub mod FixedLabels
 pub mod Checks
 pub mod Statements
+pub mod Internal

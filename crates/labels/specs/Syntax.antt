@@ -5,7 +5,6 @@ use mathlib.Core.Bool.{Bool, cond, _&&_, _||_}
 use mathlib.Core.List.{List, [], _∷_}
 use lib.Dec.{leb, eqb}
 use lib.ListN.{length, getD}
-use Rattle.refusal.specs.Checks.{within}
 
 -- how often a byte stands in a text
 unfoldable pub count : ℕ → List ℕ → ℕ
@@ -33,7 +32,3 @@ atLast label = eqb (getD label (length label - 1) 0) (code "@")
 
 unfoldable pub breaches : List ℕ → Bool
 breaches label = hasSpace label || hasComma label || longWithoutAt label || secondAt label || atFirst label || atLast label
-
--- the breach of a label that 2 lets pass: of one that has 1 to 255 bytes
-unfoldable pub badSyntax : List ℕ → Bool
-badSyntax label = within 1 255 (length label) && breaches label

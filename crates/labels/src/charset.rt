@@ -1,26 +1,26 @@
 // Which bytes a label, a server ID and a domain may hold, the position of the first byte that a text may not hold, and a text's form: its
 // length and its bytes together (document 01, "Refusal numbers", 2, 3, 7 and 8).
 ghost use mathlib.Core.Path.{_≡_};
-ghost use Rattle.labels.specs.Bytes.{byteIn, domainByte, firstBad};
-ghost use Rattle.labels.specs.Forms.{formOf};
+ghost use Rattle.labels.specs.Bytes.{domainByte, firstBad};
+ghost use Rattle.labels.specs.Internal.{byteIn, formOf};
 ghost use Rattle.refusal.specs.Checks.{within};
 use refusal::in_range;
 
 // The bytes that a label, a server ID and a domain may hold.
-pub enum ByteSet {
+pub(crate) enum ByteSet {
     Label,
     Server,
     Domain,
 }
 
 // What a scan for the first byte outside a set finds: none, or its position, counted from 0.
-pub enum Scan {
+pub(crate) enum Scan {
     Clean,
     BadAt(usize),
 }
 
 // The form of a text: well formed, or what is wrong with it first. The position of a bad byte counts from 0.
-pub enum Form {
+pub(crate) enum Form {
     WellFormed,
     WrongLength,
     BadByte(usize),
@@ -53,7 +53,7 @@ fn allowed(set: ByteSet, b: u8) -> bool
 }
 
 // Finds the first byte that is not in the set.
-pub(crate) fn first_bad(s: &[u8], set: ByteSet) -> Scan
+fn first_bad(s: &[u8], set: ByteSet) -> Scan
     ensures { λ r. ⌜ r ≡ firstBad (byteIn set) (now (s .entry)) ⌝ }
 {
     let mut i = 0;

@@ -1,7 +1,7 @@
 // The labels that the papers fix: which of them the syntax of a label exempts (document 02, request 7), and the test that no usage request has
 // the label of a domain root key: 31 (request 6).
 ghost use mathlib.Core.Path.{_≡_};
-ghost use Rattle.labels.specs.FixedChecks.{check31};
+ghost use Rattle.labels.specs.Checks.{check31};
 ghost use Rattle.labels.specs.FixedLabels.{exempt};
 ghost use Rattle.refusal.specs.Answers.{checkedAs};
 use refusal::Checked;

@@ -1,7 +1,7 @@
 // Tests of server IDs and domains: document 01's numbers 7 and 8 ("Refusal numbers"). This is the one place that tests them.
 ghost use mathlib.Core.Path.{_≡_};
-ghost use Rattle.labels.specs.Forms.{isWellFormed};
-ghost use Rattle.labels.specs.IdentifiersChecks.{check7, check8};
+ghost use Rattle.labels.specs.Internal.{isWellFormed};
+ghost use Rattle.labels.specs.Checks.{check7, check8};
 ghost use Rattle.refusal.specs.Answers.{checkedAs, reasonOf};
 ghost use Rattle.refusal.specs.Checks;
 use crate::charset::ByteSet;

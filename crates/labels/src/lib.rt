@@ -1,11 +1,10 @@
 // Tests of texts. Those of a label are document 01's numbers 2 and 3 ("Refusal numbers"), and document 02's 32; those of server IDs and domains are 7 and 8.
 // This is the one place that tests them.
 ghost use mathlib.Core.Path.{_≡_};
-ghost use mathlib.Core.Bool.{true};
+ghost use Prim.Native.Nat.{_≤_};
 ghost use lib.ListN.{length};
 ghost use Rattle.labels.specs.Checks.{labelCheck, check32};
 ghost use Rattle.refusal.specs.Answers.{checkedAs};
-ghost use Rattle.refusal.specs.Checks.{within};
 
 mod charset; // which bytes a text may hold, and its form
 mod fixed; // the labels that the papers fix: exempt from the syntax, and 31
@@ -24,7 +23,7 @@ use refusal::Refusal;
 
 // Tests the syntax of a label that 2 and 3 let pass: 32. Whether it is exempt is looked up only on a breach.
 fn check_syntax(label: &[u8]) -> Checked
-    requires { ⌜ within 1 255 (length (now label)) ≡ true ⌝ }
+    requires { ⌜ 1 ≤ length (now label) ⌝ }
     ensures { λ r. ⌜ checkedAs r ≡ check32 (now (label .entry)) ⌝ }
 {
     if !is_breach(label) {

@@ -2,43 +2,35 @@
 ghost use mathlib.Core.Path.{_≡_};
 ghost use Prim.Native.Nat.{_≤_};
 ghost use lib.ListN.{length};
-ghost use Rattle.labels.specs.Internal.{mark, marks};
-ghost use Rattle.labels.specs.Syntax.{badSyntax};
-use refusal::in_range;
+ghost use Rattle.labels.specs.Syntax.{count, breaches};
 
-// What a byte counts for the syntax of a label: an at-sign 1, a space and a comma 2.
-fn mark_of(b: u8) -> usize
-    ensures { λ r. ⌜ r ≡ mark b ⌝ }
-{
-    if b == b'@' {
-        return 1;
-    }
-    if (b == b' ') | (b == b',') { 2 } else { 0 }
-}
-
-// The marks of a label, added up.
-fn marks_in(label: &[u8]) -> usize
-    requires { ⌜ length (now label) ≤ 255 ⌝ }
-    ensures { λ r. ⌜ r ≡ marks (now (label .entry)) ⌝ }
+// How often a byte stands in a text.
+fn count_byte(b: u8, s: &[u8]) -> usize
+    ensures { λ r. ⌜ r ≡ count b (now (s .entry)) ⌝ }
 {
     let mut sum: usize = 0;
     let mut i = 0;
-    while i < label.len() {
-        sum += mark_of(label[i]);
+    while i < s.len() {
+        if s[i] == b {
+            sum += 1;
+        }
         i += 1;
     }
     sum
 }
 
-// Whether a label that has 1 to 255 bytes breaches the syntax of a label. Of another length it has no syntax to breach.
+// Whether a label that has a byte breaches the syntax of a label.
 pub(crate) fn is_breach(label: &[u8]) -> bool
-    ensures { λ r. ⌜ r ≡ badSyntax (now (label .entry)) ⌝ }
+    requires { ⌜ 1 ≤ length (now label) ⌝ }
+    ensures { λ r. ⌜ r ≡ breaches (now (label .entry)) ⌝ }
 {
     let n = label.len();
-    if !in_range(1, 255, n) {
-        return false;
-    }
-    let marks = marks_in(label);
-    let marked = (2 <= marks) | ((65 <= n) & (marks == 0));
-    marked | (label[0] == b'@') | (label[n - 1] == b'@')
+    let has_space = 1 <= count_byte(b' ', label);
+    let has_comma = 1 <= count_byte(b',', label);
+    let at_signs = count_byte(b'@', label);
+    let long_without_at = (65 <= n) & (at_signs == 0);
+    let second_at = 2 <= at_signs;
+    let at_first = label[0] == b'@';
+    let at_last = label[n - 1] == b'@';
+    has_space | has_comma | long_without_at | second_at | at_first | at_last
 }

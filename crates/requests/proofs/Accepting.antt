@@ -10,7 +10,7 @@ use Rattle.refusal.specs.Checks.{pass, within}
 use Rattle.refusal.proofs.Passing.{before-passed, last-passed, test-passed, within-low, within-high}
 use Rattle.labels.specs.Bytes.{every, labelByte}
 use Rattle.labels.specs.FixedLabels.{vrkLabel, dsrkLabel}
-use Rattle.labels.specs.FixedChecks.{check31}
+use Rattle.labels.specs.Checks.{check31}
 use Rattle.labels.proofs.Labels.{good-label}
 use Rattle.requests.specs.Requests.{Request, forUsage, forVrk, forDomain, labelOf, lengthOf, checkOf, Accepted}
 

@@ -8,10 +8,8 @@ use Rattle.refusal.proofs.Passing.{then-pass}
 use Rattle.slices.specs.Same.{sameList}
 use Rattle.labels.specs.Bytes.{every, scanFrom, labelByte, domainByte}
 use Rattle.labels.specs.FixedLabels.{vrkLabel, visitedReauthLabel, dsrkLabel, rrkLabel, exempt}
-use Rattle.labels.specs.FixedChecks.{check31}
-use Rattle.labels.specs.IdentifiersChecks.{check8}
+use Rattle.labels.specs.Checks.{labelCheck, check8, check31, check32}
 use Rattle.labels.specs.Syntax.{count, breaches}
-use Rattle.labels.specs.Checks.{labelCheck, check32}
 use Rattle.labels.proofs.Labels.{fixed-labels-pass}
 use Rattle.hmac.specs.Rfc2104.{hmacSha256}
 use Rattle.hmac.proofs.Laws.{hmacSha256-length}

@@ -15,7 +15,7 @@ use Rattle.prf_plus.proofs.Lists.{cancel-back}
 use Rattle.prf_plus.proofs.Laws.{input-apart}
 use Rattle.requests.specs.Rfc5295.{usageText}
 use Rattle.requests.specs.Requests.{labelOf, dataOf, lengthOf, textOf, inputOf}
-use Rattle.requests.specs.Statements.{Separated, GateTexts}
+use Rattle.requests.specs.Statements.{Separated, UsageTextExample}
 use Rattle.requests.proofs.Accepting.{sound}
 
 -- z fails the test, and every element of s₁ and s₂ passes it: the first z ends both
@@ -31,7 +31,8 @@ split-first p z hz (x ∷ s₁) (y ∷ s₂) t₁ t₂ h₁ h₂ e =
     (cc, r .1)
 
 -- two texts are equal only where label, data and length are
-pub text-apart : (l₁ l₂ d₁ d₂ : List ℕ) (n₁ n₂ : ℕ) → every labelByte l₁ ≡ true → every labelByte l₂ ≡ true → n₁ ≤ 8160 → n₂ ≤ 8160 → usageText l₁ d₁ n₁ ≡ usageText l₂ d₂ n₂ → (l₁ ≡ l₂) × (d₁ ≡ d₂) × (n₁ ≡ n₂)
+pub text-apart : (l₁ l₂ d₁ d₂ : List ℕ) (n₁ n₂ : ℕ) → every labelByte l₁ ≡ true → every labelByte l₂ ≡ true → n₁ ≤ 8160 → n₂ ≤ 8160
+    → usageText l₁ d₁ n₁ ≡ usageText l₂ d₂ n₂ → (l₁ ≡ l₂) × (d₁ ≡ d₂) × (n₁ ≡ n₂)
 unfolding usageText labelByte within
 text-apart l₁ l₂ d₁ d₂ n₁ n₂ h₁ h₂ b₁ b₂ e =
     let label = split-first labelByte 0 refl l₁ l₂ _ _ h₁ h₂ e in
@@ -54,6 +55,6 @@ separated emsk r₁ r₂ a₁ a₂ (suc i) (suc j) b₁ b₂ = (
   λ h. let l = h .0 in let d = h .1 in let n = h .2 in let k = h .3 in cc,
 )
 
-pub gate-texts : GateTexts
+pub usage-text-example : UsageTextExample
 unfolding textOf usageText
-gate-texts room = (refl, refl)
+usage-text-example room = (refl, refl)

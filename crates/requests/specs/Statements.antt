@@ -1,5 +1,5 @@
 -- What is proved of requests under an EMSK (document 01, demand 3, "Usage keys", "Visited keys"; document 02, request 6). The proofs are `separated`
--- and `gate-texts` of proofs/Separation.antt, those of the two statements on domains in proofs/Domains.antt, and `key-of-blocks`, `vrk-is-usage` and
+-- and `usage-text-example` of proofs/Separation.antt, those of the two statements on domains in proofs/Domains.antt, and `key-of-blocks`, `vrk-is-usage` and
 -- `some-accepted` of proofs/Requests.antt.
 use Prim.Native.Nat.{ℕ, _≤_}
 use mathlib.Core.Path.{_≡_}
@@ -25,20 +25,20 @@ Separated =
 
 -- Usage requests and requests for a domain are kept apart, which demand 3 alone does not say: two accepted requests of which a block each has the
 -- same bytes are both for a domain, or neither is
-abbrev pub ForDomain : Request → Bool
-ForDomain (forUsage label extra n room) = false
-ForDomain (forVrk room) = false
-ForDomain (forDomain domain room) = true
+abbrev pub isForDomain : Request → Bool
+isForDomain (forUsage label extra n room) = false
+isForDomain (forVrk room) = false
+isForDomain (forDomain domain room) = true
 
 abbrev pub KindsApart : Type 0
 KindsApart =
-    (emsk : List ℕ) (r s : Request)
-    → Accepted emsk r → Accepted emsk s
-    → (i j : ℕ) → BlockOf r i → BlockOf s j
-    → inputOf emsk r i ≡ inputOf emsk s j → ForDomain r ≡ ForDomain s
+    (emsk : List ℕ) (r₁ r₂ : Request)
+    → Accepted emsk r₁ → Accepted emsk r₂
+    → (i j : ℕ) → BlockOf r₁ i → BlockOf r₂ j
+    → inputOf emsk r₁ i ≡ inputOf emsk r₂ j → isForDomain r₁ ≡ isForDomain r₂
 
--- Of two accepted requests for a domain, a block each has the same bytes exactly when domain and block number are equal. So the owner's two yards, whose
--- VMSKs are one (`VmskSeam` of the crate visited), have domain root keys of their own: no block of the one has the bytes of a block of the other
+-- Of two accepted requests for a domain, a block each has the same bytes exactly when domain and block number are equal. So two domains whose
+-- VMSKs are one (`VmskNotInjective` of the crate visited) have domain root keys of their own: no block of the one has the bytes of a block of the other
 abbrev pub DomainsApart : Type 0
 DomainsApart =
     (emsk domain₁ domain₂ : List ℕ) (room₁ room₂ : ℕ)
@@ -46,8 +46,8 @@ DomainsApart =
     → (i j : ℕ) → BlockOf (forDomain domain₁ room₁) i → BlockOf (forDomain domain₂ room₂) j
     → (inputOf emsk (forDomain domain₁ room₁) i ≡ inputOf emsk (forDomain domain₂ room₂) j) ↔ ((domain₁ ≡ domain₂) × (i ≡ j))
 
-abbrev pub YardsApart : Type 0
-YardsApart =
+abbrev pub DomainsApartExample : Type 0
+DomainsApartExample =
     (emsk : List ℕ) (room₁ room₂ : ℕ)
     → Accepted emsk (forDomain (ascii "2.example") room₁) → Accepted emsk (forDomain (ascii ".example") room₂)
     → (i j : ℕ) → BlockOf (forDomain (ascii "2.example") room₁) i → BlockOf (forDomain (ascii ".example") room₂) j
@@ -74,7 +74,7 @@ VrkIsUsage =
     × ((i : ℕ) → inputOf emsk (forVrk room) i ≡ inputOf emsk (forUsage vrkLabel [] 64 room) i)
 
 -- Some requests are accepted, and others are refused with the first number that holds: a label of one letter; no label; a label with a tab,
--- where the key length is wrong too; a label with a space, and the domain label, where it is wrong too; the two yards' domains; a domain with an
+-- where the key length is wrong too; a label with a space, and the domain label, where it is wrong too; the domains of `DomainsApartExample`; a domain with an
 -- underscore, where there is no room either
 abbrev pub SomeAccepted : Type 0
 SomeAccepted =
@@ -88,8 +88,8 @@ SomeAccepted =
     × (checkOf (replicate 64 7) (forDomain (ascii "2_example") 0) ≡ refuse (bare 8))
 
 -- the worked example of docs/SEPARATION.md: without the zero byte the two texts would be one
-abbrev pub GateTexts : Type 0
-GateTexts =
+abbrev pub UsageTextExample : Type 0
+UsageTextExample =
     (room : ℕ)
     → (textOf (forUsage (ascii "gate1") (ascii "2") 64 room) ≡ 0x67 ∷ 0x61 ∷ 0x74 ∷ 0x65 ∷ 0x31 ∷ 0x00 ∷ 0x32 ∷ 0x00 ∷ 0x40 ∷ [])
     × (textOf (forUsage (ascii "gate") (ascii "12") 64 room) ≡ 0x67 ∷ 0x61 ∷ 0x74 ∷ 0x65 ∷ 0x00 ∷ 0x31 ∷ 0x32 ∷ 0x00 ∷ 0x40 ∷ [])

@@ -15,11 +15,11 @@ VmskSeparated =
     → domain₁ ≡ domain₂
     → (vmskText server₁ domain₁ ≡ vmskText server₂ domain₂) ↔ (server₁ ≡ server₂)
 
--- Not promised: that requests with different domains have different S. S has no length and no separator, so bytes may pass over the seam
--- between server ID and domain: server "yard1" with domain "2.example" and server "yard12" with domain ".example" have one S, and so one
+-- Not promised: that requests with different domains have different S. S has no length and no separator, so it does not show where
+-- the server ID ends and the domain begins: server "yard1" with domain "2.example" and server "yard12" with domain ".example" have one S, and so one
 -- key under any VRK
-abbrev pub VmskSeam : Type 0
-VmskSeam =
+abbrev pub VmskNotInjective : Type 0
+VmskNotInjective =
     (vrk : List ℕ)
     → (vmskText (ascii "yard1") (ascii "2.example") ≡ vmskText (ascii "yard12") (ascii ".example"))
     × (vmskKey vrk (ascii "yard1") (ascii "2.example") ≡ vmskKey vrk (ascii "yard12") (ascii ".example"))

@@ -4,7 +4,7 @@ ghost use mathlib.Core.Path.{_≡_};
 ghost use lib.ListN.{length};
 ghost use Rattle.refusal.specs.Checks.{_andThen_, check1};
 ghost use Rattle.refusal.specs.Answers.{checkedAs, answerOf};
-ghost use Rattle.labels.specs.IdentifiersChecks.{check7, check8};
+ghost use Rattle.labels.specs.Checks.{check7, check8};
 ghost use Rattle.requests.specs.Requests.{forVrk, requestAnswer, requestBuffer};
 ghost use Rattle.visited.specs.Visited.{vmskAnswer, vmskBuffer, reauthAnswer, reauthBuffer};
 use refusal::Answered;

@@ -1,11 +1,9 @@
--- `domain_keys::domain_reauth_key` meets its contract: its tests are one chain, and its text is the label, a zero byte and the length.
+-- Its tests are one chain, and its text is the label, a zero byte and the length.
 use mathlib.Core.Path.{refl}
 use borrow.Author.Needs.{needs}
 use denote.Ref.{now}
-use lib.ListN.{length}
-use Rattle.refusal.proofs.Answering.{answer-by, buffer-by}
 use Rattle.labels.specs.FixedLabels.{rrkLabel}
-use Rattle.requests.proofs.Rooms.{then-room}
+use Rattle.requests.proofs.Rooms.{key-of-64}
 use Rattle.domain_keys.specs.Rfc5296.{rrkText, rrkCheck, rrkKey, rrkAnswer, rrkBuffer}
 use Rattle.domain_keys.proofs.domain_reauth_key.Statement.{statement}
 use Rattle.domain_keys.proofs.domain_reauth_key.Tie as tie
@@ -16,8 +14,7 @@ returns c =
     let e = c .before .before in
     let k = e .before .before .before .before .before .before .before in
     let s = k .before .before .before .args in
-    let tests = then-room (length (now (s .out))) (k .unless .ensures) in
-    (answer-by 64 tests (e .expand .ensures .0), buffer-by 64 (rrkKey (now (s .dsrk))) (now (s .out)) tests (e .expand .ensures .1))
+    key-of-64 (rrkKey (now (s .dsrk))) (now (s .out)) (k .unless .ensures) (e .expand .ensures)
 
 pub domain-reauth-key-spec : {M : Type 1} → statement M
 domain-reauth-key-spec =

@@ -1,13 +1,12 @@
--- `domain_keys::domain_root_key` meets its contract: its tests and its text are those of the request for a domain.
+-- Its tests and its text are those of the request for a domain.
 use mathlib.Core.Path.{refl}
 use borrow.Author.Needs.{needs}
 use denote.Ref.{now}
 use lib.ListN.{length}
-use Rattle.refusal.proofs.Answering.{answer-by, buffer-by}
 use Rattle.labels.specs.FixedLabels.{dsrkLabel}
 use Rattle.requests.specs.Rfc5295.{usageText}
 use Rattle.requests.specs.Requests.{Request, forDomain, checkOf, textOf, keyOf, requestAnswer, requestBuffer}
-use Rattle.requests.proofs.Rooms.{then-room}
+use Rattle.requests.proofs.Rooms.{key-of-64}
 use Rattle.domain_keys.proofs.domain_root_key.Statement.{statement}
 use Rattle.domain_keys.proofs.domain_root_key.Tie as tie
 
@@ -18,8 +17,7 @@ returns c =
     let k = e .before .before .before .before .before .before in
     let s = k .before .before .before .before .args in
     let r : Request = forDomain (now (s .domain)) (length (now (s .out))) in
-    let tests = then-room (length (now (s .out))) (k .check-inputs .ensures) in
-    (answer-by 64 tests (e .expand .ensures .0), buffer-by 64 (keyOf (now (s .emsk)) r) (now (s .out)) tests (e .expand .ensures .1))
+    key-of-64 (keyOf (now (s .emsk)) r) (now (s .out)) (k .check-inputs .ensures) (e .expand .ensures)
 
 pub domain-root-key-spec : {M : Type 1} → statement M
 domain-root-key-spec =

@@ -1,14 +1,15 @@
 -- Laws of a text's form: a scan is clean exactly when every byte passes, and what code that tests the length before it scans finds.
-use Prim.Native.Nat.{ℕ, suc}
+use Prim.Native.Nat.{ℕ, suc, _≤_}
 use mathlib.Core.Path.{_≡_, refl}
 use mathlib.Core.Bool.{Bool, true, false, cond, _&&_}
 use mathlib.Core.List.{List, [], _∷_}
 use lib.ListN.{length}
 use Rattle.refusal.specs.Checks.{within}
+use Rattle.refusal.proofs.Passing.{within-low}
 use Rattle.labels.specs.Bytes.{every, scanFrom, firstBad}
 use Rattle.labels.specs.declared.charset.Scan.{Scan}
 use Rattle.labels.specs.declared.charset.Scan.the-variants.{BadAt}
-use Rattle.labels.specs.Forms.{scanForm, formOf, isWellFormed}
+use Rattle.labels.specs.Internal.{scanForm, formOf, isWellFormed}
 use Rattle.labels.specs.declared.charset.Form.the-variants.{WellFormed, WrongLength}
 
 pub scan-every : (p : ℕ → Bool) (i : ℕ) (s : List ℕ) → isWellFormed (scanForm (scanFrom p i s)) ≡ every p s
@@ -38,10 +39,10 @@ pub scanned-form : (p : ℕ → Bool) (longest : ℕ) (s : List ℕ) {f : Scan} 
 unfolding formOf
 scanned-form p longest s h e = rw (h, e)
 
--- a well-formed text has a length in range
-pub form-length : (p : ℕ → Bool) (longest : ℕ) (s : List ℕ) → WellFormed ≡ formOf p longest s → within 1 longest (length s) ≡ true
+-- a well-formed text has a byte
+pub form-low : (p : ℕ → Bool) (longest : ℕ) (s : List ℕ) → WellFormed ≡ formOf p longest s → 1 ≤ length s
 unfolding formOf
-form-length p longest s e = go (within 1 longest (length s)) (firstBad p s) e
+form-low p longest s e = within-low _ _ _ (go (within 1 longest (length s)) (firstBad p s) e)
   where
     go : (t : Bool) (f : Scan) → WellFormed ≡ cond t (scanForm f) WrongLength → t ≡ true
     go true f e = refl

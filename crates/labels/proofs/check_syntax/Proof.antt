@@ -5,12 +5,12 @@ use Rattle.labels.proofs.check_syntax.Statement.{statement}
 use Rattle.labels.proofs.check_syntax.Tie as tie
 
 returns : tie.Need-returns
-returns c = no-breach _ (c .before .before .before .pre) (c .before .is-breach .ensures) (not-true _ (c .if1 .taken))
+returns c = no-breach _ (c .before .is-breach .ensures) (not-true _ (c .if1 .taken))
 
 returns-2 : tie.Need-returns-2
 returns-2 c =
     let b = c .before .before .before in
-    on-breach _ (b .before .before .pre) (b .is-breach .ensures) (not-false _ (c .before .before .if1 .left)) (c .before .is-exempt .ensures) (c .unless .ensures)
+    on-breach _ (b .is-breach .ensures) (not-false _ (c .before .before .if1 .left)) (c .before .is-exempt .ensures) (c .unless .ensures)
 
 pub check-syntax-spec : {M : Type 1} → statement M
-check-syntax-spec = tie.close (tie.spec (λ c κs. tt) returns (λ c κs. tt) (λ c κs. tt) returns-2)
+check-syntax-spec = tie.close (tie.spec (λ c κs. search needs) returns (λ c κs. tt) (λ c κs. tt) returns-2)

@@ -1,30 +1,17 @@
 -- The test of a label's syntax finds exactly the breaches of request 7: how often a byte stands in a text, and where.
-use Prim.Native.Nat.{ℕ, zero, suc, _+_, _-_, _≤_, _<_}
-use mathlib.Core.Path.{_≡_, refl, sym, _∙_}
-use mathlib.Core.Bool.{Bool, true, false, cond, _&&_, _||_}
-use mathlib.Core.Logic.{_↔_}
+use Prim.Native.Nat.{ℕ, zero, suc, _-_, _≤_}
+use mathlib.Core.Path.{_≡_, refl}
+use mathlib.Core.Bool.{Bool, true, false, _&&_, _||_}
 use mathlib.Core.List.{List, [], _∷_}
-use borrow.Author.Tests.{leb-true, le-leb, eqb-true, eqb-false, eq-eqb, ne-eqb}
+use borrow.Author.Tests.{leb-true, le-leb, eqb-true, eqb-false, eq-eqb}
 use native.Mathlib.Nat.{not-suc-le-zero}
 use native.Mathlib.Omega.{arith}
 use lib.Dec.{leb, eqb}
 use lib.ListN.{length, getD}
-use Rattle.slices.proofs.Truth.{and-left, and-right}
+use Rattle.slices.proofs.Truth.{and-left, and-right, or-true}
 use Rattle.labels.specs.Syntax.{count, hasSpace, hasComma, longWithoutAt, secondAt, atFirst, atLast, breaches}
-use Rattle.labels.specs.SyntaxStatements.{Has, Twice, Breach, space, comma, long-without-at, second-at, at-first, at-last, BreachesExactly}
-
--- a byte in front, and one that is not
-count-hit : (b x : ℕ) (s : List ℕ) → x ≡ b → count b (x ∷ s) ≡ suc (count b s)
-unfolding count
-count-hit b x s e = rw (eq-eqb x b e)
-
-count-miss : (b x : ℕ) (s : List ℕ) → (x ≡ b → ⊥) → count b (x ∷ s) ≡ count b s
-unfolding count
-count-miss b x s e = rw (ne-eqb x b e)
-
-count-none : (b : ℕ) → count b [] ≡ 0
-unfolding count
-count-none b = refl
+use Rattle.labels.specs.Statements.{Has, Twice, Breach, space, comma, long-without-at, second-at, at-first, at-last, BreachesExactly}
+use Rattle.labels.proofs.syntax.Counts.{count-hit, count-miss, count-none}
 
 -- a byte is the first of a text, or it is not
 by-first : {A : Type 0} (b x : ℕ) → (x ≡ b → A) → ((x ≡ b → ⊥) → A) → A
@@ -69,10 +56,6 @@ twice b (x ∷ s) h =
 or-left : (p q : Bool) → p ≡ true → (p || q) ≡ true
 or-left p q e = rw e
 
-or-right : (p q : Bool) → q ≡ true → (p || q) ≡ true
-or-right true q e = refl
-or-right false q e = e
-
 split-or : {A : Type 0} (p q : Bool) → (p || q) ≡ true → (p ≡ true → A) → (q ≡ true → A) → A
 split-or true q e f g = f refl
 split-or false q e f g = g e
@@ -83,18 +66,18 @@ both p q e f = rw (e, f)
 found : (label : List ℕ) → Breach label → breaches label ≡ true
 unfolding breaches
 found label (space h) = or-left _ _ (or-left _ _ (or-left _ _ (or-left _ _ (or-left _ _ (le-leb 1 (count 32 label) (counted 32 label h))))))
-found label (comma h) = or-left _ _ (or-left _ _ (or-left _ _ (or-left _ _ (or-right (hasSpace label) _ (le-leb 1 (count 44 label) (counted 44 label h))))))
+found label (comma h) = or-left _ _ (or-left _ _ (or-left _ _ (or-left _ _ (or-true (hasSpace label) _ (le-leb 1 (count 44 label) (counted 44 label h))))))
 found label (long-without-at l n) =
     let none : count 64 label ≡ 0 = zero-of (count 64 label) (λ h. n (has 64 label h)) in
-    or-left _ _ (or-left _ _ (or-left _ _ (or-right (hasSpace label || hasComma label) _ (both _ _ (le-leb 65 (length label) l) (eq-eqb (count 64 label) 0 none)))))
+    or-left _ _ (or-left _ _ (or-left _ _ (or-true (hasSpace label || hasComma label) _ (both _ _ (le-leb 65 (length label) l) (eq-eqb (count 64 label) 0 none)))))
   where
     zero-of : (c : ℕ) → (1 ≤ c → ⊥) → c ≡ 0
     zero-of zero f = refl
     zero-of (suc c) f = absurd (f (omega arith))
-found label (second-at h) = or-left _ _ (or-left _ _ (or-right (hasSpace label || hasComma label || longWithoutAt label) _ (le-leb 2 (count 64 label) (counted-twice 64 label h))))
-found label (at-first e) = or-left _ _ (or-right (hasSpace label || hasComma label || longWithoutAt label || secondAt label) _ (eq-eqb (getD label 0 0) 64 e))
+found label (second-at h) = or-left _ _ (or-left _ _ (or-true (hasSpace label || hasComma label || longWithoutAt label) _ (le-leb 2 (count 64 label) (counted-twice 64 label h))))
+found label (at-first e) = or-left _ _ (or-true (hasSpace label || hasComma label || longWithoutAt label || secondAt label) _ (eq-eqb (getD label 0 0) 64 e))
 found label (at-last e) =
-    or-right (hasSpace label || hasComma label || longWithoutAt label || secondAt label || atFirst label) _ (eq-eqb (getD label (length label - 1) 0) 64 e)
+    or-true (hasSpace label || hasComma label || longWithoutAt label || secondAt label || atFirst label) _ (eq-eqb (getD label (length label - 1) 0) 64 e)
 
 a-breach : (label : List ℕ) → breaches label ≡ true → Breach label
 unfolding breaches

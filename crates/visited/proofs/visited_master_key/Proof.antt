@@ -1,23 +1,21 @@
--- `visited::visited_master_key` meets its contract: its tests are one chain, and the parts after the domain are empty.
+-- Its tests are one chain, and the parts after the domain are empty.
 use mathlib.Core.Path.{refl}
+use mathlib.Core.List.{append-nil}
 use borrow.Author.Needs.{needs}
 use denote.Ref.{now}
-use lib.ListN.{length}
-use Rattle.refusal.proofs.Answering.{answer-by}
-use Rattle.visited.specs.Visited.{vmskCheck, vmskAnswer, vmskBuffer}
-use Rattle.requests.proofs.Rooms.{then-room}
-use Rattle.visited.proofs.Tests.{master-buffer}
+use Rattle.visited.specs.Visited.{vmskText, vmskCheck, vmskKey, vmskAnswer, vmskBuffer}
+use Rattle.requests.proofs.Rooms.{key-of-64}
 use Rattle.visited.proofs.visited_master_key.Statement.{statement}
 use Rattle.visited.proofs.visited_master_key.Tie as tie
 
 returns : tie.Need-returns
-unfolding vmskCheck vmskAnswer vmskBuffer
+unfolding vmskCheck vmskAnswer vmskBuffer vmskKey vmskText
 returns c =
     let e = c .before .before in
     let k = e .before .before .before .before in
     let s = k .before .before .before .before .before .args in
-    let tests = then-room (length (now (s .out))) (k .check-visited .ensures) in
-    (answer-by 64 tests (e .expand .ensures .0), master-buffer (now (s .vrk)) (now (s .server)) (now (s .domain)) (now (s .out)) tests (e .expand .ensures .1))
+    let key = vmskKey (now (s .vrk)) (now (s .server)) (now (s .domain)) in
+    key-of-64 key (now (s .out)) (k .check-visited .ensures) (rw append-nil at (e .expand .ensures))
 
 pub visited-master-key-spec : {M : Type 1} → statement M
 visited-master-key-spec =

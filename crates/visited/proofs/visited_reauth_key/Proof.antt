@@ -1,12 +1,10 @@
--- `visited::visited_reauth_key` meets its contract: its tests are one chain, and the parts after the label are empty.
+-- Its tests are one chain, and the parts after the label are empty.
 use mathlib.Core.Path.{refl}
 use borrow.Author.Needs.{needs}
 use denote.Ref.{now}
-use lib.ListN.{length}
-use Rattle.refusal.proofs.Answering.{answer-by, buffer-by}
 use Rattle.labels.specs.FixedLabels.{visitedReauthLabel}
 use Rattle.visited.specs.Visited.{reauthText, reauthCheck, reauthKey, reauthAnswer, reauthBuffer}
-use Rattle.requests.proofs.Rooms.{then-room}
+use Rattle.requests.proofs.Rooms.{key-of-64}
 use Rattle.visited.proofs.visited_reauth_key.Statement.{statement}
 use Rattle.visited.proofs.visited_reauth_key.Tie as tie
 
@@ -16,8 +14,7 @@ returns c =
     let e = c .before .before in
     let k = e .before .before .before .before .before .before .before in
     let s = k .before .before .before .args in
-    let tests = then-room (length (now (s .out))) (k .check-root-key .ensures) in
-    (answer-by 64 tests (e .expand .ensures .0), buffer-by 64 (reauthKey (now (s .vmsk))) (now (s .out)) tests (e .expand .ensures .1))
+    key-of-64 (reauthKey (now (s .vmsk))) (now (s .out)) (k .check-root-key .ensures) (e .expand .ensures)
 
 pub visited-reauth-key-spec : {M : Type 1} → statement M
 visited-reauth-key-spec =

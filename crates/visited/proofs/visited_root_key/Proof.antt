@@ -1,13 +1,12 @@
--- `visited::visited_root_key` meets its contract: its tests and its text are those of the request for a VRK.
+-- Its tests and its text are those of the request for a VRK.
 use mathlib.Core.Path.{refl}
 use borrow.Author.Needs.{needs}
 use denote.Ref.{now}
 use lib.ListN.{length}
-use Rattle.refusal.proofs.Answering.{answer-by, buffer-by}
 use Rattle.labels.specs.FixedLabels.{vrkLabel}
 use Rattle.requests.specs.Rfc5295.{usageText}
 use Rattle.requests.specs.Requests.{Request, forVrk, checkOf, textOf, keyOf, requestAnswer, requestBuffer}
-use Rattle.requests.proofs.Rooms.{then-room}
+use Rattle.requests.proofs.Rooms.{key-of-64}
 use Rattle.visited.proofs.visited_root_key.Statement.{statement}
 use Rattle.visited.proofs.visited_root_key.Tie as tie
 
@@ -18,8 +17,7 @@ returns c =
     let k = e .before .before .before .before .before .before .before in
     let s = k .before .before .before .args in
     let r : Request = forVrk (length (now (s .out))) in
-    let tests = then-room (length (now (s .out))) (k .check-root-key .ensures) in
-    (answer-by 64 tests (e .expand .ensures .0), buffer-by 64 (keyOf (now (s .emsk)) r) (now (s .out)) tests (e .expand .ensures .1))
+    key-of-64 (keyOf (now (s .emsk)) r) (now (s .out)) (k .check-root-key .ensures) (e .expand .ensures)
 
 pub visited-root-key-spec : {M : Type 1} → statement M
 visited-root-key-spec =

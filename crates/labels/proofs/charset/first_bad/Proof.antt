@@ -1,4 +1,4 @@
--- `labels::charset::first_bad` meets its contract: the loop's invariant is that no byte before i fails the test, and the laws of a scan take each turn.
+-- The loop's invariant is that no byte before i fails the test, and the laws of a scan take each turn.
 use Prim.Native.Nat.{_-_, _≤_}
 use mathlib.Core.Path.{refl, sym, _∙_}
 use borrow.Author.Needs.{needs}
@@ -6,7 +6,7 @@ use borrow.Author.Tests.{not-true, not-false}
 use native.Mathlib.Omega.{arith}
 use lib.ListN.{length}
 use denote.Ref.{now}
-use Rattle.labels.specs.Bytes.{byteIn}
+use Rattle.labels.specs.Internal.{byteIn}
 use Rattle.labels.proofs.charset.Scans.{Scanned, scan-hit, scan-miss, scan-done}
 use Rattle.labels.proofs.charset.first_bad.Statement.{statement}
 use Rattle.labels.proofs.charset.first_bad.Tie as tie

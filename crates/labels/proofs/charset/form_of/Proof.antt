@@ -4,7 +4,7 @@ use lib.ListN.{length}
 use Rattle.refusal.specs.Checks.{within}
 use borrow.Author.Needs.{needs}
 use borrow.Author.Tests.{not-true, not-false}
-use Rattle.labels.specs.Forms.{scanForm}
+use Rattle.labels.specs.Internal.{scanForm}
 use Rattle.labels.proofs.charset.Forms.{wrong-length, scanned-form}
 use Rattle.labels.proofs.charset.form_of.Statement.{statement}
 use Rattle.labels.proofs.charset.form_of.Tie as tie

@@ -1,6 +1,6 @@
 use mathlib.Core.Path.{refl}
 use Rattle.labels.specs.FixedLabels.{dsrkLabel}
-use Rattle.labels.specs.FixedChecks.{check31}
+use Rattle.labels.specs.Checks.{check31}
 use Rattle.labels.proofs.fixed.check_domain_label.Statement.{statement}
 use Rattle.labels.proofs.fixed.check_domain_label.Tie as tie
 

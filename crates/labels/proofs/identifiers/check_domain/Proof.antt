@@ -1,5 +1,5 @@
 use mathlib.Core.Path.{refl}
-use Rattle.labels.specs.IdentifiersChecks.{check8}
+use Rattle.labels.specs.Checks.{check8}
 use Rattle.labels.proofs.charset.Forms.{well-formed}
 use Rattle.labels.proofs.identifiers.check_domain.Statement.{statement}
 use Rattle.labels.proofs.identifiers.check_domain.Tie as tie

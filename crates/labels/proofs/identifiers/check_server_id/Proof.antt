@@ -1,5 +1,5 @@
 use mathlib.Core.Path.{refl}
-use Rattle.labels.specs.IdentifiersChecks.{check7}
+use Rattle.labels.specs.Checks.{check7}
 use Rattle.labels.proofs.charset.Forms.{well-formed}
 use Rattle.labels.proofs.identifiers.check_server_id.Statement.{statement}
 use Rattle.labels.proofs.identifiers.check_server_id.Tie as tie
