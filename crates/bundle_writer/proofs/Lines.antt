@@ -10,7 +10,8 @@ use Rattle.refusal.specs.Checks.{pass}
 use Rattle.slices.specs.Numbers.{be16}
 use Rattle.bundle_rules.specs.Bundle.{contentsEnd, keyIdIn, lineOf, linesOf, packed, framesCheck}
 use Rattle.bundle_rules.proofs.Written.{id-size}
-use Rattle.bundle_writer.proofs.packing.Walking.{Step, first-sized, later-pass, none-left}
+use Rattle.radius_attributes.proofs.Walking.{Step, none-left}
+use Rattle.bundle_writer.proofs.packing.Walking.{first-sized, later-pass}
 
 pub record Lined (a : List ℕ) (n : ℕ) (out₀ out : List ℕ) (at place : ℕ) : Type 0 where
   pub inside : at ≤ length a

@@ -3,17 +3,13 @@ use Prim.Native.Nat.{ℕ, suc}
 use mathlib.Core.Bool.{true, false, cond}
 use mathlib.Core.List.{List, [], _∷_}
 use lib.Dec.{eqb}
-use lib.ListN.{length, getD}
+use lib.ListN.{length}
 use Rattle.refusal.specs.Checks.{Reason, Check, pass, refuse}
 use Rattle.refusal.specs.Answers.{reasonOf}
-use Rattle.packet_rules.specs.Packet.{Met, attribute, cut, inBounds, attributes, allWhole, places, macAt}
+use Rattle.packet_rules.specs.Packet.{Met, attribute, cut, attributes, allWhole, places, macAt}
 use Rattle.packet_mac.specs.declared.attributes.Found.{Found}
 use Rattle.packet_mac.specs.declared.attributes.Place.{Place}
 use Rattle.packet_mac.specs.declared.attributes.Place.the-variants.{At, Refused}
-
--- the length of the attribute at the start of the bytes; 0 where it is shorter than 2 or past their end
-unfoldable pub sizeIn : List ℕ → ℕ
-sizeIn bytes = cond (inBounds bytes) (getD bytes 1 0) 0
 
 -- what the walk finds of a type in a packet
 unfoldable pub foundIn : ℕ → List ℕ → Found

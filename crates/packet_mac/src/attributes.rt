@@ -10,7 +10,8 @@ ghost use Rattle.refusal.specs.Checks;
 ghost use Rattle.refusal.specs.Checks.{bare, _andThen_, check20};
 ghost use Rattle.packet_rules.specs.Packet.{lengthHolds, check35, isMac, macAt};
 ghost use Rattle.packet_rules.specs.Mac.{packetCheck};
-ghost use Rattle.packet_mac.specs.Steps.{sizeIn, foundIn, placeAs, placeTo};
+ghost use Rattle.packet_mac.specs.Steps.{foundIn, placeAs, placeTo};
+use radius_attributes::size_in;
 use refusal::Checked;
 use refusal::Refusal;
 
@@ -25,21 +26,6 @@ struct Found {
 pub enum Place {
     At(usize),
     Refused(Refusal),
-}
-
-// The length of the attribute at the start of `bytes`; 0 where it is shorter than 2 or past their end.
-fn size_in(bytes: &[u8]) -> usize
-    ensures { λ r. ⌜ r ≡ sizeIn (now (bytes .entry)) ⌝ }
-{
-    if bytes.len() < 2 {
-        return 0;
-    }
-    let size = bytes[1] as usize;
-    if (2 <= size) & (size <= bytes.len()) {
-        size
-    } else {
-        0
-    }
 }
 
 // The walk through the attributes, left to right: it stops at one that is cut.

@@ -8,8 +8,9 @@ use native.Mathlib.Omega.{arith}
 use lib.Dec.{eqb}
 use lib.ListN.{length, getD, take, drop}
 use lib.Seq.{ext-getD}
-use Rattle.packet_rules.specs.Packet.{attribute, cut, inBounds, attributesFrom, placesIn}
-use Rattle.packet_rules.proofs.Walking.{Agree, ends, passes, begins, agree-refl, Stands, stands, bounds-low, bounds-high}
+use Rattle.radius_attributes.specs.Attributes.{whole}
+use Rattle.packet_rules.specs.Packet.{attribute, cut, attributesFrom, placesIn}
+use Rattle.packet_rules.proofs.Walking.{Agree, ends, passes, begins, agree-refl, Stands, stands}
 
 pub data But : ℕ → ℕ → List ℕ → List ℕ → Type 0 where
   same : {s : List ℕ} → But zero zero s s
@@ -57,7 +58,7 @@ within-one type (suc left) at {m} l (equals {d = d} {x = x} {s = s} r) k e b =
     let i : suc m - at ≡ suc (suc m - suc at) = omega arith in
     passes (within-one type left (suc at) l r (omega arith) e (rw i at b))
 within-one type zero at {m} {later = later} l (equals {d = d} {x = x} {s = s} {t = t} r) k e b =
-    go (inBounds (x ∷ s)) refl (λ f g h. within-one type (getD s 0 0 - 1) (suc at) l r f g h) e
+    go (whole (x ∷ s)) refl (λ f g h. within-one type (getD s 0 0 - 1) (suc at) l r f g h) e
   where
     typed : (q : Bool)
         → (suc at + d ≡ m + 20 → placesIn type (attributesFrom (getD s 0 0 - 1) (suc at) s) ≡ m ∷ later → getD s (suc m - suc at) 0 ≡ 52 → Agree (getD s 0 0 - 1) s t)
@@ -73,7 +74,7 @@ within-one type zero at {m} {later = later} l (equals {d = d} {x = x} {s = s} {t
         let i : suc m - at ≡ suc (suc m - suc at) = omega arith in
         begins (first (omega arith) r) (ih (omega arith) e (rw i at b))
 
-    go : (w : Bool) → inBounds (x ∷ s) ≡ w
+    go : (w : Bool) → whole (x ∷ s) ≡ w
         → (suc at + d ≡ m + 20 → placesIn type (attributesFrom (getD s 0 0 - 1) (suc at) s) ≡ m ∷ later → getD s (suc m - suc at) 0 ≡ 52 → Agree (getD s 0 0 - 1) s t)
         → placesIn type (cond w (attribute x at ∷ attributesFrom (getD s 0 0 - 1) (suc at) s) (cut ∷ [])) ≡ m ∷ later → Agree zero (x ∷ s) (x ∷ t)
     go true h ih e = typed (eqb x type) ih e

@@ -4,11 +4,11 @@ use mathlib.Core.Path.{_≡_, refl, ap, _∙_}
 use mathlib.Core.Bool.{Bool, true, false, cond, _&&_}
 use mathlib.Core.List.{List, [], _∷_}
 use native.Mathlib.Omega.{arith}
-use borrow.Author.Tests.{leb-true}
 use lib.Dec.{leb, eqb}
 use lib.ListN.{length, getD}
-use Rattle.slices.proofs.Truth.{and-left, and-right}
-use Rattle.packet_rules.specs.Packet.{Met, attribute, cut, inBounds, attributesFrom, placesIn}
+use Rattle.radius_attributes.specs.Attributes.{whole}
+use Rattle.radius_attributes.proofs.Lengths.{whole-low, whole-high}
+use Rattle.packet_rules.specs.Packet.{Met, attribute, cut, attributesFrom, placesIn}
 
 -- two byte strings of one length that agree in the type and length bytes where attributes begin, `left` bytes being passed first
 pub data Agree : ℕ → List ℕ → List ℕ → Type 0 where
@@ -31,7 +31,7 @@ met : (x at size rest : ℕ) → List Met → List Met
 met x at size rest later = cond (leb 2 size && leb size (suc rest)) (attribute x at ∷ later) (cut ∷ [])
 
 pub same-walk : {left : ℕ} {s t : List ℕ} (at : ℕ) → Agree left s t → attributesFrom left at s ≡ attributesFrom left at t
-unfolding attributesFrom inBounds met
+unfolding attributesFrom whole met
 same-walk at ends = refl
 same-walk at (passes r) = same-walk (suc at) r
 same-walk at (begins {x = x} {t = t} e r) =
@@ -54,36 +54,27 @@ earlier x s {left} {left₁} {at} {m} h r =
     let i : m + getD s (suc m - suc at) 0 ≤ suc at + length s = r .inside in
     record { ahead = omega arith; long = rw e l; inside = rw e (omega arith) }
 
--- what an attribute in bounds has
-pub bounds-low : (s : List ℕ) → inBounds s ≡ true → 2 ≤ getD s 1 0
-unfolding inBounds
-bounds-low s h = leb-true _ _ (and-left _ _ h)
-
-pub bounds-high : (s : List ℕ) → inBounds s ≡ true → getD s 1 0 ≤ length s
-unfolding inBounds
-bounds-high s h = leb-true _ _ (and-right (leb 2 (getD s 1 0)) _ h)
-
-here : (x : ℕ) (s : List ℕ) (at : ℕ) → inBounds (x ∷ s) ≡ true → Stands (x ∷ s) zero at at
+here : (x : ℕ) (s : List ℕ) (at : ℕ) → whole (x ∷ s) ≡ true → Stands (x ∷ s) zero at at
 here x s at h =
     let e : suc at - at ≡ 1 = omega arith in
-    let l : 2 ≤ getD (x ∷ s) 1 0 = bounds-low (x ∷ s) h in
-    let i : getD (x ∷ s) 1 0 ≤ suc (length s) = bounds-high (x ∷ s) h in
+    let l : 2 ≤ getD (x ∷ s) 1 0 = whole-low (x ∷ s) h in
+    let i : getD (x ∷ s) 1 0 ≤ suc (length s) = whole-high (x ∷ s) h in
     record { ahead = omega arith; long = rw e l; inside = rw e (omega arith) }
 
 pub stands : (type left at : ℕ) (s : List ℕ) {m : ℕ} {later : List ℕ} → placesIn type (attributesFrom left at s) ≡ m ∷ later → Stands s left at m
 unfolding attributesFrom placesIn
 stands type left at [] e = let o : _≡_ {A = ℕ} 0 1 = cc in let z : ⊥ = omega arith in elim z [ ]
 stands type (suc left) at (x ∷ s) e = earlier x s (omega arith) (stands type left (suc at) s e)
-stands type zero at (x ∷ s) {m} {later} e = go (inBounds (x ∷ s)) refl (λ f. stands type (getD s 0 0 - 1) (suc at) s f) e
+stands type zero at (x ∷ s) {m} {later} e = go (whole (x ∷ s)) refl (λ f. stands type (getD s 0 0 - 1) (suc at) s f) e
   where
-    typed : (t : Bool) → inBounds (x ∷ s) ≡ true
+    typed : (t : Bool) → whole (x ∷ s) ≡ true
         → (placesIn type (attributesFrom (getD s 0 0 - 1) (suc at) s) ≡ m ∷ later → Stands s (getD s 0 0 - 1) (suc at) m)
         → cond t (at ∷ placesIn type (attributesFrom (getD s 0 0 - 1) (suc at) s)) (placesIn type (attributesFrom (getD s 0 0 - 1) (suc at) s)) ≡ m ∷ later
         → Stands (x ∷ s) zero at m
     typed true h ih e = let k : at ≡ m = cc in rw (← k) (here x s at h)
     typed false h ih e = earlier x s (omega arith) (ih e)
 
-    go : (b : Bool) → inBounds (x ∷ s) ≡ b
+    go : (b : Bool) → whole (x ∷ s) ≡ b
         → (placesIn type (attributesFrom (getD s 0 0 - 1) (suc at) s) ≡ m ∷ later → Stands s (getD s 0 0 - 1) (suc at) m)
         → placesIn type (cond b (attribute x at ∷ attributesFrom (getD s 0 0 - 1) (suc at) s) (cut ∷ [])) ≡ m ∷ later → Stands (x ∷ s) zero at m
     go true h ih e = typed (eqb x type) h ih e

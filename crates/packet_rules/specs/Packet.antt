@@ -2,13 +2,14 @@
 -- document 004, section 3.3).
 -- Byte 0 code, 1 identifier, 2 length (2), 4 authenticator (16), 20 attributes: type, length in bytes with these two, value.
 -- The attribute: 0 type, 1 length 52, 2 reserved 0, 3 MAC Type 2, 4 MAC Key ID (16), 20 MAC (32).
-use Prim.Native.Nat.{ℕ, zero, suc, _+_, _-_, _*_}
+use Prim.Native.Nat.{ℕ, zero, suc, _-_}
 use mathlib.Core.Bool.{Bool, true, false, cond, _&&_}
 use mathlib.Core.List.{List, [], _∷_}
-use lib.Dec.{leb, eqb}
+use lib.Dec.{eqb}
 use lib.ListN.{length, drop, getD}
 use Rattle.slices.specs.Numbers.{be16At}
 use Rattle.refusal.specs.Checks.{Check, bare, unless, within}
+use Rattle.radius_attributes.specs.Attributes.{whole}
 
 -- the length that the header gives
 abbrev pub headerLength : List ℕ → ℕ
@@ -27,17 +28,13 @@ pub data Met : Type 0 where
   attribute : (type at : ℕ) → Met
   cut : Met
 
--- of the bytes from an attribute's first to the packet's end: it has a length byte, of 2 or more, and ends within them
-unfoldable pub inBounds : List ℕ → Bool
-inBounds bytes = leb 2 (getD bytes 1 0) && leb (getD bytes 1 0) (length bytes)
-
 -- The attributes that stand in the bytes from an offset on, left to right. `left` counts the bytes of an attribute that are still to be
 -- passed; where none is left, the next attribute begins. Nothing follows one that is cut.
 unfoldable pub attributesFrom : (left at : ℕ) → List ℕ → List Met
 attributesFrom left at [] = []
 attributesFrom (suc left) at (x ∷ rest) = attributesFrom left (suc at) rest
 attributesFrom zero at (x ∷ rest) =
-    cond (inBounds (x ∷ rest))
+    cond (whole (x ∷ rest))
     (attribute x at ∷ attributesFrom (getD rest 0 0 - 1) (suc at) rest)
     (cut ∷ [])
 

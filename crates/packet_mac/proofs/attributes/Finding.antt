@@ -10,10 +10,12 @@ use borrow.Author.Tests.{eq-eqb, ne-eqb}
 use lib.Dec.{eqb, eqb·suc-zero}
 use lib.ListN.{length, getD, drop, length-drop, drop-of-length-le}
 use lib.Seq.{drop-drop, getD-drop}
-use Rattle.packet_rules.specs.Packet.{Met, attribute, cut, inBounds, attributesFrom, attributes, allWhole, placesIn, places, macAt}
-use Rattle.packet_mac.specs.Steps.{sizeIn, foundIn, foundOn}
+use Rattle.radius_attributes.specs.Attributes.{whole, sizeIn}
+use Rattle.radius_attributes.proofs.Lengths.{whole-low, whole-high}
+use Rattle.packet_rules.specs.Packet.{Met, attribute, cut, attributesFrom, attributes, allWhole, placesIn, places, macAt}
+use Rattle.packet_mac.specs.Steps.{foundIn, foundOn}
 use Rattle.packet_mac.specs.declared.attributes.Found.{Found}
-use Rattle.packet_rules.proofs.Walking.{bounds-low, bounds-high, Stands, stands}
+use Rattle.packet_rules.proofs.Walking.{Stands, stands}
 
 -- passing what is left of an attribute
 passed : (left at : ℕ) (bytes : List ℕ) → attributesFrom left at bytes ≡ attributesFrom 0 (at + left) (drop left bytes)
@@ -38,18 +40,18 @@ past at x rest (suc n) h =
     rw (e, ← f) (passed n (suc at) rest)
 
 no-bytes : sizeIn [] ≡ 0
-unfolding sizeIn inBounds
+unfolding sizeIn whole
 no-bytes = refl
 
 onward : (at : ℕ) (bytes : List ℕ) (n : ℕ) → sizeIn bytes ≡ n → (n ≡ 0 → ⊥) → Onward at bytes n
 unfolding sizeIn attributesFrom
 onward at [] n e z = elim (z (sym e ∙ no-bytes)) [ ]
-onward at (x ∷ rest) n e z = go (inBounds (x ∷ rest)) refl e
+onward at (x ∷ rest) n e z = go (whole (x ∷ rest)) refl e
   where
-    go : (b : Bool) → inBounds (x ∷ rest) ≡ b → cond b (getD rest 0 0) 0 ≡ n → Onward at (x ∷ rest) n
+    go : (b : Bool) → whole (x ∷ rest) ≡ b → cond b (getD rest 0 0) 0 ≡ n → Onward at (x ∷ rest) n
     go true h e =
-        let l : 2 ≤ getD rest 0 0 = bounds-low (x ∷ rest) h in
-        let u : getD rest 0 0 ≤ suc (length rest) = bounds-high (x ∷ rest) h in
+        let l : 2 ≤ getD rest 0 0 = whole-low (x ∷ rest) h in
+        let u : getD rest 0 0 ≤ suc (length rest) = whole-high (x ∷ rest) h in
         record { low = omega arith; high = omega arith; next = rw (h, ← e) (ap (λ (l : List Met). attribute x at ∷ l) (past at x rest (getD rest 0 0) (omega arith))) }
     go false h e = elim (z (sym e)) [ ]
 
@@ -57,11 +59,11 @@ onward at (x ∷ rest) n e z = go (inBounds (x ∷ rest)) refl e
 stopped : (at : ℕ) (bytes : List ℕ) → 1 ≤ length bytes → sizeIn bytes ≡ 0 → attributesFrom 0 at bytes ≡ cut ∷ []
 unfolding sizeIn attributesFrom
 stopped at [] h e = let z : ⊥ = omega arith in elim z [ ]
-stopped at (x ∷ rest) h e = go (inBounds (x ∷ rest)) refl e
+stopped at (x ∷ rest) h e = go (whole (x ∷ rest)) refl e
   where
-    go : (b : Bool) → inBounds (x ∷ rest) ≡ b → cond b (getD rest 0 0) 0 ≡ 0 → attributesFrom 0 at (x ∷ rest) ≡ cut ∷ []
+    go : (b : Bool) → whole (x ∷ rest) ≡ b → cond b (getD rest 0 0) 0 ≡ 0 → attributesFrom 0 at (x ∷ rest) ≡ cut ∷ []
     go true k e =
-        let l : 2 ≤ getD rest 0 0 = bounds-low (x ∷ rest) k in
+        let l : 2 ≤ getD rest 0 0 = whole-low (x ∷ rest) k in
         let z : ⊥ = omega arith in
         elim z [ ]
     go false k e = rw k
