@@ -54,6 +54,10 @@ pub length-whole : (bytes : List ℕ) → whole bytes ≡ true → sizeIn bytes 
 unfolding sizeIn attributeLength
 length-whole bytes h = rw h
 
+pub length-byte : (bytes : List ℕ) → whole bytes ≡ true → attributeLength bytes ≡ getD bytes 1 0
+unfolding attributeLength
+length-byte bytes h = rw h
+
 pub length-cut : (bytes : List ℕ) → whole bytes ≡ false → length bytes ≡ attributeLength bytes
 unfolding attributeLength
 length-cut bytes h = rw h
