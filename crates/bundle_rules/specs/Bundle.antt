@@ -92,7 +92,7 @@ pub record Line : Type 0 where
 
 -- line i of a file, counted from 0, and n lines from line i on
 unfoldable pub lineAt : List ℕ → ℕ → Line
-lineAt f i = record { id = take 16 (drop (2 + 20 * i) f); offset = be16At f (18 + 20 * i); size = be16At f (20 + 20 * i) }
+lineAt f i = record { id = take 16 (drop (contentsEnd i) f); offset = be16At f (18 + 20 * i); size = be16At f (20 + 20 * i) }
 
 unfoldable pub linesFrom : List ℕ → ℕ → ℕ → List Line
 linesFrom f i zero = []
@@ -142,13 +142,13 @@ abbrev pub check41 : List ℕ → Check
 check41 f = unless (eqb (lastEnd (contentsEnd (countIn f)) (linesIn f)) (length f)) (bare 41)
 
 -- 50: a Key ID unlike its line
-abbrev pub check50 : Line → List ℕ → Check
-check50 l body = unless (sameList (keyIdIn body) (l .id)) (bare 50)
+abbrev pub check50 : (id body : List ℕ) → Check
+check50 id body = unless (sameList (keyIdIn body) id) (bare 50)
 
 -- body by body its own number, then 50
 unfoldable pub bodiesCheck : List ℕ → List Line → Check
 bodiesCheck f [] = pass
-bodiesCheck f (l ∷ lines) = frameCheck (bodyOf f l) andThen check50 l (bodyOf f l) andThen bodiesCheck f lines
+bodiesCheck f (l ∷ lines) = frameCheck (bodyOf f l) andThen check50 (l .id) (bodyOf f l) andThen bodiesCheck f lines
 
 -- the tests of the table of contents
 unfoldable pub contentsCheck : List ℕ → Check
