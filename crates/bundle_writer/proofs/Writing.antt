@@ -5,7 +5,7 @@ use mathlib.Core.List.{List, _++_}
 use native.Mathlib.Omega.{arith}
 use borrow.Author.Tests.{le-leb, lt-leb}
 use lib.ListN.{length, take, drop}
-use Rattle.refusal.specs.Checks.{Reason, pass, refuse, bare, unless, _andThen_}
+use Rattle.refusal.specs.Checks.{Reason, pass, refuse, bare, unless}
 use Rattle.refusal.specs.Answers.{returned, refused}
 use Rattle.refusal.proofs.Passing.{within-high, before-passed, last-passed, test-passed, first-refuses, second-decides}
 use Rattle.slices.specs.Numbers.{be16}

@@ -9,30 +9,7 @@ use Rattle.packet_rules.specs.Cases.{Cases, CheckCases}
 
 pub cases : Cases
 unfolding packetCheck unless _andThen_ within lengthHolds whole attributeLength splitFrom split attributes allWhole ofType placesFrom places macAt isMac oneMac
-cases = (
-  refl,
-  refl,
-  refl,
-  refl,
-  refl,
-  refl,
-  refl,
-  refl,
-  refl,
-  refl,
-  refl,
-  refl,
-  refl,
-  refl,
-  refl,
-  refl,
-  refl,
-  refl,
-  refl,
-  refl,
-  refl,
-  refl,
-)
+cases = (refl, refl, refl, refl, refl, refl, refl, refl, refl, refl, refl, refl, refl, refl, refl, refl, refl, refl, refl, refl, refl, refl, refl)
 
 pub check-cases : CheckCases
 unfolding checkCheck macIn macOf sameList packetCheck unless _andThen_ within lengthHolds whole attributeLength splitFrom split attributes allWhole ofType placesFrom places macAt isMac oneMac

@@ -1,16 +1,16 @@
 -- Where 37 passes, the attribute lies whole within the packet; and a packet that agrees with it outside the MAC's 32 bytes has the same
 -- attributes and passes the same tests.
-use Prim.Native.Nat.{ℕ, zero, suc, _+_, _-_, _*_, _≤_, _<_}
+use Prim.Native.Nat.{ℕ, suc, _+_, _-_, _*_, _≤_, _<_}
 use mathlib.Core.Path.{_≡_, refl, sym, ap, _∙_}
 use mathlib.Core.Logic.{_⊎_, inl, inr, ⊎-elim}
-use mathlib.Core.Bool.{Bool, true, _&&_}
+use mathlib.Core.Bool.{true, _&&_}
 use mathlib.Core.List.{List, [], _∷_}
 use native.Mathlib.Omega.{arith}
 use borrow.Author.Tests.{eqb-true}
 use lib.Dec.{eqb}
 use lib.ListN.{length, getD, drop, length-drop}
 use lib.Seq.{getD-drop}
-use Rattle.refusal.specs.Checks.{pass, bare, unless, _andThen_, within, check1, check20}
+use Rattle.refusal.specs.Checks.{pass, within}
 use Rattle.refusal.proofs.Passing.{last-passed, test-passed}
 use Rattle.slices.proofs.Truth.{and-left, and-right}
 use Rattle.radius_attributes.specs.Attributes.{split}
@@ -104,8 +104,7 @@ module _ (type : ℕ) (p q : List ℕ) (at : Placed type p) (agree : AgreeOutsid
 
   pub same-check : (key : List ℕ) → packetCheck key type p ≡ packetCheck key type q
   unfolding packetCheck
-  same-check key =
-      λ i. check1 key andThen check20 type andThen unless (same-35 i) (bare 35) andThen unless (same-36 i) (bare 36) andThen unless (same-37 i) (bare 37)
+  same-check key = rw (same-35, same-36, same-37)
 
 -- what passes 1 to 37 has the place
 pub passed-placed : (key : List ℕ) (type : ℕ) (p : List ℕ) → packetCheck key type p ≡ pass → Placed type p

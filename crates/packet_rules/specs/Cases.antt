@@ -45,6 +45,8 @@ Cases =
     × (tests (2 ∷ 7 ∷ 0 ∷ []) ≡ refuse (bare 35))
     × (tests (lengthBytes 0 73 good) ≡ refuse (bare 35))
     × (tests (lengthBytes 1 72 good) ≡ refuse (bare 35))
+    -- 35 before 36
+    × (tests (lengthBytes 0 20 (90 ∷ [])) ≡ refuse (bare 35))
     × (tests (packet (good ++ 90 ∷ [])) ≡ refuse (bare 36))
     × (tests (packet (good ++ 90 ∷ 0 ∷ [])) ≡ refuse (bare 36))
     × (tests (packet (good ++ 90 ∷ 1 ∷ [])) ≡ refuse (bare 36))

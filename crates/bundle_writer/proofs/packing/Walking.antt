@@ -2,11 +2,11 @@
 use Prim.Native.Nat.{ℕ, _+_, _-_, _≤_, _<_}
 use mathlib.Core.Path.{_≡_, refl, sym, ap, _∙_}
 use mathlib.Core.Bool.{Bool, true, false}
-use mathlib.Core.List.{List, [], _∷_, _++_, map}
+use mathlib.Core.List.{List, _++_, map}
 use native.Mathlib.Omega.{arith}
 use lib.ListN.{length, take, drop, getD, length-drop, length-take, take-append-drop}
 use lib.Seq.{drop-drop, getD-drop, getD-take, length-take-le, take-append-le, drop-append-le}
-use Rattle.refusal.specs.Checks.{Reason, Check, pass, refuse, _andThen_}
+use Rattle.refusal.specs.Checks.{Reason, Check, pass, refuse}
 use Rattle.slices.specs.Same.{sameList}
 use Rattle.refusal.proofs.Passing.{first-refuses, second-decides}
 use Rattle.key_frame.specs.KeyFrame.{fieldsIn, frameCheck}

@@ -5,7 +5,7 @@ use mathlib.Core.Bool.{_&&_}
 use mathlib.Core.List.{List}
 use lib.Dec.{eqb}
 use lib.ListN.{length, drop}
-use Rattle.refusal.specs.Checks.{Check, pass, bare, unless, _andThen_, check1, check20}
+use Rattle.refusal.specs.Checks.{Check, bare, unless, _andThen_, check1, check20}
 use Rattle.refusal.specs.Answers.{checkedAs, answerOf, answerTo}
 use Rattle.refusal.specs.declared.Refusal.{Refusal}
 use Rattle.refusal.specs.declared.Answered.the-variants.{Accepted, Refused}

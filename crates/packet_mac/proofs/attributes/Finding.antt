@@ -1,5 +1,5 @@
 -- Laws of the walk: what a step leaves to be walked, and what is found at the end.
-use Prim.Native.Nat.{ℕ, suc, _+_, _≤_, _<_}
+use Prim.Native.Nat.{ℕ, _+_, _≤_, _<_}
 use mathlib.Core.Path.{_≡_, refl, sym, ap, _∙_}
 use mathlib.Core.Bool.{Bool, true, false, cond}
 use mathlib.Core.List.{List, [], _∷_, _++_, append-assoc, append-nil}
@@ -16,7 +16,6 @@ use Rattle.radius_attributes.proofs.Walking.{Step, step-at, none-left}
 use Rattle.packet_rules.specs.Packet.{attributes, allWhole, ofType, placesFrom, places, macAt}
 use Rattle.packet_rules.proofs.Walking.{Stands, stands}
 use Rattle.packet_mac.specs.Internal.{foundIn}
-use Rattle.packet_mac.specs.declared.attributes.Found.{Found}
 
 -- the packet walked up to an offset: the places found so far, and what is left to be walked
 pub record WalkedTo (type : ℕ) (p : List ℕ) (at count first : ℕ) : Type 0 where

@@ -1,5 +1,5 @@
 -- By what the shared function says: 0 is an attribute that is cut.
-use mathlib.Core.Path.{_≡_, sym, _∙_}
+use mathlib.Core.Path.{sym, _∙_}
 use Rattle.radius_attributes.proofs.Lengths.{zero-cut, some-whole, length-cut, length-whole}
 use borrow.Author.Needs.{needs}
 use Rattle.bundle_writer.proofs.packing.body_length.Statement.{statement}
