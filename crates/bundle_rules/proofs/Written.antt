@@ -13,7 +13,28 @@ use Rattle.refusal.proofs.Passing.{test-holds, both-pass, within-holds}
 use Rattle.slices.proofs.Same.{equal-same}
 use Rattle.slices.specs.Numbers.{be16, be16At}
 use Rattle.key_frame.specs.KeyFrame.{fieldsIn}
-use Rattle.bundle_rules.specs.Bundle.{contentsEnd, keyIdIn, idRepeats, lineOf, linesOf, fileOf, framesCheck, Line, lineAt, linesFrom, countIn, linesIn, follow, lastEnd, bodyOf, idsOf, packedIn, bodiesCheck, contentsCheck, bundleCheck}
+use Rattle.bundle_rules.specs.Bundle.{
+  contentsEnd,
+  keyIdIn,
+  idRepeats,
+  lineOf,
+  linesOf,
+  fileOf,
+  framesCheck,
+  Line,
+  lineAt,
+  linesFrom,
+  countIn,
+  linesIn,
+  follow,
+  lastEnd,
+  bodyOf,
+  idsOf,
+  packedIn,
+  bodiesCheck,
+  contentsCheck,
+  bundleCheck,
+}
 use Rattle.bundle_rules.proofs.Bytes.{two-back, number-drop}
 use Rattle.bundle_rules.proofs.Packing.{Sized, sized, first-frame, later-frames}
 

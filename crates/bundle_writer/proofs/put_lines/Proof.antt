@@ -68,7 +68,9 @@ loop-again : tie.Need-loop-again Inv-loop μ-loop
 loop-again c =
     let k = c .before .before .before .before .before in
     let l = k .before .before .loop in
-    lined-on _ _ _ _ _ _ (l .at) (l .place) _ (made k) (l .inv) (contents-fit k) (id-part _ (l .at) _ (made k) (l .inv .frames)) (rw (k .before .before .before .before .before .pre .1 .0) at (c .before .before .put-line .ensures))
+    let id = id-part _ (l .at) _ (made k) (l .inv .frames) in
+    let start = k .before .before .before .before .before .pre .1 .0 in
+    lined-on _ _ _ _ _ _ (l .at) (l .place) _ _ (made k) (l .inv) (contents-fit k) id (omega arith) (c .before .before .put-line .ensures)
 
 same-length : tie.Need-same-length Inv-loop μ-loop
 same-length c = c .before .loop .inv .size
