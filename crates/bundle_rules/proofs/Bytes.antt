@@ -8,7 +8,6 @@ use lib.ListN.{length, take, drop, getD, length-drop, take-append-drop}
 use lib.Seq.{drop-drop, getD-drop}
 use Rattle.slices.specs.Bytes.{Bytes}
 use Rattle.slices.specs.Numbers.{be16, be16At}
-use Rattle.bundle_rules.specs.Bundle.{}
 
 -- two bytes hold the number, and the number gives the two bytes
 pub two-back : (n : ℕ) → n < 65536 → n / 256 % 256 * 256 + n % 256 ≡ n

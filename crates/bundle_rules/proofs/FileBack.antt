@@ -10,7 +10,7 @@ use Rattle.slices.specs.Numbers.{be16, be16At}
 use Rattle.bundle_rules.specs.Bundle.{contentsEnd, lineOf, linesOf, fileOf, lineAt, linesFrom, countIn, linesIn, bodyOf, bodiesOf}
 use Rattle.bundle_rules.specs.Statements.{FileBack}
 use Rattle.bundle_rules.proofs.Bytes.{two-at, onto}
-use Rattle.bundle_rules.proofs.Reading.{contents, Whole, Laid, next, laid, laid-concat}
+use Rattle.bundle_rules.proofs.Reading.{contents, Whole, Laid, next, laid, laid-flatten}
 
 pub length-lines : (f : List ℕ) (i n : ℕ) → length (linesFrom f i n) ≡ n
 unfolding linesFrom
@@ -47,4 +47,4 @@ file-back f b e =
     let n : 2 + 20 * (0 + countIn f) ≡ contentsEnd (countIn f) = omega arith in
     let h : 2 + 20 * (0 + countIn f) ≤ length f = omega (arith, c .inside) in
     let lines = rw n at (lines-back f (contentsEnd (countIn f)) 0 (countIn f) b h l) in
-    rw (length-bodies f, laid-concat l) (onto 0 2 2 f (be16 (countIn f)) _ refl (two-at 0 f b (c .two)) lines)
+    rw (length-bodies f, laid-flatten l) (onto 0 2 2 f (be16 (countIn f)) _ refl (two-at 0 f b (c .two)) lines)

@@ -2,14 +2,14 @@
 use Prim.Native.Nat.{ℕ, zero, suc, _≤_}
 use mathlib.Core.Path.{_≡_, refl}
 use mathlib.Core.Bool.{false}
-use mathlib.Core.List.{List, [], _∷_, map}
+use mathlib.Core.List.{List, [], _∷_, map, flatten}
 use native.Mathlib.Omega.{arith}
 use lib.ListN.{length}
 use Rattle.refusal.specs.Checks.{pass, unless, _andThen_, within}
 use Rattle.slices.specs.Same.{sameList}
 use Rattle.keywrap.specs.Calls.{wrappable}
 use Rattle.key_frame.specs.KeyFrame.{fieldsIn, lengthHolds, frameCheck}
-use Rattle.bundle_rules.specs.Bundle.{keyIdIn, concat, idStands, idRepeats, fileOf, framesCheck}
+use Rattle.bundle_rules.specs.Bundle.{keyIdIn, idStands, idRepeats, fileOf, framesCheck}
 use Rattle.bundle_rules.specs.Statements.{Largest}
 use Rattle.bundle_rules.specs.Cases.{sample}
 use Rattle.bundle_rules.proofs.Written.{file-size, file-passes}
@@ -30,8 +30,8 @@ once : idRepeats (map keyIdIn (samples 64)) ≡ false
 unfolding samples keyIdIn fieldsIn idRepeats idStands sameList
 once = refl
 
-bytes : length (concat (samples 64)) ≡ 16128
-unfolding samples concat
+bytes : length (flatten (samples 64)) ≡ 16128
+unfolding samples flatten
 bytes = refl
 
 pub largest : Largest

@@ -2,7 +2,7 @@
 use Prim.Native.Nat.{ℕ, _+_, _*_, _≤_}
 use mathlib.Core.Path.{_≡_, refl, sym}
 use mathlib.Core.Bool.{true, false, _&&_}
-use mathlib.Core.List.{List, [], _∷_, map}
+use mathlib.Core.List.{List, [], _∷_, map, flatten}
 use native.Mathlib.Omega.{arith}
 use borrow.Author.Tests.{leb-true, eqb-true, not-true}
 use lib.Dec.{leb, eqb}
@@ -13,7 +13,7 @@ use Rattle.slices.proofs.Truth.{and-left, and-right}
 use Rattle.refusal.proofs.Passing.{within-low, within-high, before-passed, last-passed, test-passed, both-pass}
 use Rattle.slices.proofs.Same.{same-equal}
 use Rattle.key_frame.specs.KeyFrame.{frameCheck}
-use Rattle.bundle_rules.specs.Bundle.{contentsEnd, keyIdIn, concat, idRepeats, framesCheck, Line, countIn, linesIn, follow, lastEnd, bodyOf, idsOf, bodiesCheck, contentsCheck, bundleCheck}
+use Rattle.bundle_rules.specs.Bundle.{contentsEnd, keyIdIn, idRepeats, framesCheck, Line, countIn, linesIn, follow, lastEnd, bodyOf, idsOf, bodiesCheck, contentsCheck, bundleCheck}
 use Rattle.bundle_rules.proofs.Packing.{sized}
 
 -- the table of contents
@@ -97,11 +97,11 @@ laid f e = let c = contents f e in laid-from f _ _ (c .following) (c .ending) (c
 -- ---- the bodies, one after the other
 
 -- they are what follows
-pub laid-concat : {f : List ℕ} {at : ℕ} {lines : List Line} → Laid f at lines → concat (map (bodyOf f) lines) ≡ drop at f
-unfolding concat bodyOf
-laid-concat {f} {at} (ended e) = sym (drop-of-length-le f {i = at} (omega arith))
-laid-concat {f} (next {l = l} o w r) =
-    rw (laid-concat r, ← o, ← drop-drop (l .size) (l .offset) f) (take-append-drop (l .size) (drop (l .offset) f))
+pub laid-flatten : {f : List ℕ} {at : ℕ} {lines : List Line} → Laid f at lines → flatten (map (bodyOf f) lines) ≡ drop at f
+unfolding flatten bodyOf
+laid-flatten {f} {at} (ended e) = sym (drop-of-length-le f {i = at} (omega arith))
+laid-flatten {f} (next {l = l} o w r) =
+    rw (laid-flatten r, ← o, ← drop-drop (l .size) (l .offset) f) (take-append-drop (l .size) (drop (l .offset) f))
 
 -- all pass
 pub laid-frames : {f : List ℕ} {at : ℕ} {lines : List Line} → Laid f at lines → framesCheck (map (bodyOf f) lines) ≡ pass

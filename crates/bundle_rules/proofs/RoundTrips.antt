@@ -14,8 +14,8 @@ use Rattle.refusal.proofs.Passing.{within-low, within-high, before-passed, last
 use Rattle.refusal.proofs.Answering.{told-count}
 use Rattle.bundle_rules.specs.Bundle.{contentsEnd, keyIdIn, idRepeats, fileOf, packed, framesCheck, fileLength, packedCheck, writeCheck, writeAnswer, writeBuffer, countIn, bodiesOf, packedIn, bundleCheck, readCheck, readAnswer, readBuffer}
 use Rattle.bundle_rules.specs.Statements.{WrittenReads, ReadWrites, OneFile}
-use Rattle.bundle_rules.proofs.Packing.{packed-back, concat-packed}
-use Rattle.bundle_rules.proofs.Reading.{contents, laid, laid-concat, laid-frames, laid-ids}
+use Rattle.bundle_rules.proofs.Packing.{packed-back, all-packed}
+use Rattle.bundle_rules.proofs.Reading.{contents, laid, laid-flatten, laid-frames, laid-ids}
 use Rattle.bundle_rules.proofs.FileBack.{length-bodies, file-back}
 use Rattle.bundle_rules.proofs.Written.{file-size, packed-read, file-passes}
 
@@ -49,13 +49,13 @@ module _ (attributes : List ℕ) (space : ℕ) (ok : writeCheck attributes space
   unfolding file
   length-file =
       let w = writable attributes space ok in
-      file-size (packed attributes) (w .frames) (w .low) (w .high) (w .once) ∙ ap (λ (l : List ℕ). contentsEnd (length (packed attributes)) + length l) (concat-packed attributes)
+      file-size (packed attributes) (w .frames) (w .low) (w .high) (w .once) ∙ ap (λ (l : List ℕ). contentsEnd (length (packed attributes)) + length l) (all-packed attributes)
 
   attributes-read : packedIn file ≡ attributes
   unfolding file
   attributes-read =
       let w = writable attributes space ok in
-      packed-read (packed attributes) (w .frames) (w .low) (w .high) (w .once) ∙ concat-packed attributes
+      packed-read (packed attributes) (w .frames) (w .low) (w .high) (w .once) ∙ all-packed attributes
 
   reads : (room : ℕ) → length attributes ≤ room → readCheck file room ≡ pass
   unfolding readCheck file
@@ -87,7 +87,7 @@ written-reads attributes buffer out n e h =
 
 module _ (f : List ℕ) (ok : bundleCheck f ≡ pass) where
   bodies-same : packed (packedIn f) ≡ bodiesOf f
-  bodies-same = let l = laid f ok in ap packed (sym (laid-concat l)) ∙ packed-back (bodiesOf f) (laid-frames l)
+  bodies-same = let l = laid f ok in ap packed (sym (laid-flatten l)) ∙ packed-back (bodiesOf f) (laid-frames l)
 
   count-same : length (packed (packedIn f)) ≡ countIn f
   count-same = ap length bodies-same ∙ length-bodies f

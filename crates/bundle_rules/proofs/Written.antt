@@ -2,7 +2,7 @@
 use Prim.Native.Nat.{ℕ, suc, _+_, _*_, _≤_, _<_}
 use mathlib.Core.Path.{_≡_, refl, sym, ap, _∙_}
 use mathlib.Core.Bool.{Bool, true, false, _&&_}
-use mathlib.Core.List.{List, [], _∷_, _++_, map, append-assoc}
+use mathlib.Core.List.{List, [], _∷_, _++_, map, append-assoc, flatten}
 use native.Mathlib.Omega.{arith}
 use borrow.Author.Tests.{le-leb, eq-eqb}
 use lib.Dec.{leb}
@@ -13,7 +13,28 @@ use Rattle.refusal.proofs.Passing.{test-holds, both-pass, within-holds}
 use Rattle.slices.proofs.Same.{equal-same}
 use Rattle.slices.specs.Numbers.{be16, be16At}
 use Rattle.key_frame.specs.KeyFrame.{fieldsIn}
-use Rattle.bundle_rules.specs.Bundle.{contentsEnd, keyIdIn, concat, idRepeats, lineOf, linesOf, fileOf, framesCheck, Line, lineAt, linesFrom, countIn, linesIn, follow, lastEnd, bodyOf, idsOf, packedIn, bodiesCheck, contentsCheck, bundleCheck}
+use Rattle.bundle_rules.specs.Bundle.{
+  contentsEnd,
+  keyIdIn,
+  idRepeats,
+  lineOf,
+  linesOf,
+  fileOf,
+  framesCheck,
+  Line,
+  lineAt,
+  linesFrom,
+  countIn,
+  linesIn,
+  follow,
+  lastEnd,
+  bodyOf,
+  idsOf,
+  packedIn,
+  bodiesCheck,
+  contentsCheck,
+  bundleCheck,
+}
 use Rattle.bundle_rules.proofs.Bytes.{two-back, number-drop}
 use Rattle.bundle_rules.proofs.Packing.{Sized, sized, first-frame, later-frames}
 
@@ -35,12 +56,12 @@ lines-size at (b ∷ bodies) e =
     let m = lines-size (at + length b) bodies (later-frames b bodies e) in
     simp length-append (omega arith)
 
-pub concat-size : (bodies : List (List ℕ)) → framesCheck bodies ≡ pass → length (concat bodies) ≤ 252 * length bodies
-unfolding concat
-concat-size [] e = omega arith
-concat-size (b ∷ bodies) e =
+pub flatten-size : (bodies : List (List ℕ)) → framesCheck bodies ≡ pass → length (flatten bodies) ≤ 252 * length bodies
+unfolding flatten
+flatten-size [] e = omega arith
+flatten-size (b ∷ bodies) e =
     let s = sized b (first-frame b bodies e) in
-    let m = concat-size bodies (later-frames b bodies e) in
+    let m = flatten-size bodies (later-frames b bodies e) in
     simp length-append (omega arith)
 
 -- ---- the lines of bodies
@@ -82,13 +103,13 @@ module _ (f : List ℕ) (i at : ℕ) (b rest : List ℕ) (s : Sized b) (low : at
       let size : be16At f (20 + 20 * i) ≡ length b = sym (number-drop (20 + 20 * i) f) ∙ rw after-offset (two-back (length b) (omega (arith, s .high))) in
       λ k. record { id = id k; offset = offset k; size = size k }
 
-lines-read : (f : List ℕ) (i at : ℕ) (bodies : List (List ℕ)) (tail : List ℕ) → framesCheck bodies ≡ pass → at + length (concat bodies) < 65536
+lines-read : (f : List ℕ) (i at : ℕ) (bodies : List (List ℕ)) (tail : List ℕ) → framesCheck bodies ≡ pass → at + length (flatten bodies) < 65536
     → drop (2 + 20 * i) f ≡ linesOf at bodies ++ tail → linesFrom f i (length bodies) ≡ wanted at bodies
-unfolding linesFrom linesOf wanted concat
+unfolding linesFrom linesOf wanted flatten
 lines-read f i at [] tail c h e = refl
 lines-read f i at (b ∷ bodies) tail c h e =
     let s = sized b (first-frame b bodies c) in
-    let n = length-append b (concat bodies) in
+    let n = length-append b (flatten bodies) in
     let e′ = e ∙ append-assoc (lineOf at b) (linesOf (at + length b) bodies) tail in
     let first = line-read f i at b (linesOf (at + length b) bodies ++ tail) s (omega arith) e′ in
     let later = lines-read f (suc i) (at + length b) bodies tail (later-frames b bodies c) (omega arith) (after-line f i at b _ s (omega arith) e′) in
@@ -101,12 +122,12 @@ unfolding follow wanted
 wanted-follow at [] = refl
 wanted-follow at (b ∷ bodies) = rw (eq-eqb at at refl) (wanted-follow (at + length b) bodies)
 
-wanted-end : (at : ℕ) (bodies : List (List ℕ)) → lastEnd at (wanted at bodies) ≡ at + length (concat bodies)
-unfolding lastEnd wanted concat
+wanted-end : (at : ℕ) (bodies : List (List ℕ)) → lastEnd at (wanted at bodies) ≡ at + length (flatten bodies)
+unfolding lastEnd wanted flatten
 wanted-end at [] = omega arith
 wanted-end at (b ∷ bodies) =
-    let n = length-append b (concat bodies) in
-    let m : at + length b + length (concat bodies) ≡ at + length (b ++ concat bodies) = omega arith in
+    let n = length-append b (flatten bodies) in
+    let m : at + length b + length (flatten bodies) ≡ at + length (b ++ flatten bodies) = omega arith in
     wanted-end (at + length b) bodies ∙ m
 
 wanted-ids : (at : ℕ) (bodies : List (List ℕ)) → idsOf (wanted at bodies) ≡ map keyIdIn bodies
@@ -114,12 +135,12 @@ unfolding wanted
 wanted-ids at [] = refl
 wanted-ids at (b ∷ bodies) = λ k. keyIdIn b ∷ wanted-ids (at + length b) bodies k
 
-wanted-bodies : (f : List ℕ) (at : ℕ) (bodies : List (List ℕ)) → framesCheck bodies ≡ pass → drop at f ≡ concat bodies → bodiesCheck f (wanted at bodies) ≡ pass
-unfolding wanted concat bodiesCheck bodyOf
+wanted-bodies : (f : List ℕ) (at : ℕ) (bodies : List (List ℕ)) → framesCheck bodies ≡ pass → drop at f ≡ flatten bodies → bodiesCheck f (wanted at bodies) ≡ pass
+unfolding wanted flatten bodiesCheck bodyOf
 wanted-bodies f at [] c e = refl
 wanted-bodies f at (b ∷ bodies) c e =
-    let same : take (length b) (drop at f) ≡ b = ap (take (length b)) e ∙ take-at b (concat bodies) (length b) refl in
-    let rest : drop (at + length b) f ≡ concat bodies = sym (drop-drop (length b) at f) ∙ ap (drop (length b)) e ∙ drop-at b (concat bodies) (length b) refl in
+    let same : take (length b) (drop at f) ≡ b = ap (take (length b)) e ∙ take-at b (flatten bodies) (length b) refl in
+    let rest : drop (at + length b) f ≡ flatten bodies = sym (drop-drop (length b) at f) ∙ ap (drop (length b)) e ∙ drop-at b (flatten bodies) (length b) refl in
     let frame = both-pass _ _ (first-frame b bodies c) (test-holds _ (bare 50) (equal-same (keyIdIn b))) in
     rw same (both-pass _ _ frame (wanted-bodies f (at + length b) bodies (later-frames b bodies c) rest))
 
@@ -133,30 +154,30 @@ module _ (bodies : List (List ℕ)) (c : framesCheck bodies ≡ pass) (low : 1 �
   unfolding fileOf
   count-read = two-back (length bodies) (omega arith)
 
-  pub file-size : length (fileOf bodies) ≡ contentsEnd (length bodies) + length (concat bodies)
+  pub file-size : length (fileOf bodies) ≡ contentsEnd (length bodies) + length (flatten bodies)
   unfolding fileOf
   file-size =
       let n = lines-size (contentsEnd (length bodies)) bodies c in
-      let m = length-append (linesOf (contentsEnd (length bodies)) bodies) (concat bodies) in
+      let m = length-append (linesOf (contentsEnd (length bodies)) bodies) (flatten bodies) in
       omega arith
 
-  after-contents : drop (contentsEnd (length bodies)) (fileOf bodies) ≡ concat bodies
+  after-contents : drop (contentsEnd (length bodies)) (fileOf bodies) ≡ flatten bodies
   unfolding fileOf
   after-contents =
       let n = lines-size (contentsEnd (length bodies)) bodies c in
-      drop-at (be16 (length bodies) ++ linesOf (contentsEnd (length bodies)) bodies) (concat bodies) (contentsEnd (length bodies)) (omega arith)
+      drop-at (be16 (length bodies) ++ linesOf (contentsEnd (length bodies)) bodies) (flatten bodies) (contentsEnd (length bodies)) (omega arith)
 
-  pub packed-read : packedIn (fileOf bodies) ≡ concat bodies
+  pub packed-read : packedIn (fileOf bodies) ≡ flatten bodies
   packed-read = rw count-read after-contents
 
-  after-count : drop 2 (fileOf bodies) ≡ linesOf (contentsEnd (length bodies)) bodies ++ concat bodies
+  after-count : drop 2 (fileOf bodies) ≡ linesOf (contentsEnd (length bodies)) bodies ++ flatten bodies
   unfolding fileOf
   after-count = refl
 
   lines-in : linesIn (fileOf bodies) ≡ wanted (contentsEnd (length bodies)) bodies
   lines-in =
-      let m = concat-size bodies c in
-      rw count-read (lines-read (fileOf bodies) 0 (contentsEnd (length bodies)) bodies (concat bodies) c (omega arith) after-count)
+      let m = flatten-size bodies c in
+      rw count-read (lines-read (fileOf bodies) 0 (contentsEnd (length bodies)) bodies (flatten bodies) c (omega arith) after-count)
 
   pub file-passes : bundleCheck (fileOf bodies) ≡ pass
   unfolding bundleCheck contentsCheck unless _andThen_

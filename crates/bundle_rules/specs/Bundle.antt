@@ -1,15 +1,16 @@
 -- A bundle of Key attributes (document 02, request 9): a count (2), for each key a line of Key ID (16), offset from the file's first byte (2) and length (2),
 -- then the attributes, which are the bodies, in the same order, packed with no gap. Numbers stand high byte first.
 use Prim.Native.Nat.{ℕ, zero, suc, _+_, _*_}
-use mathlib.Core.Bool.{Bool, true, false, not, cond, _&&_, _||_}
-use mathlib.Core.List.{List, [], _∷_, _++_, map}
+use mathlib.Core.Bool.{Bool, true, false, not, _&&_, _||_}
+use mathlib.Core.List.{List, [], _∷_, _++_, map, flatten}
 use lib.Dec.{leb, eqb}
-use lib.ListN.{length, take, drop, getD}
+use lib.ListN.{length, take, drop}
 use Rattle.refusal.specs.Checks.{Check, pass, bare, unless, _andThen_, within, check6}
 use Rattle.refusal.specs.Answers.{Answer, answerTo, bufferAfter}
 use Rattle.slices.specs.Numbers.{be16, be16At}
 use Rattle.slices.specs.Same.{sameList}
 use Rattle.key_frame.specs.KeyFrame.{fieldsIn, frameCheck}
+use Rattle.radius_attributes.specs.Attributes.{split}
 
 -- where the contents of n lines end: the count, and 20 bytes a line
 abbrev pub contentsEnd : ℕ → ℕ
@@ -18,11 +19,6 @@ contentsEnd n = 2 + 20 * n
 -- the Key ID of an attribute
 unfoldable pub keyIdIn : List ℕ → List ℕ
 keyIdIn a = fieldsIn a .«key_id»
-
--- attributes packed end to end
-unfoldable pub concat : List (List ℕ) → List ℕ
-concat [] = []
-concat (b ∷ bodies) = b ++ concat bodies
 
 -- a Key ID stands among others; one stands twice
 unfoldable pub idStands : List ℕ → List (List ℕ) → Bool
@@ -53,27 +49,14 @@ linesOf at [] = []
 linesOf at (b ∷ bodies) = lineOf at b ++ linesOf (at + length b) bodies
 
 unfoldable pub fileOf : List (List ℕ) → List ℕ
-fileOf bodies = be16 (length bodies) ++ (linesOf (contentsEnd (length bodies)) bodies ++ concat bodies)
+fileOf bodies = be16 (length bodies) ++ (linesOf (contentsEnd (length bodies)) bodies ++ flatten bodies)
 
 -- ---- writing
 
--- the length byte of the attribute that bytes begin with leads to a place in them, past itself
-abbrev pub leads : List ℕ → Bool
-leads bytes = leb 2 (getD bytes 1 0) && leb (getD bytes 1 0) (length bytes)
-
--- the length of that attribute; where its length byte is missing, under 2 or leads past the end, all the bytes are one body, which the frame's test
--- refuses with 24 ("24 also past the end"; `RestRefused` of specs/Statements.antt)
-unfoldable pub bodyLength : List ℕ → ℕ
-bodyLength bytes = cond (leads bytes) (getD bytes 1 0) (length bytes)
-
--- attributes packed end to end, taken apart as their length bytes lead. The first number bounds their count
-unfoldable pub packedBy : ℕ → List ℕ → List (List ℕ)
-packedBy zero bytes = []
-packedBy (suc k) [] = []
-packedBy (suc k) (x ∷ rest) = take (bodyLength (x ∷ rest)) (x ∷ rest) ∷ packedBy k (drop (bodyLength (x ∷ rest)) (x ∷ rest))
-
-unfoldable pub packed : List ℕ → List (List ℕ)
-packed bytes = packedBy (length bytes) bytes
+-- the attributes that are lent packed end to end. Where one is cut, all the bytes that are left are one body, which the frame's test refuses with 24
+-- ("24 also past the end"; `CutRefused` of specs/Statements.antt)
+abbrev pub packed : List ℕ → List (List ℕ)
+packed bytes = split bytes
 
 -- body by body: each by the tests of a Key attribute that need no KEK, 24, 20, 25, 26 and 27
 unfoldable pub framesCheck : List (List ℕ) → Check
@@ -109,7 +92,7 @@ pub record Line : Type 0 where
 
 -- line i of a file, counted from 0, and n lines from line i on
 unfoldable pub lineAt : List ℕ → ℕ → Line
-lineAt f i = record { id = take 16 (drop (2 + 20 * i) f); offset = be16At f (18 + 20 * i); size = be16At f (20 + 20 * i) }
+lineAt f i = record { id = take 16 (drop (contentsEnd i) f); offset = be16At f (18 + 20 * i); size = be16At f (20 + 20 * i) }
 
 unfoldable pub linesFrom : List ℕ → ℕ → ℕ → List Line
 linesFrom f i zero = []
@@ -159,13 +142,13 @@ abbrev pub check41 : List ℕ → Check
 check41 f = unless (eqb (lastEnd (contentsEnd (countIn f)) (linesIn f)) (length f)) (bare 41)
 
 -- 50: a Key ID unlike its line
-abbrev pub check50 : Line → List ℕ → Check
-check50 l body = unless (sameList (keyIdIn body) (l .id)) (bare 50)
+abbrev pub check50 : (id body : List ℕ) → Check
+check50 id body = unless (sameList (keyIdIn body) id) (bare 50)
 
 -- body by body its own number, then 50
 unfoldable pub bodiesCheck : List ℕ → List Line → Check
 bodiesCheck f [] = pass
-bodiesCheck f (l ∷ lines) = frameCheck (bodyOf f l) andThen check50 l (bodyOf f l) andThen bodiesCheck f lines
+bodiesCheck f (l ∷ lines) = frameCheck (bodyOf f l) andThen check50 (l .id) (bodyOf f l) andThen bodiesCheck f lines
 
 -- the tests of the table of contents
 unfoldable pub contentsCheck : List ℕ → Check

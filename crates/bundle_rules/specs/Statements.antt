@@ -2,25 +2,26 @@
 use Prim.Native.Nat.{ℕ, _≤_, _<_}
 use mathlib.Core.Path.{_≡_}
 use mathlib.Core.Bool.{false}
-use mathlib.Core.List.{List, _++_}
+use mathlib.Core.List.{List, _++_, flatten}
 use lib.ListN.{length, take, drop}
 use Rattle.refusal.specs.Checks.{bare, pass, refuse}
 use Rattle.refusal.specs.Answers.{returned}
 use Rattle.slices.specs.Bytes.{Bytes}
 use Rattle.key_frame.specs.KeyFrame.{frameCheck}
-use Rattle.bundle_rules.specs.Bundle.{keyIdIn, concat, fileOf, leads, packed, framesCheck, writeAnswer, writeBuffer, lineAt, countIn, bodyOf, bodiesOf, packedIn, bundleCheck, readAnswer, readBuffer}
+use Rattle.radius_attributes.specs.Attributes.{whole}
+use Rattle.bundle_rules.specs.Bundle.{keyIdIn, fileOf, packed, framesCheck, writeAnswer, writeBuffer, lineAt, countIn, bodyOf, bodiesOf, packedIn, bundleCheck, readAnswer, readBuffer}
 
 -- what the writer takes apart, where every body passes, are the bodies that were packed
 abbrev pub PackedBack : Type 0
-PackedBack = (bodies : List (List ℕ)) → framesCheck bodies ≡ pass → packed (concat bodies) ≡ bodies
+PackedBack = (bodies : List (List ℕ)) → framesCheck bodies ≡ pass → packed (flatten bodies) ≡ bodies
 
 -- and whatever bytes it is lent, what it takes them apart to are all of them
 abbrev pub AllPacked : Type 0
-AllPacked = (bytes : List ℕ) → concat (packed bytes) ≡ bytes
+AllPacked = (bytes : List ℕ) → flatten (packed bytes) ≡ bytes
 
--- where the length byte leads nowhere (24 also past the end), the rest is a body that is refused with 24
-abbrev pub RestRefused : Type 0
-RestRefused = (bytes : List ℕ) → leads bytes ≡ false → frameCheck bytes ≡ refuse (bare 24)
+-- where an attribute is cut (24 also past the end), the rest is a body that is refused with 24
+abbrev pub CutRefused : Type 0
+CutRefused = (bytes : List ℕ) → whole bytes ≡ false → frameCheck bytes ≡ refuse (bare 24)
 
 -- an accepted file is the file of its bodies
 abbrev pub FileBack : Type 0

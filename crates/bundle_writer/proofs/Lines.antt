@@ -10,7 +10,8 @@ use Rattle.refusal.specs.Checks.{pass}
 use Rattle.slices.specs.Numbers.{be16}
 use Rattle.bundle_rules.specs.Bundle.{contentsEnd, keyIdIn, lineOf, linesOf, packed, framesCheck}
 use Rattle.bundle_rules.proofs.Written.{id-size}
-use Rattle.bundle_writer.proofs.packing.Walking.{Step, first-sized, later-pass, none-left}
+use Rattle.radius_attributes.proofs.Walking.{Step, none-left}
+use Rattle.bundle_writer.proofs.packing.Walking.{first-sized, later-pass}
 
 pub record Lined (a : List ℕ) (n : ℕ) (out₀ out : List ℕ) (at place : ℕ) : Type 0 where
   pub inside : at ≤ length a
@@ -35,12 +36,13 @@ lined-start a n out c e =
 body-size : (a : List ℕ) (at m : ℕ) → Step a at m → length (take m (drop at a)) ≡ m
 body-size a at m s = length-take-le m (drop at a) (simp length-drop (omega (arith, s .inside)))
 
-pub lined-on : (a : List ℕ) (n : ℕ) (out₀ out out′ id : List ℕ) (at place m : ℕ) → Step a at m → Lined a n out₀ out at place → contentsEnd n ≤ length out₀
-    → id ≡ keyIdIn (take m (drop at a))
-    → out′ ≡ take place out ++ ((id ++ (be16 (contentsEnd n + at) ++ be16 m)) ++ drop (place + 20) out)
+pub lined-on : (a : List ℕ) (n : ℕ) (out₀ out out′ id : List ℕ) (at place m offset : ℕ) → Step a at m → Lined a n out₀ out at place → contentsEnd n ≤ length out₀
+    → id ≡ keyIdIn (take m (drop at a)) → offset ≡ contentsEnd n + at
+    → out′ ≡ take place out ++ ((id ++ (be16 offset ++ be16 m)) ++ drop (place + 20) out)
     → Lined a n out₀ out′ (at + m) (place + 20)
 unfolding linesOf lineOf
-lined-on a n out₀ out out′ id at place m s l h i e =
+lined-on a n out₀ out out′ id at place m offset s l h i o written =
+    let e = rw o at written in
     let b : List ℕ = take m (drop at a) in
     let bs : List (List ℕ) = packed (drop (at + m) a) in
     let line : List ℕ = id ++ (be16 (contentsEnd n + at) ++ be16 m) in

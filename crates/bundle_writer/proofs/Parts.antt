@@ -9,7 +9,7 @@ use Rattle.refusal.specs.Checks.{pass}
 use Rattle.slices.specs.Numbers.{be16}
 use Rattle.key_frame.proofs.Parts.{next-part}
 use Rattle.bundle_rules.specs.Bundle.{contentsEnd, linesOf, fileOf, packed, framesCheck}
-use Rattle.bundle_rules.proofs.Packing.{concat-packed}
+use Rattle.bundle_rules.proofs.Packing.{all-packed}
 use Rattle.bundle_rules.proofs.Written.{lines-size}
 
 -- a line in three parts
@@ -44,7 +44,7 @@ written-file a out₀ out₁ out₂ out₃ two n c q t e₁ e₂ e₃ =
     let p₂ = next-part out₀ (be16 n) lines out₁ out₂ 2 (20 * n) refl p₁ e₂ in
     let z : length (be16 n ++ lines) ≡ contentsEnd n = omega arith in
     let p₃ = next-part out₀ (be16 n ++ lines) a out₂ out₃ (contentsEnd n) (length a) z p₂ e₃ in
-    rw (concat-packed a, q) p₃
+    rw (all-packed a, q) p₃
 
 -- the count's two bytes do not alter the buffer's length
 pub count-length : (out₀ out₁ two : List ℕ) (n : ℕ) → two ≡ be16 n → 2 ≤ length out₀ → out₁ ≡ take 0 out₀ ++ (two ++ drop (0 + length two) out₀) → length out₁ ≡ length out₀

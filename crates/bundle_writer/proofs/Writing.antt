@@ -5,13 +5,13 @@ use mathlib.Core.List.{List, _++_}
 use native.Mathlib.Omega.{arith}
 use borrow.Author.Tests.{le-leb, lt-leb}
 use lib.ListN.{length, take, drop}
-use Rattle.refusal.specs.Checks.{Reason, pass, refuse, bare, unless, _andThen_}
+use Rattle.refusal.specs.Checks.{Reason, pass, refuse, bare, unless}
 use Rattle.refusal.specs.Answers.{returned, refused}
 use Rattle.refusal.proofs.Passing.{within-high, before-passed, last-passed, test-passed, first-refuses, second-decides}
 use Rattle.slices.specs.Numbers.{be16}
 use Rattle.bundle_rules.specs.Bundle.{contentsEnd, linesOf, fileOf, packed, framesCheck, packedCheck, writeCheck, writeAnswer, writeBuffer}
-use Rattle.bundle_rules.proofs.Packing.{concat-packed}
-use Rattle.bundle_rules.proofs.Written.{concat-size}
+use Rattle.bundle_rules.proofs.Packing.{all-packed}
+use Rattle.bundle_rules.proofs.Written.{flatten-size}
 use Rattle.bundle_writer.proofs.Parts.{written-file}
 
 -- ---- attributes that pass the tests before the room's
@@ -27,8 +27,8 @@ count-high a e = within-high 1 64 (length (packed a)) (test-passed _ _ (last-pas
 -- they have at most 16,128 bytes, so no sum is too large
 pub bytes-few : (a : List ℕ) → packedCheck a ≡ pass → length a ≤ 16128
 bytes-few a e =
-    let s = concat-size (packed a) (frames-of a e) in
-    let l = ap length (concat-packed a) in
+    let s = flatten-size (packed a) (frames-of a e) in
+    let l = ap length (all-packed a) in
     let h = count-high a e in
     omega arith
 

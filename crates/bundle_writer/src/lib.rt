@@ -10,8 +10,8 @@ ghost use Rattle.bundle_rules.specs.Bundle.{contentsEnd, linesOf, packed, frame
 
 mod packing; // attributes packed end to end, taken apart and tested
 
-use crate::packing::body_length;
 use crate::packing::check_packed;
+use crate::packing::length_at;
 use bundle_contents::lines_length;
 use refusal::Answered;
 use refusal::Refusal;
@@ -46,7 +46,7 @@ fn put_lines(attributes: &[u8], contents: usize, out: &mut [u8])
     let mut at = 0;
     let mut place: usize = 2;
     while at < attributes.len() {
-        let length = body_length(&attributes[at..]);
+        let length = length_at(attributes, at);
         let start = at + 24;
         let end = at + 40;
         let offset = contents + at;

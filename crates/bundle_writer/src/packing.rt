@@ -5,29 +5,21 @@ ghost use Prim.Native.Nat.{_≤_, _<_};
 ghost use lib.ListN.{length, drop};
 ghost use Rattle.refusal.specs.Checks.{pass};
 ghost use Rattle.refusal.specs.Answers.{answerOf, answerTo};
-ghost use Rattle.bundle_rules.specs.Bundle.{keyIdIn, idStands, idRepeats, bodyLength, packed, framesCheck, packedCheck};
+ghost use Rattle.radius_attributes.specs.Attributes.{attributeLength};
+ghost use Rattle.bundle_rules.specs.Bundle.{keyIdIn, idStands, idRepeats, packed, framesCheck, packedCheck};
 use bundle_contents::same_id;
 use key_frame::check_frame;
+use radius_attributes::size_in;
 use refusal::Answered;
 use refusal::Checked;
 use refusal::Refusal;
 
-// The length of the first of the attributes packed in `bytes`: its length byte, or all of them where that leads nowhere.
-pub(crate) fn body_length(bytes: &[u8]) -> usize
-    ensures { λ r. ⌜ r ≡ bodyLength (now (bytes .entry)) ⌝ }
+// How many bytes the first of the attributes packed in `bytes` takes: its length, or all of them where it is cut.
+fn body_length(bytes: &[u8]) -> usize
+    ensures { λ r. ⌜ r ≡ attributeLength (now (bytes .entry)) ⌝ }
 {
-    let all = bytes.len();
-    if all < 2 {
-        return all;
-    }
-    let n = bytes[1] as usize;
-    if n < 2 {
-        return all;
-    }
-    if all < n {
-        return all;
-    }
-    n
+    let size = size_in(bytes);
+    if size == 0 { bytes.len() } else { size }
 }
 
 // How many attributes are packed in `bytes`, or the refusal of the first that does not pass.
@@ -51,11 +43,11 @@ fn count_bodies(bytes: &[u8]) -> Answered
     Answered::Accepted(n)
 }
 
-// The same of the attribute at an offset, where it passes: its length byte.
-fn length_at(bytes: &[u8], at: usize) -> usize
+// The length of the attribute at an offset, where it passes: its length byte.
+pub(crate) fn length_at(bytes: &[u8], at: usize) -> usize
     requires { ⌜ at < length (now bytes) ⌝ }
     requires { ⌜ framesCheck (packed (drop at (now bytes))) ≡ pass ⌝ }
-    ensures { λ r. ⌜ r ≡ bodyLength (drop at (now (bytes .entry))) ⌝ }
+    ensures { λ r. ⌜ r ≡ attributeLength (drop at (now (bytes .entry))) ⌝ }
 {
     bytes[at + 1] as usize
 }
@@ -88,8 +80,7 @@ fn id_repeats(bytes: &[u8]) -> bool
     let size = bytes.len();
     let mut at = 0;
     while at < size {
-        let length = body_length(&bytes[at..]);
-        let next = at + length;
+        let next = at + length_at(bytes, at);
         let start = at + 24;
         let end = at + 40;
         if id_stands(&bytes[start..end], bytes, next) {

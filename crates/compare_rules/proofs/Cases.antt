@@ -1,12 +1,12 @@
 -- The checked cases of request 10, computed from the definitions.
 use mathlib.Core.Path.{refl}
+use mathlib.Core.List.{flatten as concat}
 use Rattle.refusal.specs.Checks.{unless, _andThen_, within}
 use Rattle.slices.specs.Same.{sameList}
 use Rattle.keywrap.specs.Calls.{wrappable}
 use Rattle.key_frame.specs.KeyFrame.{fieldsIn, lengthHolds, frameCheck}
 use Rattle.bundle_rules.specs.Bundle.{
   keyIdIn,
-  concat,
   idStands,
   idRepeats,
   lineOf,

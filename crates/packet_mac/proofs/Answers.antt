@@ -1,22 +1,22 @@
 -- What signing and checking answer, by what the tests came to and where the attribute stands.
 use Prim.Native.Nat.{ℕ, _+_, _-_, _≤_}
-use mathlib.Core.Path.{_≡_, refl, sym, ap, _∙_}
+use mathlib.Core.Path.{_≡_, sym, ap, _∙_}
 use mathlib.Core.Bool.{Bool}
 use mathlib.Core.List.{List, [], _++_, append-assoc, append-nil}
 use native.Mathlib.Omega.{arith}
 use lib.ListN.{length, take, drop, replicate}
 use lib.Seq.{paste, take-all}
 use Rattle.refusal.specs.Checks.{Reason, Check, pass, refuse, bare, unless, _andThen_}
-use Rattle.refusal.specs.Answers.{reasonOf, returned, refused}
+use Rattle.refusal.specs.Answers.{reasonOf, returned, refused, answerOf, answerTo}
 use Rattle.slices.proofs.Lists.{rest-drop}
 use Rattle.slices.specs.Same.{sameList}
 use Rattle.refusal.specs.declared.Refusal.{Refusal}
-use Rattle.packet_mac.specs.declared.attributes.Place.{Place}
-use Rattle.packet_mac.specs.declared.attributes.Place.the-variants.{At, Refused}
+use Rattle.refusal.specs.declared.Answered.{Answered}
+use Rattle.refusal.specs.declared.Answered.the-variants.{Accepted, Refused}
+use Rattle.refusal.proofs.Answering.{told-count, told-refusal}
 use Rattle.packet_rules.specs.Packet.{macAt}
 use Rattle.packet_rules.specs.Mac.{withMac, macIn, macInput, packetCheck, macOf, signAnswer, checkCheck, signBuffer}
-use Rattle.packet_mac.specs.Steps.{Standing, stands, placeAs, placeTo}
-use Rattle.packet_rules.proofs.Placing.{Placed, passed-placed}
+use Rattle.packet_rules.proofs.Placing.{passed-placed}
 
 -- the attribute's place was given: the tests passed, and it lies within the packet
 pub record Given (key : List ℕ) (type : ℕ) (p : List ℕ) (n : ℕ) : Type 0 where
@@ -24,27 +24,16 @@ pub record Given (key : List ℕ) (type : ℕ) (p : List ℕ) (n : ℕ) : Type 0
   pub there : n ≡ macAt type p
   pub room : n + 52 ≤ length p
 
-pub given : (key : List ℕ) (type : ℕ) (p : List ℕ) {x : Place} {n : ℕ} → placeAs x ≡ placeTo (packetCheck key type p) (macAt type p) → x ≡ At n → Given key type p n
-given key type p {x} {n} e k = go (packetCheck key type p) refl (sym (ap placeAs k) ∙ e)
-  where
-    go : (c : Check) → packetCheck key type p ≡ c → stands n ≡ placeTo c (macAt type p) → Given key type p n
-    go pass h e =
-        let m : n ≡ macAt type p = cc in
-        let r : macAt type p + 52 ≤ length p = passed-placed key type p h .room in
-        record { passes = h; there = m; room = omega arith }
-    go (refuse r) h e =
-        let o : _≡_ {A = ℕ} 0 1 = cc in
-        let z : ⊥ = omega arith in
-        elim z [ ]
+pub given : (key : List ℕ) (type : ℕ) (p : List ℕ) {x : Answered} {n : ℕ} → answerOf x ≡ answerTo (packetCheck key type p) (macAt type p) → x ≡ Accepted n → Given key type p n
+given key type p {x} {n} e k =
+    let t = told-count (packetCheck key type p) (macAt type p) n (sym (ap answerOf k) ∙ e) in
+    let r : macAt type p + 52 ≤ length p = passed-placed key type p (t .0) .room in
+    record { passes = t .0; there = t .1; room = omega (arith, t .1) }
 
 -- it was refused
-pub denied : (key : List ℕ) (type : ℕ) (p : List ℕ) {x : Place} {why : Refusal} → placeAs x ≡ placeTo (packetCheck key type p) (macAt type p) → x ≡ Refused why
+pub denied : (key : List ℕ) (type : ℕ) (p : List ℕ) {x : Answered} {why : Refusal} → answerOf x ≡ answerTo (packetCheck key type p) (macAt type p) → x ≡ Refused why
     → packetCheck key type p ≡ refuse (reasonOf why)
-denied key type p {x} {why} e k = go (packetCheck key type p) (sym (ap placeAs k) ∙ e)
-  where
-    go : (c : Check) → Standing.refused (reasonOf why) ≡ placeTo c (macAt type p) → c ≡ refuse (reasonOf why)
-    go pass e = cc
-    go (refuse r) e = cc
+denied key type p {x} {why} e k = told-refusal (packetCheck key type p) (macAt type p) (reasonOf why) (sym (ap answerOf k) ∙ e)
 
 -- 32 bytes copied over the MAC
 all-copied : (p mac : List ℕ) (at : ℕ) → length mac ≡ 32 → paste p (at + 20) mac 32 ≡ withMac at mac p

@@ -5,12 +5,14 @@ ghost use mathlib.Core.Bool.{_&&_};
 ghost use Prim.Native.Nat.{_+_, _≤_};
 ghost use lib.Dec.{eqb};
 ghost use lib.ListN.{length, drop};
-ghost use Rattle.refusal.specs.Answers.{checkedAs};
+ghost use Rattle.refusal.specs.Answers.{checkedAs, answerOf, answerTo};
 ghost use Rattle.refusal.specs.Checks;
 ghost use Rattle.refusal.specs.Checks.{bare, _andThen_, check20};
 ghost use Rattle.packet_rules.specs.Packet.{lengthHolds, check35, isMac, macAt};
 ghost use Rattle.packet_rules.specs.Mac.{packetCheck};
-ghost use Rattle.packet_mac.specs.Steps.{sizeIn, foundIn, placeAs, placeTo};
+ghost use Rattle.packet_mac.specs.Internal.{foundIn};
+use radius_attributes::size_in;
+use refusal::Answered;
 use refusal::Checked;
 use refusal::Refusal;
 
@@ -19,27 +21,6 @@ struct Found {
     whole: bool,
     count: usize,
     at: usize,
-}
-
-// Where the MAC's attribute stands in a packet that passes the tests.
-pub enum Place {
-    At(usize),
-    Refused(Refusal),
-}
-
-// The length of the attribute at the start of `bytes`; 0 where it is shorter than 2 or past their end.
-fn size_in(bytes: &[u8]) -> usize
-    ensures { λ r. ⌜ r ≡ sizeIn (now (bytes .entry)) ⌝ }
-{
-    if bytes.len() < 2 {
-        return 0;
-    }
-    let size = bytes[1] as usize;
-    if (2 <= size) & (size <= bytes.len()) {
-        size
-    } else {
-        0
-    }
 }
 
 // The walk through the attributes, left to right: it stops at one that is cut.
@@ -117,14 +98,14 @@ fn judge(found: Found, packet: &[u8]) -> Checked
 }
 
 // The tests 1, 20, 35, 36 and 37, in this order: where the MAC's attribute stands, or the first refusal.
-pub(crate) fn mac_place(mac_key: &[u8], attribute_type: u8, packet: &[u8]) -> Place
-    ensures { λ r. ⌜ placeAs r ≡ placeTo (packetCheck (now («mac_key» .entry)) «attribute_type» (now (packet .entry))) (macAt «attribute_type» (now (packet .entry))) ⌝ }
+pub(crate) fn mac_place(mac_key: &[u8], attribute_type: u8, packet: &[u8]) -> Answered
+    ensures { λ r. ⌜ answerOf r ≡ answerTo (packetCheck (now («mac_key» .entry)) «attribute_type» (now (packet .entry))) (macAt «attribute_type» (now (packet .entry))) ⌝ }
 {
     let found = find(attribute_type, packet);
     let at = found.at;
     let before = refusal::then_check(refusal::check_root_key(mac_key), check_type(attribute_type));
     match refusal::then_check(before, judge(found, packet)) {
-        Checked::Failed(why) => Place::Refused(why),
-        Checked::Passed => Place::At(at),
+        Checked::Failed(why) => Answered::Refused(why),
+        Checked::Passed => Answered::Accepted(at),
     }
 }

@@ -10,7 +10,7 @@ ghost use Rattle.packet_rules.specs.Mac.{withMac, signAnswer, signBuffer, check
 
 mod attributes; // the walk through a packet's attributes, and its tests
 
-use crate::attributes::Place;
+use crate::attributes::mac_place;
 use refusal::Answered;
 use refusal::Checked;
 use refusal::Refusal;
@@ -46,9 +46,9 @@ pub fn sign(mac_key: &[u8], attribute_type: u8, packet: &mut [u8]) -> Answered
     ensures answer { λ r. ⌜ answerOf r ≡ signAnswer (now («mac_key» .entry)) «attribute_type» (now (packet .entry)) ⌝ }
     ensures buffer { λ _. ⌜ now (packet .exit) ≡ signBuffer hmacSha256 (now («mac_key» .entry)) «attribute_type» (now (packet .entry)) ⌝ }
 {
-    match crate::attributes::mac_place(mac_key, attribute_type, packet) {
-        Place::Refused(why) => Answered::Refused(why),
-        Place::At(at) => {
+    match mac_place(mac_key, attribute_type, packet) {
+        Answered::Refused(why) => Answered::Refused(why),
+        Answered::Accepted(at) => {
             let mac = mac_of(mac_key, at, packet);
             copy_mac(mac, at + 20, packet);
             Answered::Accepted(32)
@@ -60,9 +60,9 @@ pub fn sign(mac_key: &[u8], attribute_type: u8, packet: &mut [u8]) -> Answered
 pub fn check(mac_key: &[u8], attribute_type: u8, packet: &[u8]) -> Checked
     ensures { λ r. ⌜ checkedAs r ≡ checkCheck hmacSha256 (now («mac_key» .entry)) «attribute_type» (now (packet .entry)) ⌝ }
 {
-    match crate::attributes::mac_place(mac_key, attribute_type, packet) {
-        Place::Refused(why) => Checked::Failed(why),
-        Place::At(at) => {
+    match mac_place(mac_key, attribute_type, packet) {
+        Answered::Refused(why) => Checked::Failed(why),
+        Answered::Accepted(at) => {
             let mac = mac_of(mac_key, at, packet);
             let same = slices::same_bytes(&packet[at + 20..at + 52], &mac);
             refusal::unless(same, Refusal::MacDiffers)

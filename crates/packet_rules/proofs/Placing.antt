@@ -1,22 +1,24 @@
 -- Where 37 passes, the attribute lies whole within the packet; and a packet that agrees with it outside the MAC's 32 bytes has the same
 -- attributes and passes the same tests.
-use Prim.Native.Nat.{ℕ, zero, suc, _+_, _-_, _*_, _≤_, _<_}
+use Prim.Native.Nat.{ℕ, suc, _+_, _-_, _*_, _≤_, _<_}
 use mathlib.Core.Path.{_≡_, refl, sym, ap, _∙_}
 use mathlib.Core.Logic.{_⊎_, inl, inr, ⊎-elim}
-use mathlib.Core.Bool.{Bool, true, _&&_}
+use mathlib.Core.Bool.{true, _&&_}
 use mathlib.Core.List.{List, [], _∷_}
 use native.Mathlib.Omega.{arith}
 use borrow.Author.Tests.{eqb-true}
 use lib.Dec.{eqb}
 use lib.ListN.{length, getD, drop, length-drop}
 use lib.Seq.{getD-drop}
-use Rattle.refusal.specs.Checks.{pass, bare, unless, _andThen_, within, check1, check20}
+use Rattle.refusal.specs.Checks.{pass, within}
 use Rattle.refusal.proofs.Passing.{last-passed, test-passed}
 use Rattle.slices.proofs.Truth.{and-left, and-right}
-use Rattle.packet_rules.specs.Packet.{Met, lengthHolds, attributes, allWhole, placesIn, places, macAt, isMac, oneMac}
+use Rattle.radius_attributes.specs.Attributes.{split}
+use Rattle.radius_attributes.proofs.Splitting.{all-split}
+use Rattle.packet_rules.specs.Packet.{lengthHolds, attributes, allWhole, places, macAt, isMac, oneMac}
 use Rattle.packet_rules.specs.Mac.{packetCheck}
 use Rattle.packet_rules.specs.Statements.{AgreeOutside}
-use Rattle.packet_rules.proofs.Walking.{same-walk, Stands, stands}
+use Rattle.packet_rules.proofs.Walking.{Stands, stands, Alike, alike-whole, alike-places}
 use Rattle.packet_rules.proofs.Outside.{But, but-by, within-one}
 
 pub record Placed (type : ℕ) (p : List ℕ) : Type 0 where
@@ -26,9 +28,9 @@ pub record Placed (type : ℕ) (p : List ℕ) : Type 0 where
   pub room : macAt type p + 52 ≤ length p
 
 one-of : (l : List ℕ) → length l ≡ 1 → l ≡ getD l 0 0 ∷ []
-one-of [] h = let z : ⊥ = omega arith in elim z [ ]
+one-of [] h = absurd (omega arith)
 one-of (x ∷ []) h = refl
-one-of (x ∷ (y ∷ l)) h = let z : ⊥ = omega arith in elim z [ ]
+one-of (x ∷ (y ∷ l)) h = absurd (omega arith)
 
 -- from the attribute's own bytes
 size-at : (p : List ℕ) (m : ℕ) → isMac (drop m p) ≡ true → getD p (suc m) 0 ≡ 52
@@ -48,8 +50,8 @@ unfolding oneMac places macAt attributes
 placed type p h =
     let only : places type p ≡ macAt type p ∷ [] = one-of (places type p) (eqb-true _ 1 (and-left _ _ h)) in
     let size : getD p (suc (macAt type p)) 0 ≡ 52 = size-at p (macAt type p) (and-right (eqb (length (places type p)) 1) _ h) in
-    let s : Stands (drop 20 p) 0 20 (macAt type p) = stands type 0 20 (drop 20 p) only in
-    let a : 20 + 0 ≤ macAt type p = s .ahead in
+    let s : Stands (drop 20 p) 20 (macAt type p) = rw (all-split (drop 20 p)) at (stands type 20 (split (drop 20 p)) only) in
+    let a : 20 ≤ macAt type p = s .ahead in
     let b : getD (drop 20 p) (suc (macAt type p) - 20) 0 ≡ 52 = past-header p (macAt type p) (omega arith) size in
     let i : macAt type p + getD (drop 20 p) (suc (macAt type p) - 20) 0 ≤ 20 + length (drop 20 p) = s .inside in
     record { only = only; size = size; low = omega arith; room = omega (arith, length-drop 20 p) }
@@ -63,13 +65,17 @@ module _ (type : ℕ) (p q : List ℕ) (at : Placed type p) (agree : AgreeOutsid
       (simp length-drop (omega (arith, at .low, at .room)))
       (λ j o. simp getD-drop (agree .bytes (20 + j) (⊎-elim (λ a. inl (omega arith)) (λ b. inr (omega arith)) o)))
 
-  pub same-attributes : attributes p ≡ attributes q
-  unfolding attributes places
-  same-attributes = same-walk 20 (within-one type 0 20 (omega arith) rest-agree (omega arith) (at .only) (past-header p (macAt type p) (at .low) (at .size)))
+  alike : Alike (attributes p) (attributes q)
+  unfolding attributes split places
+  alike = within-one type 0 20 20 (omega arith) rest-agree (omega arith) (omega arith) (at .only) (past-header p (macAt type p) (at .low) (at .size))
+
+  same-places : places type p ≡ places type q
+  unfolding places
+  same-places = alike-places type 20 alike
 
   pub same-place : macAt type p ≡ macAt type q
-  unfolding macAt places
-  same-place = ap (λ (l : List Met). getD (placesIn type l) 0 0) same-attributes
+  unfolding macAt
+  same-place = ap (λ (l : List ℕ). getD l 0 0) same-places
 
   -- a byte before the MAC
   byte : (j : ℕ) → j < macAt type p + 20 → getD p j 0 ≡ getD q j 0
@@ -83,20 +89,22 @@ module _ (type : ℕ) (p q : List ℕ) (at : Placed type p) (agree : AgreeOutsid
       let l = agree .lengths in
       λ i. within 20 4096 (l i) && eqb (b₂ i * 256 + b₃ i) (l i)
 
+  same-36 : allWhole (attributes p) ≡ allWhole (attributes q)
+  same-36 = alike-whole alike
+
   same-37 : oneMac type p ≡ oneMac type q
-  unfolding oneMac isMac places
+  unfolding oneMac isMac
   same-37 =
       let b : (k : ℕ) → k < 20 → getD (drop (macAt type p) p) k 0 ≡ getD (drop (macAt type q) q) k 0
       = λ k h. getD-drop (macAt type p) p k 0 ∙ byte (macAt type p + k) (omega arith) ∙ ap (λ (n : ℕ). getD q (n + k) 0) same-place ∙ sym (getD-drop (macAt type q) q k 0) in
       let b₁ = b 1 (omega arith) in
       let b₂ = b 2 (omega arith) in
       let b₃ = b 3 (omega arith) in
-      λ i. eqb (length (placesIn type (same-attributes i))) 1 && (eqb (b₁ i) 52 && (eqb (b₂ i) 0 && eqb (b₃ i) 2))
+      λ i. eqb (length (same-places i)) 1 && (eqb (b₁ i) 52 && (eqb (b₂ i) 0 && eqb (b₃ i) 2))
 
   pub same-check : (key : List ℕ) → packetCheck key type p ≡ packetCheck key type q
   unfolding packetCheck
-  same-check key =
-      λ i. check1 key andThen check20 type andThen unless (same-35 i) (bare 35) andThen unless (allWhole (same-attributes i)) (bare 36) andThen unless (same-37 i) (bare 37)
+  same-check key = rw (same-35, same-36, same-37)
 
 -- what passes 1 to 37 has the place
 pub passed-placed : (key : List ℕ) (type : ℕ) (p : List ℕ) → packetCheck key type p ≡ pass → Placed type p

@@ -1,10 +1,9 @@
 -- What is shown of signing and checking (specs/Statements.antt).
-use Prim.Native.Nat.{ℕ, _+_, _≤_}
+use Prim.Native.Nat.{ℕ}
 use mathlib.Core.Path.{_≡_, refl, sym, ap, _∙_}
 use mathlib.Core.List.{List}
 use lib.ListN.{length, replicate}
-use Rattle.refusal.specs.Checks.{Reason, Check, pass, refuse, bare, unless, _andThen_}
-use Rattle.slices.specs.Same.{sameList}
+use Rattle.refusal.specs.Checks.{Reason, Check, pass, refuse, unless, _andThen_}
 use Rattle.refusal.specs.Answers.{returned, answerTo}
 use Rattle.slices.proofs.Same.{equal-same, same-equal}
 use Rattle.refusal.proofs.Passing.{before-passed, last-passed, test-passed}

@@ -1,90 +1,77 @@
--- The walk looks only at the type and length bytes where attributes begin, so two packets that agree there have the same attributes.
-use Prim.Native.Nat.{ℕ, zero, suc, _+_, _-_, _≤_}
+-- Where the attributes of a type stand, and which lists of attributes have them at the same places.
+use Prim.Native.Nat.{ℕ, suc, _+_, _-_, _≤_}
 use mathlib.Core.Path.{_≡_, refl, ap, _∙_}
 use mathlib.Core.Bool.{Bool, true, false, cond, _&&_}
-use mathlib.Core.List.{List, [], _∷_}
+use mathlib.Core.List.{List, [], _∷_, _++_, flatten}
 use native.Mathlib.Omega.{arith}
-use borrow.Author.Tests.{leb-true}
-use lib.Dec.{leb, eqb}
-use lib.ListN.{length, getD}
-use Rattle.slices.proofs.Truth.{and-left, and-right}
-use Rattle.packet_rules.specs.Packet.{Met, attribute, cut, inBounds, attributesFrom, placesIn}
+use lib.Dec.{eqb}
+use lib.ListN.{length, getD, length-append, List·getD-append}
+use lib.Seq.{getD-append-add}
+use Rattle.slices.proofs.Truth.{and-left}
+use Rattle.radius_attributes.specs.Attributes.{whole}
+use Rattle.radius_attributes.proofs.Lengths.{whole-low, whole-high}
+use Rattle.packet_rules.specs.Packet.{allWhole, ofType, placesFrom}
 
--- two byte strings of one length that agree in the type and length bytes where attributes begin, `left` bytes being passed first
-pub data Agree : ℕ → List ℕ → List ℕ → Type 0 where
-  ends : {left : ℕ} → Agree left [] []
-  passes : {left x y : ℕ} {s t : List ℕ} → Agree left s t → Agree (suc left) (x ∷ s) (y ∷ t)
-  begins : {x : ℕ} {s t : List ℕ} → getD s 0 0 ≡ getD t 0 0 → Agree (getD s 0 0 - 1) s t → Agree zero (x ∷ s) (x ∷ t)
+pub of-whole : (type : ℕ) (a : List ℕ) → ofType type a ≡ true → whole a ≡ true
+unfolding ofType
+of-whole type a h = and-left _ _ h
 
-agree-length : {left : ℕ} {s t : List ℕ} → Agree left s t → length s ≡ length t
-agree-length ends = refl
-agree-length (passes r) = ap suc (agree-length r)
-agree-length (begins e r) = ap suc (agree-length r)
-
-pub agree-refl : (left : ℕ) (s : List ℕ) → Agree left s s
-agree-refl left [] = ends
-agree-refl zero (x ∷ s) = begins refl (agree-refl (getD s 0 0 - 1) s)
-agree-refl (suc left) (x ∷ s) = passes (agree-refl left s)
-
--- what stands where an attribute begins, by its length byte, the count of the bytes after its first, and what follows it
-met : (x at size rest : ℕ) → List Met → List Met
-met x at size rest later = cond (leb 2 size && leb size (suc rest)) (attribute x at ∷ later) (cut ∷ [])
-
-pub same-walk : {left : ℕ} {s t : List ℕ} (at : ℕ) → Agree left s t → attributesFrom left at s ≡ attributesFrom left at t
-unfolding attributesFrom inBounds met
-same-walk at ends = refl
-same-walk at (passes r) = same-walk (suc at) r
-same-walk at (begins {x = x} {t = t} e r) =
-    let later = same-walk (suc at) r ∙ ap (λ (n : ℕ). attributesFrom (n - 1) (suc at) t) e in
-    let size = agree-length r in
-    λ i. met x at (e i) (size i) (later i)
-
--- where an attribute of a type stands: past what is left, and whole within the bytes
-pub record Stands (s : List ℕ) (left at m : ℕ) : Type 0 where
-  pub ahead : at + left ≤ m
+-- where an attribute of a type stands in bytes, the first of which has the offset `at`: whole within them
+pub record Stands (s : List ℕ) (at m : ℕ) : Type 0 where
+  pub ahead : at ≤ m
   pub long : 2 ≤ getD s (suc m - at) 0
   pub inside : m + getD s (suc m - at) 0 ≤ at + length s
 
--- one byte before
-earlier : (x : ℕ) (s : List ℕ) {left left₁ at m : ℕ} → left ≤ suc left₁ → Stands s left₁ (suc at) m → Stands (x ∷ s) left at m
-earlier x s {left} {left₁} {at} {m} h r =
-    let a : suc at + left₁ ≤ m = r .ahead in
-    let e : suc m - at ≡ suc (suc m - suc at) = omega arith in
-    let l : 2 ≤ getD s (suc m - suc at) 0 = r .long in
-    let i : m + getD s (suc m - suc at) 0 ≤ suc at + length s = r .inside in
-    record { ahead = omega arith; long = rw e l; inside = rw e (omega arith) }
-
--- what an attribute in bounds has
-pub bounds-low : (s : List ℕ) → inBounds s ≡ true → 2 ≤ getD s 1 0
-unfolding inBounds
-bounds-low s h = leb-true _ _ (and-left _ _ h)
-
-pub bounds-high : (s : List ℕ) → inBounds s ≡ true → getD s 1 0 ≤ length s
-unfolding inBounds
-bounds-high s h = leb-true _ _ (and-right (leb 2 (getD s 1 0)) _ h)
-
-here : (x : ℕ) (s : List ℕ) (at : ℕ) → inBounds (x ∷ s) ≡ true → Stands (x ∷ s) zero at at
-here x s at h =
+here : (a rest : List ℕ) (at : ℕ) → whole a ≡ true → Stands (a ++ rest) at at
+here a rest at w =
     let e : suc at - at ≡ 1 = omega arith in
-    let l : 2 ≤ getD (x ∷ s) 1 0 = bounds-low (x ∷ s) h in
-    let i : getD (x ∷ s) 1 0 ≤ suc (length s) = bounds-high (x ∷ s) h in
-    record { ahead = omega arith; long = rw e l; inside = rw e (omega arith) }
+    let l : 2 ≤ getD a 1 0 = whole-low a w in
+    let h : getD a 1 0 ≤ length a = whole-high a w in
+    let b : getD (a ++ rest) 1 0 ≡ getD a 1 0 = List·getD-append a rest 0 1 (omega arith) in
+    let n = length-append a rest in
+    record { ahead = omega arith; long = rw e (omega arith); inside = rw e (omega arith) }
 
-pub stands : (type left at : ℕ) (s : List ℕ) {m : ℕ} {later : List ℕ} → placesIn type (attributesFrom left at s) ≡ m ∷ later → Stands s left at m
-unfolding attributesFrom placesIn
-stands type left at [] e = let o : _≡_ {A = ℕ} 0 1 = cc in let z : ⊥ = omega arith in elim z [ ]
-stands type (suc left) at (x ∷ s) e = earlier x s (omega arith) (stands type left (suc at) s e)
-stands type zero at (x ∷ s) {m} {later} e = go (inBounds (x ∷ s)) refl (λ f. stands type (getD s 0 0 - 1) (suc at) s f) e
+-- past an attribute
+past : (a rest : List ℕ) {at m : ℕ} → Stands rest (at + length a) m → Stands (a ++ rest) at m
+past a rest {at} {m} r =
+    let f : at + length a ≤ m = r .ahead in
+    let e : suc m - at ≡ length a + (suc m - (at + length a)) = omega arith in
+    let b : getD (a ++ rest) (suc m - at) 0 ≡ getD rest (suc m - (at + length a)) 0
+    = ap (λ (k : ℕ). getD (a ++ rest) k 0) e ∙ getD-append-add a rest (suc m - (at + length a)) 0 in
+    let l = r .long in
+    let i = r .inside in
+    let n = length-append a rest in
+    record { ahead = omega arith; long = rw b l; inside = rw b (omega arith) }
+
+pub stands : (type at : ℕ) (l : List (List ℕ)) {m : ℕ} {later : List ℕ} → placesFrom type at l ≡ m ∷ later → Stands (flatten l) at m
+unfolding placesFrom flatten
+stands type at [] e = let o : _≡_ {A = ℕ} 0 1 = cc in absurd (omega arith)
+stands type at (a ∷ l) {m} {later} e = go (ofType type a) refl (λ f. stands type (at + length a) l f) e
   where
-    typed : (t : Bool) → inBounds (x ∷ s) ≡ true
-        → (placesIn type (attributesFrom (getD s 0 0 - 1) (suc at) s) ≡ m ∷ later → Stands s (getD s 0 0 - 1) (suc at) m)
-        → cond t (at ∷ placesIn type (attributesFrom (getD s 0 0 - 1) (suc at) s)) (placesIn type (attributesFrom (getD s 0 0 - 1) (suc at) s)) ≡ m ∷ later
-        → Stands (x ∷ s) zero at m
-    typed true h ih e = let k : at ≡ m = cc in rw (← k) (here x s at h)
-    typed false h ih e = earlier x s (omega arith) (ih e)
+    go : (t : Bool) → ofType type a ≡ t
+        → (placesFrom type (at + length a) l ≡ m ∷ later → Stands (flatten l) (at + length a) m)
+        → cond t (at ∷ placesFrom type (at + length a) l) (placesFrom type (at + length a) l) ≡ m ∷ later
+        → Stands (a ++ flatten l) at m
+    go true h ih e = let k : at ≡ m = cc in rw (← k) (here a (flatten l) at (of-whole type a h))
+    go false h ih e = past a (flatten l) (ih e)
 
-    go : (b : Bool) → inBounds (x ∷ s) ≡ b
-        → (placesIn type (attributesFrom (getD s 0 0 - 1) (suc at) s) ≡ m ∷ later → Stands s (getD s 0 0 - 1) (suc at) m)
-        → placesIn type (cond b (attribute x at ∷ attributesFrom (getD s 0 0 - 1) (suc at) s) (cut ∷ [])) ≡ m ∷ later → Stands (x ∷ s) zero at m
-    go true h ih e = typed (eqb x type) h ih e
-    go false h ih e = let o : _≡_ {A = ℕ} 0 1 = cc in let z : ⊥ = omega arith in elim z [ ]
+-- lists of attributes that differ in values alone
+pub data Alike : List (List ℕ) → List (List ℕ) → Type 0 where
+  none : Alike [] []
+  both : {a b : List ℕ} {l m : List (List ℕ)} → whole a ≡ whole b → getD a 0 0 ≡ getD b 0 0 → length a ≡ length b → Alike l m → Alike (a ∷ l) (b ∷ m)
+
+pub alike-refl : (l : List (List ℕ)) → Alike l l
+alike-refl [] = none
+alike-refl (a ∷ l) = both refl refl refl (alike-refl l)
+
+pub alike-whole : {l m : List (List ℕ)} → Alike l m → allWhole l ≡ allWhole m
+unfolding allWhole
+alike-whole none = refl
+alike-whole (both w t n r) = λ i. w i && alike-whole r i
+
+pub alike-places : (type at : ℕ) {l m : List (List ℕ)} → Alike l m → placesFrom type at l ≡ placesFrom type at m
+unfolding placesFrom ofType
+alike-places type at none = refl
+alike-places type at (both {a = a} {m = m} w t n r) =
+    let later = alike-places type (at + length a) r ∙ ap (λ (k : ℕ). placesFrom type (at + k) m) n in
+    λ i. cond (w i && eqb (t i) type) (at ∷ later i) (later i)

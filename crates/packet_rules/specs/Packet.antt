@@ -1,14 +1,15 @@
 -- Request 8. A RADIUS packet, its attributes, and the tests of a packet that has the place of a Message-Authentication-Code (source
 -- document 004, section 3.3).
--- Byte 0 code, 1 identifier, 2 length (2), 4 authenticator (16), 20 attributes: type, length in bytes with these two, value.
+-- Byte 0 code, 1 identifier, 2 length (2), 4 authenticator (16), 20 attributes (RFC 2865, section 5).
 -- The attribute: 0 type, 1 length 52, 2 reserved 0, 3 MAC Type 2, 4 MAC Key ID (16), 20 MAC (32).
-use Prim.Native.Nat.{ℕ, zero, suc, _+_, _-_, _*_}
-use mathlib.Core.Bool.{Bool, true, false, cond, _&&_}
+use Prim.Native.Nat.{ℕ, _+_}
+use mathlib.Core.Bool.{Bool, true, cond, _&&_}
 use mathlib.Core.List.{List, [], _∷_}
-use lib.Dec.{leb, eqb}
+use lib.Dec.{eqb}
 use lib.ListN.{length, drop, getD}
 use Rattle.slices.specs.Numbers.{be16At}
 use Rattle.refusal.specs.Checks.{Check, bare, unless, within}
+use Rattle.radius_attributes.specs.Attributes.{whole, split}
 
 -- the length that the header gives
 abbrev pub headerLength : List ℕ → ℕ
@@ -22,45 +23,30 @@ lengthHolds p = within 20 4096 (length p) && eqb (headerLength p) (length p)
 abbrev pub check35 : List ℕ → Check
 check35 p = unless (lengthHolds p) (bare 35)
 
--- what stands where an attribute begins: an attribute of a type at an offset of the packet, or one that is shorter than 2 or past the end
-pub data Met : Type 0 where
-  attribute : (type at : ℕ) → Met
-  cut : Met
+-- a packet's attributes: what follows its header, split
+unfoldable pub attributes : List ℕ → List (List ℕ)
+attributes p = split (drop 20 p)
 
--- of the bytes from an attribute's first to the packet's end: it has a length byte, of 2 or more, and ends within them
-unfoldable pub inBounds : List ℕ → Bool
-inBounds bytes = leb 2 (getD bytes 1 0) && leb (getD bytes 1 0) (length bytes)
-
--- The attributes that stand in the bytes from an offset on, left to right. `left` counts the bytes of an attribute that are still to be
--- passed; where none is left, the next attribute begins. Nothing follows one that is cut.
-unfoldable pub attributesFrom : (left at : ℕ) → List ℕ → List Met
-attributesFrom left at [] = []
-attributesFrom (suc left) at (x ∷ rest) = attributesFrom left (suc at) rest
-attributesFrom zero at (x ∷ rest) =
-    cond (inBounds (x ∷ rest))
-    (attribute x at ∷ attributesFrom (getD rest 0 0 - 1) (suc at) rest)
-    (cut ∷ [])
-
-unfoldable pub attributes : List ℕ → List Met
-attributes p = attributesFrom 0 20 (drop 20 p)
-
-unfoldable pub allWhole : List Met → Bool
+unfoldable pub allWhole : List (List ℕ) → Bool
 allWhole [] = true
-allWhole (attribute t at ∷ later) = allWhole later
-allWhole (cut ∷ later) = false
+allWhole (a ∷ later) = whole a && allWhole later
 
 -- 36: any attribute shorter than 2 or past the end
 abbrev pub check36 : List ℕ → Check
 check36 p = unless (allWhole (attributes p)) (bare 36)
 
--- the offsets of the attributes of a type
-unfoldable pub placesIn : ℕ → List Met → List ℕ
-placesIn type [] = []
-placesIn type (attribute t at ∷ later) = cond (eqb t type) (at ∷ placesIn type later) (placesIn type later)
-placesIn type (cut ∷ later) = []
+-- an attribute is whole, and of a type
+unfoldable pub ofType : ℕ → List ℕ → Bool
+ofType type a = whole a && eqb (getD a 0 0) type
 
+-- the offsets of those of a type among attributes that stand one after another from an offset on
+unfoldable pub placesFrom : (type at : ℕ) → List (List ℕ) → List ℕ
+placesFrom type at [] = []
+placesFrom type at (a ∷ later) = cond (ofType type a) (at ∷ placesFrom type (at + length a) later) (placesFrom type (at + length a) later)
+
+-- the offsets of a packet's attributes of a type, from the packet's first byte
 unfoldable pub places : ℕ → List ℕ → List ℕ
-places type p = placesIn type (attributes p)
+places type p = placesFrom type 20 (attributes p)
 
 -- where the attribute of a type stands, the first of them if there are more
 unfoldable pub macAt : ℕ → List ℕ → ℕ

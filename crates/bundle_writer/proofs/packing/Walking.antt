@@ -1,77 +1,20 @@
 -- Attributes packed end to end, walked from the first on: one law for each way on in the loops.
 use Prim.Native.Nat.{ℕ, _+_, _-_, _≤_, _<_}
 use mathlib.Core.Path.{_≡_, refl, sym, ap, _∙_}
-use mathlib.Core.Bool.{Bool, true, false, cond, and-false}
-use mathlib.Core.List.{List, [], _∷_, _++_, map}
+use mathlib.Core.Bool.{Bool, true, false}
+use mathlib.Core.List.{List, _++_, map}
 use native.Mathlib.Omega.{arith}
-use borrow.Author.Tests.{le-leb, lt-leb, leb-true}
-use lib.Dec.{leb}
-use lib.ListN.{length, take, drop, getD, length-drop, length-take, take-append-drop, drop-of-length-le}
+use lib.ListN.{length, take, drop, getD, length-drop, length-take, take-append-drop}
 use lib.Seq.{drop-drop, getD-drop, getD-take, length-take-le, take-append-le, drop-append-le}
-use Rattle.refusal.specs.Checks.{Reason, Check, pass, refuse, _andThen_}
+use Rattle.refusal.specs.Checks.{Reason, Check, pass, refuse}
 use Rattle.slices.specs.Same.{sameList}
 use Rattle.refusal.proofs.Passing.{first-refuses, second-decides}
-use Rattle.slices.proofs.Truth.{and-right}
-use Rattle.slices.proofs.Lists.{rest-drop}
 use Rattle.key_frame.specs.KeyFrame.{fieldsIn, frameCheck}
-use Rattle.bundle_rules.specs.Bundle.{keyIdIn, idStands, idRepeats, leads, bodyLength, packed, framesCheck}
-use Rattle.bundle_rules.proofs.Packing.{Sized, sized, first-frame, later-frames, body-some, packed-next, packed-none}
-
--- ---- the first body's length
-
-pub length-short : (bytes : List ℕ) → length bytes < 2 → length bytes ≡ bodyLength bytes
-unfolding bodyLength
-length-short [] h = refl
-length-short (x ∷ []) h = refl
-length-short (x ∷ y ∷ t) h = absurd (omega arith)
-
-pub length-low : (bytes : List ℕ) (n : ℕ) → n ≡ getD bytes 1 0 → n < 2 → length bytes ≡ bodyLength bytes
-unfolding bodyLength
-length-low bytes n q h = rw (← q, lt-leb 2 n h)
-
-pub length-past : (bytes : List ℕ) (n : ℕ) → n ≡ getD bytes 1 0 → length bytes < n → length bytes ≡ bodyLength bytes
-unfolding bodyLength
-length-past bytes n q h = rw (← q, lt-leb n (length bytes) h, and-false)
-
-pub length-byte : (bytes : List ℕ) (n : ℕ) → n ≡ getD bytes 1 0 → 2 ≤ n → n ≤ length bytes → n ≡ bodyLength bytes
-unfolding bodyLength
-length-byte bytes n q l h = rw (← q, le-leb 2 n l, le-leb n (length bytes) h)
-
-body-fits : (bytes : List ℕ) → bodyLength bytes ≤ length bytes
-unfolding bodyLength
-body-fits bytes = go (leads bytes) refl
-  where
-    go : (t : Bool) → leads bytes ≡ t → cond t (getD bytes 1 0) (length bytes) ≤ length bytes
-    go true e = leb-true _ _ (and-right (leb 2 (getD bytes 1 0)) _ e)
-    go false e = omega arith
-
--- ---- a step from a place of the bytes
-
--- where a body begins and how long it is
-pub record Step (bytes : List ℕ) (at n : ℕ) : Type 0 where
-  pub some : 1 ≤ n
-  pub inside : at + n ≤ length bytes
-  pub next : packed (drop at bytes) ≡ take n (drop at bytes) ∷ packed (drop (at + n) bytes)
-
-pub step-at : (bytes : List ℕ) (at n : ℕ) → at < length bytes → n ≡ bodyLength (drop at bytes) → Step bytes at n
-step-at bytes at n h q =
-    let d = length-drop at bytes in
-    let s = body-some (drop at bytes) (omega arith) in
-    let f = body-fits (drop at bytes) in
-    let p = packed-next (drop at bytes) (omega arith) in
-    record {
-      some = omega arith;
-      inside = omega arith;
-      next = rw (← q, drop-drop n at bytes) at p;
-    }
-
--- by the part from there on, as it is lent
-pub step : (bytes : List ℕ) (at n : ℕ) → at < length bytes → n ≡ bodyLength (take (length bytes - at) (drop at bytes)) → Step bytes at n
-step bytes at n h e = step-at bytes at n h (e ∙ ap bodyLength (rest-drop at bytes))
-
--- nothing is left at the end
-pub none-left : (bytes : List ℕ) (at : ℕ) → length bytes ≤ at → packed (drop at bytes) ≡ []
-none-left bytes at h = ap packed (drop-of-length-le bytes h) ∙ packed-none
+use Rattle.radius_attributes.specs.Attributes.{attributeLength}
+use Rattle.radius_attributes.proofs.Lengths.{length-fits}
+use Rattle.radius_attributes.proofs.Walking.{Step, step-at, none-left}
+use Rattle.bundle_rules.specs.Bundle.{keyIdIn, idStands, idRepeats, packed, framesCheck}
+use Rattle.bundle_rules.proofs.Packing.{Sized, sized, first-frame, later-frames}
 
 part-of : (at n : ℕ) (bytes : List ℕ) → take (at + n - at) (drop at bytes) ≡ take n (drop at bytes)
 part-of at n bytes = let m : at + n - at ≡ n = omega arith in rw m
@@ -156,12 +99,12 @@ unfolding idRepeats
 repeats-not bytes at h inv = sym (inv ∙ rw (none-left bytes at h))
 
 -- the length byte of a body that passes counts its bytes
-pub byte-counts : (bytes : List ℕ) (at : ℕ) → at < length bytes → framesCheck (packed (drop at bytes)) ≡ pass → getD bytes (at + 1) 0 ≡ bodyLength (drop at bytes)
+pub byte-counts : (bytes : List ℕ) (at : ℕ) → at < length bytes → framesCheck (packed (drop at bytes)) ≡ pass → getD bytes (at + 1) 0 ≡ attributeLength (drop at bytes)
 byte-counts bytes at h c =
-    let n : ℕ = bodyLength (drop at bytes) in
+    let n : ℕ = attributeLength (drop at bytes) in
     let s = step-at bytes at n h refl in
     let z = first-sized bytes at n s c in
-    let fits : n ≤ length (drop at bytes) = body-fits (drop at bytes) in
+    let fits : n ≤ length (drop at bytes) = length-fits (drop at bytes) in
     let size = length-take-le n (drop at bytes) fits in
     let two : 1 < n = omega (arith, z .low) in
     sym (getD-drop at bytes 1 0) ∙ sym (getD-take n (drop at bytes) 1 0 two) ∙ z .counted ∙ size

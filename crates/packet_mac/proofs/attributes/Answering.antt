@@ -5,17 +5,17 @@ use mathlib.Core.Bool.{_&&_}
 use mathlib.Core.List.{List}
 use lib.Dec.{eqb}
 use lib.ListN.{length, drop}
-use Rattle.refusal.specs.Checks.{Check, pass, bare, unless, _andThen_, check1, check20}
-use Rattle.refusal.specs.Answers.{checkedAs}
+use Rattle.refusal.specs.Checks.{Check, bare, unless, _andThen_, check1, check20}
+use Rattle.refusal.specs.Answers.{checkedAs, answerOf, answerTo}
 use Rattle.refusal.specs.declared.Refusal.{Refusal}
+use Rattle.refusal.specs.declared.Answered.the-variants.{Accepted, Refused}
 use Rattle.refusal.specs.declared.Checked.{Checked}
 use Rattle.refusal.specs.declared.Checked.the-variants.{Passed, Failed}
 use Rattle.refusal.proofs.Passing.{then-assoc}
 use Rattle.packet_rules.specs.Packet.{check35, check36, check37, isMac, oneMac, macAt}
 use Rattle.packet_rules.specs.Mac.{packetCheck}
-use Rattle.packet_mac.specs.Steps.{foundIn, placeAs, placeTo}
+use Rattle.packet_mac.specs.Internal.{foundIn}
 use Rattle.packet_mac.specs.declared.attributes.Found.{Found}
-use Rattle.packet_mac.specs.declared.attributes.Place.the-variants.{At, Refused}
 use Rattle.packet_mac.proofs.attributes.Finding.{at-within}
 
 -- the tests 35 to 37 by what the walk found
@@ -41,8 +41,8 @@ found-at type p e = ap (λ (f : Found). f .at) e
 pub found-within : (type : ℕ) (p : List ℕ) {found : Found} → found ≡ foundIn type p → found .at ≤ length p
 found-within type p e = rw (found-at type p e) (at-within type p)
 
-pub place-given : {x : Checked} {c : Check} {n m : ℕ} → checkedAs x ≡ c → x ≡ Passed → n ≡ m → placeAs (At n) ≡ placeTo c m
+pub place-given : {x : Checked} {c : Check} {n m : ℕ} → checkedAs x ≡ c → x ≡ Passed → n ≡ m → answerOf (Accepted n) ≡ answerTo c m
 place-given e p a = let r = sym e ∙ ap checkedAs p in rw (r, a)
 
-pub place-refused : {x : Checked} {c : Check} {why : Refusal} (m : ℕ) → checkedAs x ≡ c → x ≡ Failed why → placeAs (Refused why) ≡ placeTo c m
+pub place-refused : {x : Checked} {c : Check} {why : Refusal} (m : ℕ) → checkedAs x ≡ c → x ≡ Failed why → answerOf (Refused why) ≡ answerTo c m
 place-refused m e p = let r = sym e ∙ ap checkedAs p in rw r

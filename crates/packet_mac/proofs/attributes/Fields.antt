@@ -1,15 +1,13 @@
 -- Laws of the fields of a packet and of an attribute, for the tests in the code.
-use Prim.Native.Nat.{ℕ, _+_, _*_, _≤_, _<_}
+use Prim.Native.Nat.{ℕ, _+_, _*_, _<_}
 use mathlib.Core.Path.{_≡_, refl, sym, ap, _∙_}
-use mathlib.Core.Bool.{Bool, true, false, cond, _&&_}
+use mathlib.Core.Bool.{Bool, true, false, _&&_}
 use mathlib.Core.List.{List}
 use native.Mathlib.Omega.{arith}
-use borrow.Author.Tests.{lt-leb}
-use lib.Dec.{leb, eqb}
+use lib.Dec.{eqb}
 use lib.ListN.{length, getD, List·getD-eq-default}
 use Rattle.refusal.specs.Checks.{within}
-use Rattle.packet_rules.specs.Packet.{headerLength, lengthHolds, inBounds, isMac}
-use Rattle.packet_mac.specs.Steps.{sizeIn}
+use Rattle.packet_rules.specs.Packet.{lengthHolds, isMac}
 
 and-false : (a : Bool) → (a && false) ≡ false
 and-false true = refl
@@ -23,19 +21,6 @@ length-out p h = rw h
 pub length-in : (p : List ℕ) → within 20 4096 (length p) ≡ true → eqb (getD p 2 0 * 256 + getD p 3 0) (length p) ≡ lengthHolds p
 unfolding lengthHolds
 length-in p h = rw h
-
--- 36: no length byte is a length byte 0
-pub size-none : (bytes : List ℕ) → length bytes < 2 → 0 ≡ sizeIn bytes
-unfolding sizeIn inBounds
-size-none bytes h = let e : getD bytes 1 0 ≡ 0 = List·getD-eq-default bytes 0 (omega arith) in rw e
-
-pub size-there : (bytes : List ℕ) → (leb 2 (getD bytes 1 0) && leb (getD bytes 1 0) (length bytes)) ≡ true → getD bytes 1 0 ≡ sizeIn bytes
-unfolding sizeIn inBounds
-size-there bytes h = rw h
-
-pub size-cut : (bytes : List ℕ) → (leb 2 (getD bytes 1 0) && leb (getD bytes 1 0) (length bytes)) ≡ false → 0 ≡ sizeIn bytes
-unfolding sizeIn inBounds
-size-cut bytes h = rw h
 
 -- 37: no MAC Type byte is no MAC Type 2
 pub mac-short : (bytes : List ℕ) → length bytes < 4 → false ≡ isMac bytes

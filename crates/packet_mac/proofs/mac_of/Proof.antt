@@ -1,6 +1,4 @@
 -- `packet_mac::mac_of` meets its contract: the parts are the packet with zeros for its MAC (`three-parts`).
-use Prim.Native.Nat.{_+_}
-use mathlib.Core.Path.{sym}
 use native.Mathlib.Omega.{arith}
 use denote.Ref.{now}
 use lib.ListN.{length-take}

@@ -1,24 +1,15 @@
-use native.Mathlib.Omega.{arith}
-use mathlib.Core.Path.{refl}
-use Rattle.bundle_writer.proofs.packing.Walking.{length-short, length-low, length-past, length-byte}
+-- By what the shared function says: 0 is an attribute that is cut.
+use mathlib.Core.Path.{sym, _∙_}
+use Rattle.radius_attributes.proofs.Lengths.{zero-cut, some-whole, length-cut, length-whole}
 use borrow.Author.Needs.{needs}
 use Rattle.bundle_writer.proofs.packing.body_length.Statement.{statement}
 use Rattle.bundle_writer.proofs.packing.body_length.Tie as tie
 
 returns : tie.Need-returns
-returns c = length-short _ (c .if1 .taken)
-
-cast-n : tie.Need-cast-n
-cast-n c = omega (arith, c .shared-slice-known .given 1)
+returns c = length-cut _ (zero-cut _ (sym (c .before .size-in .ensures) ∙ c .if1 .taken))
 
 returns-2 : tie.Need-returns-2
-returns-2 c = length-low _ _ refl (c .if2 .taken)
-
-returns-3 : tie.Need-returns-3
-returns-3 c = length-past _ _ refl (c .if3 .taken)
-
-returns-4 : tie.Need-returns-4
-returns-4 c = length-byte _ _ refl (c .before .if2 .left) (c .if3 .left)
+returns-2 c = let e = c .before .size-in .ensures in e ∙ length-whole _ (some-whole _ (λ z. c .if1 .left (e ∙ z)))
 
 pub body-length-spec : {M : Type 1} → statement M
-body-length-spec = tie.close (tie.spec returns (λ c. search needs) cast-n returns-2 returns-3 returns-4)
+body-length-spec = tie.close (tie.spec (λ c κs. search needs) returns returns-2)

@@ -6,7 +6,8 @@ use denote.Ref.{now}
 use lib.ListN.{length, drop}
 use Rattle.refusal.specs.Answers.{checkedAs}
 use Rattle.bundle_rules.specs.Bundle.{packed, framesCheck}
-use Rattle.bundle_writer.proofs.packing.Walking.{Step, step, frames-stop, frames-on, frames-end, count-on, count-end}
+use Rattle.radius_attributes.proofs.Walking.{Step, step}
+use Rattle.bundle_writer.proofs.packing.Walking.{frames-stop, frames-on, frames-end, count-on, count-end}
 use Rattle.bundle_writer.proofs.packing.Testing.{told, refused-count}
 use Rattle.bundle_writer.proofs.packing.count_bodies.Statement.{statement}
 use Rattle.bundle_writer.proofs.packing.count_bodies.Tie as tie

@@ -1,13 +1,13 @@
 use Prim.Native.Nat.{_+_, _≤_, _-_}
 use mathlib.Core.Path.{_≡_, refl, sym, _∙_}
 use native.Mathlib.Omega.{arith}
-use borrow.Author.Needs.{needs}
 use denote.Ref.{now}
 use lib.ListN.{length, drop}
 use mathlib.Core.List.{map}
 use Rattle.refusal.specs.Checks.{pass}
 use Rattle.bundle_rules.specs.Bundle.{keyIdIn, idRepeats, packed, framesCheck}
-use Rattle.bundle_writer.proofs.packing.Walking.{Step, step, later-pass, id-part, body-long, repeats-here, repeats-on, repeats-not}
+use Rattle.radius_attributes.proofs.Walking.{Step, step-at}
+use Rattle.bundle_writer.proofs.packing.Walking.{later-pass, id-part, body-long, repeats-here, repeats-on, repeats-not}
 use Rattle.bundle_writer.proofs.packing.id_repeats.Statement.{statement}
 use Rattle.bundle_writer.proofs.packing.id_repeats.Tie as tie
 
@@ -20,11 +20,14 @@ abbrev μ-loop : tie.MeasureT-loop
 loop-holds : tie.Need-loop-holds Inv-loop μ-loop
 loop-holds c = (omega arith, c .before .pre, refl)
 
-made : (c : tie.After-body-length Inv-loop μ-loop) → Step (now (c .before .before .before .before .before .args .bytes)) (c .before .before .before .loop .at) (c .body-length .result)
-made c = step _ _ _ (omega arith) (c .body-length .ensures)
+made : (c : tie.After-length-at Inv-loop μ-loop) → Step (now (c .before .before .before .before .args .bytes)) (c .before .before .loop .at) (c .length-at .result)
+made c = step-at _ _ _ (omega arith) (c .length-at .ensures)
 
-long : (c : tie.After-body-length Inv-loop μ-loop) → c .before .before .before .loop .at + 76 ≤ length (now (c .before .before .before .before .before .args .bytes))
-long c = body-long _ _ _ (made c) (c .before .before .before .loop .inv .1)
+long : (c : tie.After-length-at Inv-loop μ-loop) → c .before .before .loop .at + 76 ≤ length (now (c .before .before .before .before .args .bytes))
+long c = body-long _ _ _ (made c) (c .before .before .loop .inv .1)
+
+length-at-requires : tie.Need-length-at-requires Inv-loop μ-loop
+length-at-requires c κs = (omega arith, c .before .loop .inv .1)
 
 add-next : tie.Need-add-next Inv-loop μ-loop
 add-next c = omega (arith, made c .inside)
@@ -42,12 +45,12 @@ part-id-stands-end : tie.Need-part-id-stands-end Inv-loop μ-loop
 part-id-stands-end c = omega (arith, long c)
 
 id-stands-requires : tie.Need-id-stands-requires Inv-loop μ-loop
-id-stands-requires c κs = (made (c .before) .inside, later-pass _ _ _ (made (c .before)) (c .before .before .before .before .loop .inv .1))
+id-stands-requires c κs = (made (c .before) .inside, later-pass _ _ _ (made (c .before)) (c .before .before .before .loop .inv .1))
 
 returns : tie.Need-returns Inv-loop μ-loop
 returns c =
     let k = c .before .before .before in
-    let l = k .before .before .before .loop in
+    let l = k .before .before .loop in
     repeats-here _ _ (l .at) _ (made k) (id-part _ (l .at) _ (made k) (l .inv .1)) (sym (c .before .id-stands .ensures) ∙ c .if1 .taken) (l .inv .2)
 
 loop-less : tie.Need-loop-less Inv-loop μ-loop
@@ -56,7 +59,7 @@ loop-less c = omega (arith, made (c .before .before .before) .some, made (c .bef
 loop-again : tie.Need-loop-again Inv-loop μ-loop
 loop-again c =
     let k = c .before .before .before in
-    let l = k .before .before .before .loop in (
+    let l = k .before .before .loop in (
       omega (arith, made k .inside),
       later-pass _ (l .at) _ (made k) (l .inv .1),
       repeats-on _ _ (l .at) _ (made k) (id-part _ (l .at) _ (made k) (l .inv .1)) (sym (c .before .id-stands .ensures) ∙ c .if1 .left) (l .inv .2),
@@ -68,6 +71,5 @@ returns-2 c = let l = c .before .loop in repeats-not _ (l .at) (omega arith) (l 
 pub id-repeats-spec : {M : Type 1} → statement M
 id-repeats-spec =
     tie.close
-    (tie.spec Inv-loop μ-loop loop-holds (λ c. omega arith) (λ c. omega arith) (λ c. omega arith) (λ c κs. search needs)
-    add-next add-start add-end (λ c. omega arith) part-id-stands-start part-id-stands-end id-stands-requires returns
+    (tie.spec Inv-loop μ-loop loop-holds length-at-requires add-next add-start add-end (λ c. omega arith) part-id-stands-start part-id-stands-end id-stands-requires returns
     loop-less loop-again returns-2)

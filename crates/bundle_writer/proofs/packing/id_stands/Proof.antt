@@ -4,11 +4,12 @@ use native.Mathlib.Omega.{arith}
 use borrow.Author.Needs.{needs}
 use denote.Ref.{now}
 use lib.ListN.{length, drop}
-use lib.ListN.{take}
 use mathlib.Core.List.{map}
 use Rattle.refusal.specs.Checks.{pass}
-use Rattle.bundle_rules.specs.Bundle.{keyIdIn, idStands, bodyLength, packed, framesCheck}
-use Rattle.bundle_writer.proofs.packing.Walking.{Step, step, step-at, later-pass, id-part, body-long, stands-here, stands-on, stands-not}
+use Rattle.bundle_rules.specs.Bundle.{keyIdIn, idStands, packed, framesCheck}
+use Rattle.radius_attributes.specs.Attributes.{attributeLength}
+use Rattle.radius_attributes.proofs.Walking.{Step, step-at}
+use Rattle.bundle_writer.proofs.packing.Walking.{later-pass, id-part, body-long, stands-here, stands-on, stands-not}
 use Rattle.bundle_writer.proofs.packing.id_stands.Statement.{statement}
 use Rattle.bundle_writer.proofs.packing.id_stands.Tie as tie
 
@@ -22,8 +23,9 @@ loop-holds : tie.Need-loop-holds Inv-loop μ-loop
 loop-holds c = (c .before .before .pre .0, c .before .before .pre .1, refl)
 
 -- the body at the loop's place
-here : (c : tie.In-loop Inv-loop μ-loop) → Step (now (c .before .before .before .before .args .bytes)) (c .before .loop .at) (bodyLength (take (length (now (c .before .before .before .before .args .bytes)) - c .before .loop .at) (drop (c .before .loop .at) (now (c .before .before .before .before .args .bytes)))))
-here c = step _ _ _ (omega arith) refl
+here : (c : tie.In-loop Inv-loop μ-loop)
+    → let bytes = now (c .before .before .before .before .args .bytes) in Step bytes (c .before .loop .at) (attributeLength (drop (c .before .loop .at) bytes))
+here c = step-at _ _ _ (omega arith) refl
 
 long : (c : tie.In-loop Inv-loop μ-loop) → c .before .loop .at + 76 ≤ length (now (c .before .before .before .before .args .bytes))
 long c = body-long _ _ _ (here c) (c .before .loop .inv .1)

@@ -3,7 +3,8 @@ use mathlib.Core.Path.{refl}
 use native.Mathlib.Omega.{arith}
 use denote.Ref.{now}
 use borrow.Author.Needs.{needs}
-use Rattle.bundle_writer.proofs.packing.Walking.{step-at, body-long, byte-counts}
+use Rattle.radius_attributes.proofs.Walking.{step-at}
+use Rattle.bundle_writer.proofs.packing.Walking.{body-long, byte-counts}
 use Rattle.bundle_writer.proofs.packing.length_at.Statement.{statement}
 use Rattle.bundle_writer.proofs.packing.length_at.Tie as tie
 
