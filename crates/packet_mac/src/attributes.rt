@@ -7,8 +7,8 @@ ghost use lib.Dec.{eqb};
 ghost use lib.ListN.{length, drop};
 ghost use Rattle.refusal.specs.Answers.{checkedAs, answerOf, answerTo};
 ghost use Rattle.refusal.specs.Checks;
-ghost use Rattle.refusal.specs.Checks.{bare, _andThen_, check20};
-ghost use Rattle.packet_rules.specs.Packet.{lengthHolds, check35, isMac, macAt};
+ghost use Rattle.refusal.specs.Checks.{bare, _andThen_, check1, check20};
+ghost use Rattle.packet_rules.specs.Packet.{lengthHolds, check35, check36, check37, isMac, macAt};
 ghost use Rattle.packet_rules.specs.Mac.{packetCheck};
 ghost use Rattle.packet_mac.specs.Internal.{foundIn};
 use radius_attributes::size_in;
@@ -82,30 +82,48 @@ fn check_type(attribute_type: u8) -> Checked
     refusal::unless(attribute_type != 0, Refusal::AttributeType)
 }
 
-// The tests 35, 36 and 37, in this order, of a packet in which the walk found so much.
+// The tests 36 and 37, in this order, of a packet in which the walk found so much.
 fn judge(found: Found, packet: &[u8]) -> Checked
     requires { ⌜ found .at ≤ length (now packet) ⌝ }
-    ensures { λ r. ⌜ checkedAs r ≡ (check35 (now (packet .entry)) andThen Checks.unless (found .whole) (bare 36) andThen Checks.unless (eqb (found .count) 1 && isMac (drop (found .at) (now (packet .entry)))) (bare 37)) ⌝ }
+    ensures { λ r. ⌜ checkedAs r ≡ (Checks.unless (found .whole) (bare 36) andThen Checks.unless (eqb (found .count) 1 && isMac (drop (found .at) (now (packet .entry)))) (bare 37)) ⌝ }
 {
     let at = found.at;
     let one = (found.count == 1) & is_mac(&packet[at..]);
-    let c35 = refusal::unless(length_holds(packet), Refusal::PacketLength);
-    let c36 = refusal::then_check(
-        c35,
+    refusal::then_check(
         refusal::unless(found.whole, Refusal::PacketAttributeBounds),
-    );
-    refusal::then_check(c36, refusal::unless(one, Refusal::MacAttribute))
+        refusal::unless(one, Refusal::MacAttribute),
+    )
 }
 
-// The tests 1, 20, 35, 36 and 37, in this order: where the MAC's attribute stands, or the first refusal.
-pub(crate) fn mac_place(mac_key: &[u8], attribute_type: u8, packet: &[u8]) -> Answered
-    ensures { λ r. ⌜ answerOf r ≡ answerTo (packetCheck (now («mac_key» .entry)) «attribute_type» (now (packet .entry))) (macAt «attribute_type» (now (packet .entry))) ⌝ }
+// The walk and the tests 36 and 37: where the MAC's attribute stands, or the first refusal.
+fn place_in(attribute_type: u8, packet: &[u8]) -> Answered
+    ensures { λ r. ⌜ answerOf r ≡ answerTo (check36 (now (packet .entry)) andThen check37 «attribute_type» (now (packet .entry))) (macAt «attribute_type» (now (packet .entry))) ⌝ }
 {
     let found = find(attribute_type, packet);
     let at = found.at;
-    let before = refusal::then_check(refusal::check_root_key(mac_key), check_type(attribute_type));
-    match refusal::then_check(before, judge(found, packet)) {
+    match judge(found, packet) {
         Checked::Failed(why) => Answered::Refused(why),
         Checked::Passed => Answered::Accepted(at),
+    }
+}
+
+// The tests 1, 20 and 35, in this order, which read no more than the packet's header.
+fn check_header(mac_key: &[u8], attribute_type: u8, packet: &[u8]) -> Checked
+    ensures { λ r. ⌜ checkedAs r ≡ (check1 (now («mac_key» .entry)) andThen check20 «attribute_type» andThen check35 (now (packet .entry))) ⌝ }
+{
+    let before = refusal::then_check(refusal::check_root_key(mac_key), check_type(attribute_type));
+    refusal::then_check(
+        before,
+        refusal::unless(length_holds(packet), Refusal::PacketLength),
+    )
+}
+
+// The tests 1, 20, 35, 36 and 37, in this order: where the MAC's attribute stands, or the first refusal. A packet that 35 refuses is not walked.
+pub(crate) fn mac_place(mac_key: &[u8], attribute_type: u8, packet: &[u8]) -> Answered
+    ensures { λ r. ⌜ answerOf r ≡ answerTo (packetCheck (now («mac_key» .entry)) «attribute_type» (now (packet .entry))) (macAt «attribute_type» (now (packet .entry))) ⌝ }
+{
+    match check_header(mac_key, attribute_type, packet) {
+        Checked::Failed(why) => Answered::Refused(why),
+        Checked::Passed => place_in(attribute_type, packet),
     }
 }
