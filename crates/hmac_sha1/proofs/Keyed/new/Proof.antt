@@ -13,14 +13,14 @@ slice-aggregate-value-after c =
     let m = c .before in
     let block = m .before .before .key-block .result in
     let size : length block ≡ 64 = search needs in
-    sym (masked-size block ipad size (m .mask .ensures))
+    sym (masked-size block _ size (m .mask .ensures))
 
 slice-aggregate-value-after-2 : tie.Need-slice-aggregate-value-after-2
 slice-aggregate-value-after-2 c =
     let n = c .before in
     let block = n .before .before .before .before .before .before .key-block .result in
     let size : length block ≡ 64 = search needs in
-    sym (masked-size block opad size (n .mask2 .ensures))
+    sym (masked-size block _ size (n .mask2 .ensures))
 
 returns : tie.Need-returns
 returns c =
