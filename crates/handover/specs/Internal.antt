@@ -1,9 +1,9 @@
 -- What only the contracts of private functions need. Nothing here has to be believed.
--- The texts that two iterations of the KDF are made of.
-use mathlib.Core.List.{List}
-use Prim.Native.Nat.{ℕ, _≤_}
-use lib.ListN.{length}
+use mathlib.Core.List.{List, _++_}
+use Prim.Native.Nat.{ℕ}
+use lib.ListN.{take, set}
+use Rattle.hmac_sha1.specs.Keyed.{macByValues}
 
--- there is a byte for the iteration's number, and SHA-1 counts the text's bits
-abbrev pub IsText : List ℕ → Type 0
-IsText m = (1 ≤ length m) × (length m ≤ 1000)
+-- the first 32 bytes of two MACs by the hash values of a key: of a text, and of the text with 2 for its first byte
+unfoldable pub twoMacs : List ℕ → List ℕ → List ℕ → List ℕ
+twoMacs inner outer text = take 32 (macByValues inner outer text ++ macByValues inner outer (set text 0 2))

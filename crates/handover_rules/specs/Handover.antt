@@ -1,12 +1,12 @@
 -- The handover keys of source document 003, sections 4.2 and 4.3, as document 02 reads it (request 2): R0-Key, R1-Key and R0Name, and the tests of
 -- their calls. AD-ID and AN-ID are the identifiers of an access domain and of an access node, SPA is the supplicant's link layer address.
 use Prim.Native.Nat.{ℕ}
-use mathlib.Core.Bool.{Bool, _&&_}
 use mathlib.Core.List.{List, _++_}
 use lib.Dec.{eqb}
 use lib.ListN.{length, take}
 use Rattle.slices.specs.Ascii.{ascii}
 use Rattle.refusal.specs.Checks.{Check, bare, unless, _andThen_, check6}
+use Rattle.refusal.specs.Answers.{Answer, answerTo, bufferAfter}
 use Rattle.fips180.specs.Sha256.{sha256}
 use Rattle.hmac_sha1.specs.Rfc2104.{hmacSha1}
 use Rattle.handover_rules.specs.Kdf.{kdfInput, kdf}
@@ -52,23 +52,36 @@ r0Name r0 ad spa = take 16 (sha256 (r0 ++ (ascii "R0 Key Name" ++ (ad ++ spa))))
 abbrev pub check33 : ℕ → List ℕ → Check
 check33 n key = unless (eqb (length key) n) (bare 33)
 
--- 34: an identifier of wrong length, by what holds of all identifiers of a call
-abbrev pub check34 : Bool → Check
-check34 hold = unless hold (bare 34)
-
--- an AD-ID or AN-ID has 16 bytes, and an SPA 6
-abbrev pub isId : List ℕ → Bool
-isId id = eqb (length id) 16
-
-abbrev pub isSpa : List ℕ → Bool
-isSpa spa = eqb (length spa) 6
+-- 34: an AD-ID or AN-ID not 16 or an SPA not 6 bytes
+abbrev pub check34 : ℕ → List ℕ → Check
+check34 n id = unless (eqb (length id) n) (bare 34)
 
 -- the order of the tests: 33, 34, 6. The keys have 32 bytes, and the name has 16
 unfoldable pub r0Check : List ℕ → List ℕ → List ℕ → ℕ → Check
-r0Check rrk ad spa room = check33 64 rrk andThen check34 (isId ad && isSpa spa) andThen check6 32 room
+r0Check rrk ad spa room = check33 64 rrk andThen check34 16 ad andThen check34 6 spa andThen check6 32 room
 
 unfoldable pub r1Check : List ℕ → List ℕ → List ℕ → List ℕ → ℕ → Check
-r1Check r0 ad an spa room = check33 32 r0 andThen check34 (isId ad && isId an && isSpa spa) andThen check6 32 room
+r1Check r0 ad an spa room = check33 32 r0 andThen check34 16 ad andThen check34 16 an andThen check34 6 spa andThen check6 32 room
 
 unfoldable pub r0NameCheck : List ℕ → List ℕ → List ℕ → ℕ → Check
-r0NameCheck r0 ad spa room = check33 32 r0 andThen check34 (isId ad && isSpa spa) andThen check6 16 room
+r0NameCheck r0 ad spa room = check33 32 r0 andThen check34 16 ad andThen check34 6 spa andThen check6 16 room
+
+-- what each call answers: the count of its bytes, or the first refusal
+unfoldable pub r0Answer : List ℕ → List ℕ → List ℕ → ℕ → Answer
+r0Answer rrk ad spa room = answerTo (r0Check rrk ad spa room) 32
+
+unfoldable pub r1Answer : List ℕ → List ℕ → List ℕ → List ℕ → ℕ → Answer
+r1Answer r0 ad an spa room = answerTo (r1Check r0 ad an spa room) 32
+
+unfoldable pub r0NameAnswer : List ℕ → List ℕ → List ℕ → ℕ → Answer
+r0NameAnswer r0 ad spa room = answerTo (r0NameCheck r0 ad spa room) 16
+
+-- what it leaves in the output buffer: its bytes and then what stood there, or all that stood there
+unfoldable pub r0Buffer : List ℕ → List ℕ → List ℕ → List ℕ → List ℕ
+r0Buffer rrk ad spa buffer = bufferAfter (r0Check rrk ad spa (length buffer)) 32 (r0Key rrk ad spa) buffer
+
+unfoldable pub r1Buffer : List ℕ → List ℕ → List ℕ → List ℕ → List ℕ → List ℕ
+r1Buffer r0 ad an spa buffer = bufferAfter (r1Check r0 ad an spa (length buffer)) 32 (r1Key r0 ad an spa) buffer
+
+unfoldable pub r0NameBuffer : List ℕ → List ℕ → List ℕ → List ℕ → List ℕ
+r0NameBuffer r0 ad spa buffer = bufferAfter (r0NameCheck r0 ad spa (length buffer)) 16 (r0Name r0 ad spa) buffer

@@ -10,9 +10,9 @@ use Rattle.hmac_sha1.specs.Rfc2104.{hmacSha1}
 use Rattle.handover_rules.specs.Kdf.{iterations}
 use Rattle.handover_rules.specs.Handover.{r0Input, r1Input, r0Key, r1Key, r0Check, r1Check, r0NameCheck}
 
--- the iterations of a key: 1 and 2
-abbrev pub KdfBlock : ℕ → Type 0
-KdfBlock i = (1 ≤ i) × (i ≤ 2)
+-- an iteration of the derivation of a key of 256 bits
+abbrev pub Iteration : ℕ → Type 0
+Iteration i = (1 ≤ i) × (i ≤ iterations 256)
 
 -- Two R0 requests accepted under one rRK hand the same bytes to HMAC exactly when their AD-IDs, their SPAs and the iteration agree. Nothing is
 -- assumed of HMAC or SHA-1. Acceptance is a premise, since the lengths of the identifiers (34) fix where one ends and the next begins
@@ -20,7 +20,7 @@ abbrev pub R0Apart : Type 0
 R0Apart =
     (rrk ad₁ ad₂ spa₁ spa₂ : List ℕ) (room₁ room₂ i j : ℕ)
     → r0Check rrk ad₁ spa₁ room₁ ≡ pass → r0Check rrk ad₂ spa₂ room₂ ≡ pass
-    → KdfBlock i → KdfBlock j
+    → Iteration i → Iteration j
     → (r0Input ad₁ spa₁ i ≡ r0Input ad₂ spa₂ j) ↔ ((ad₁ ≡ ad₂) × (spa₁ ≡ spa₂) × (i ≡ j))
 
 -- The same of two R1 requests accepted under one R0-Key: exactly when AD-IDs, AN-IDs, SPAs and the iteration agree
@@ -28,7 +28,7 @@ abbrev pub R1Apart : Type 0
 R1Apart =
     (r0 ad₁ ad₂ an₁ an₂ spa₁ spa₂ : List ℕ) (room₁ room₂ i j : ℕ)
     → r1Check r0 ad₁ an₁ spa₁ room₁ ≡ pass → r1Check r0 ad₂ an₂ spa₂ room₂ ≡ pass
-    → KdfBlock i → KdfBlock j
+    → Iteration i → Iteration j
     → (r1Input ad₁ an₁ spa₁ i ≡ r1Input ad₂ an₂ spa₂ j) ↔ ((ad₁ ≡ ad₂) × (an₁ ≡ an₂) × (spa₁ ≡ spa₂) × (i ≡ j))
 
 -- No R0 request and no R1 request hand HMAC the same bytes, whatever their identifiers are: their labels differ

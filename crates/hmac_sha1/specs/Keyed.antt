@@ -2,16 +2,12 @@
 -- Statements.antt says that it is RFC 2104's.
 use mathlib.Core.List.{List}
 use Prim.Native.Nat.{ℕ}
-use Rattle.rfc2104.specs.Keyed.{keyValueBy, hashAfterBy, macByValuesBy}
+use Rattle.rfc2104.specs.Keyed.{keyValueBy, macByValuesBy}
 use Rattle.fips180.specs.Sha1.{compress, H0, digest}
 
 -- the hash value after a key's block XOR a byte repeated, which is ipad's or opad's
 abbrev pub keyValue : List ℕ → ℕ → List ℕ
 keyValue = keyValueBy compress H0 digest
-
--- the hash of a block, of which only the hash value is given, and of what comes after it
-abbrev pub hashAfter : List ℕ → List ℕ → List ℕ
-hashAfter = hashAfterBy compress digest
 
 -- the MAC of a message from the two hash values
 abbrev pub macByValues : List ℕ → List ℕ → List ℕ → List ℕ

@@ -1,15 +1,16 @@
 // HMAC-SHA-1 (RFC 2104). A caller that has many messages under one key keeps the hash values after the key's two blocks in a `Keyed`
-// (section 4), and each message starts with them. One that has a message with its padding compresses it from the inner value, and closes it.
+// (section 4), and each message starts with them.
 ghost use mathlib.Core.Path.{_≡_};
 ghost use Prim.Native.Nat.{_+_, _<_};
 ghost use lib.ListN.{length};
-ghost use Rattle.fips180.specs.Sha1.{sha1, compress, H0, digest};
+ghost use Rattle.fips180.specs.Sha1.{sha1};
 ghost use Rattle.rfc2104.specs.Rfc2104 as Rfc2104;
 ghost use Rattle.rfc2104.specs.Rfc2104.{keyBlock, ipad, opad};
 ghost use Rattle.hmac_sha1.specs.Rfc2104.{hmacSha1};
-ghost use Rattle.hmac_sha1.specs.Keyed.{keyValue, hashAfter, macByValues};
+ghost use Rattle.hmac_sha1.specs.Keyed.{keyValue, macByValues};
 ghost use Rattle.hmac_sha1.specs.Internal.{wordMasked};
-use sha1::Sha1;
+use sha1::BLOCK;
+use sha1::DIGEST;
 
 // The bytes that the key's block is masked with, for the inner hash and for the outer one.
 const IPAD: u8 = 0x36;
@@ -17,10 +18,10 @@ const IPAD: u8 = 0x36;
 const OPAD: u8 = 0x5c;
 
 // A key as a block: one over a block is hashed first.
-fn key_block(key: &[u8]) -> [u8; Sha1::BLOCK]
+fn key_block(key: &[u8]) -> [u8; BLOCK]
     ensures { λ r. ⌜ r ≡ keyBlock sha1 (now (key .entry)) ⌝ }
 {
-    if key.len() <= Sha1::BLOCK {
+    if key.len() <= BLOCK {
         return hmac_block::filled(key);
     }
     let short = sha1::digest(key);
@@ -41,7 +42,7 @@ fn mask_word(block: &mut [u8], i: usize, pad: u8)
 }
 
 // Masks each byte of a block.
-fn mask(block: &mut [u8; Sha1::BLOCK], pad: u8)
+fn mask(block: &mut [u8; BLOCK], pad: u8)
     requires { ⌜ length (now block) ≡ 64 ⌝ }
     ensures { λ _. ⌜ now (block .exit) ≡ Rfc2104.masked (now (block .entry)) pad ⌝ }
 {
@@ -52,53 +53,39 @@ fn mask(block: &mut [u8; Sha1::BLOCK], pad: u8)
 
 // A key as it is kept for many messages: the hash values that the inner and the outer hash start with.
 pub struct Keyed {
-    pub inner: [u32; 5],
+    inner: [u32; 5],
     outer: [u32; 5],
 }
 
 impl Keyed {
-    // The hash values of a key that is given as its block: one of at most 64 bytes, with zeros after it.
-    pub fn of_block(block: [u8; Sha1::BLOCK]) -> Self
-        ensures inner { λ r. ⌜ r .inner ≡ compress H0 (Rfc2104.masked block ipad) ⌝ }
-        ensures outer { λ r. ⌜ r .outer ≡ compress H0 (Rfc2104.masked block opad) ⌝ }
-    {
-        let mut first = block;
-        mask(&mut first, IPAD);
-        let inner = sha1::value_after(&first);
-        let mut second = block;
-        mask(&mut second, OPAD);
-        let outer = sha1::value_after(&second);
-        Keyed { inner, outer }
-    }
-
     // The hash values of a key. The key's block is not kept beside them.
     pub fn new(key: &[u8]) -> Self
         ensures inner { λ r. ⌜ r .inner ≡ keyValue (now (key .entry)) ipad ⌝ }
         ensures outer { λ r. ⌜ r .outer ≡ keyValue (now (key .entry)) opad ⌝ }
     {
-        Keyed::of_block(key_block(key))
+        let block = key_block(key);
+        let mut masked = block;
+        mask(&mut masked, IPAD);
+        let inner = sha1::value_after(&masked);
+        masked = block;
+        mask(&mut masked, OPAD);
+        let outer = sha1::value_after(&masked);
+        Keyed { inner, outer }
     }
 
-    // The MAC of a message, from the last hash value of its inner hash: the outer hash.
-    pub fn close(self, value: [u32; 5]) -> [u8; Sha1::DIGEST]
-        ensures { λ r. ⌜ r ≡ hashAfter (self .outer) (digest value) ⌝ }
-    {
-        let outer = self.outer;
-        Sha1::after(outer).finish_with_digest(value)
-    }
-
-    // The MAC of a message.
-    pub fn mac_of(self, message: &[u8]) -> [u8; Sha1::DIGEST]
+    // The MAC of a message: the outer hash of its inner hash.
+    pub fn mac_of(self, message: &[u8]) -> [u8; DIGEST]
         ensures { λ r. ⌜ r ≡ macByValues (self .inner) (self .outer) (now (message .entry)) ⌝ }
     {
         let inner = self.inner;
-        let value = Sha1::after(inner).value_with(message);
-        self.close(value)
+        let outer = self.outer;
+        let hash = sha1::digest_after(inner, message);
+        sha1::digest_after(outer, &hash)
     }
 }
 
 // The MAC of a message under a key that is used once.
-pub fn mac(key: &[u8], message: &[u8]) -> [u8; Sha1::DIGEST]
+pub fn mac(key: &[u8], message: &[u8]) -> [u8; DIGEST]
     ensures { λ r. ⌜ r ≡ hmacSha1 (now (key .entry)) (now (message .entry)) ⌝ }
 {
     Keyed::new(key).mac_of(message)

@@ -8,18 +8,17 @@ ghost use lib.Seq.{paste};
 ghost use Rattle.slices.specs.Numbers.{be64};
 ghost use Rattle.fips180.specs.Sha1 as Fips180;
 ghost use Rattle.fips180.specs.Internal.{markedBlock};
-ghost use Rattle.sha1.specs.Stream.{progress, started, startedAfter, absorbed, finished, lastValue};
-ghost use Rattle.sha1.specs.Internal.{closing};
+ghost use Rattle.sha1.specs.Stream.{digestAfter};
+ghost use Rattle.sha1.specs.Internal.{closing, digestFrom};
 use sha1_block::compress_blocks;
+
+// The number of bytes in a block, and in a digest.
+pub const BLOCK: usize = 64;
+
+pub const DIGEST: usize = 20;
 
 // The first hash value (5.3.1).
 const H0: [u32; 5] = [0x67452301, 0xefcdab89, 0x98badcfe, 0x10325476, 0xc3d2e1f0];
-
-// A hash in progress that stands at a block's start: the hash value after the blocks absorbed, and their count.
-pub struct Sha1 {
-    h: [u32; 5],
-    blocks: u64,
-}
 
 // Writes `part` into `bytes` from index `at` on.
 fn put(bytes: &mut [u8], at: usize, part: &[u8])
@@ -41,10 +40,10 @@ fn put_digest(bytes: &mut [u8], h: [u32; 5])
 }
 
 // The digest, from the last hash value.
-fn to_bytes(h: [u32; 5]) -> [u8; 20]
+fn to_bytes(h: [u32; 5]) -> [u8; DIGEST]
     ensures { λ r. ⌜ r ≡ Fips180.digest h ⌝ }
 {
-    let mut r: [u8; 20] = [0; 20];
+    let mut r = [0u8; DIGEST];
     put_digest(&mut r, h);
     r
 }
@@ -58,16 +57,6 @@ fn marked(s: &[u8]) -> [u8; 64]
     let mut block: [u8; 64] = [0; 64];
     bytes::copy(&s[rest..], &mut block);
     block[n % 64] = 0x80;
-    block
-}
-
-// The digest of a last hash value, the bit 1 and zeros.
-fn marked_digest(h: [u32; 5]) -> [u8; 64]
-    ensures { λ r. ⌜ r ≡ markedBlock (Fips180.digest h) ⌝ }
-{
-    let mut block: [u8; 64] = [0; 64];
-    put_digest(&mut block, h);
-    block[20] = 0x80;
     block
 }
 
@@ -119,55 +108,22 @@ fn whole(h: [u32; 5], message: &[u8]) -> [u32; 5]
     compress_blocks(h, message)
 }
 
-// The count of the bytes of whole blocks and of n bytes after them, modulo 2^64.
-fn bytes_after(blocks: u64, n: usize) -> u64
-    ensures { λ r. ⌜ r ≡ (64 * blocks % 2 ^ 64 + n) % 2 ^ 64 ⌝ }
+// The digest of `before` bytes in whole blocks, after which the hash value is h, and of a message after them. The bytes are counted modulo 2^64.
+fn digest_from(h: [u32; 5], before: u64, message: &[u8]) -> [u8; DIGEST]
+    requires { ⌜ before % 64 ≡ 0 ⌝ }
+    ensures { λ r. ⌜ r ≡ digestFrom h before (now (message .entry)) ⌝ }
 {
-    std::num::wrapping_add_u64((blocks % 0x400000000000000) * 64, n as u64)
+    let value = whole(h, message);
+    let mut block = marked(message);
+    let count = std::num::wrapping_add_u64(before, message.len() as u64);
+    to_bytes(last_value(value, &mut block, count))
 }
 
-impl Sha1 {
-    pub const BLOCK: usize = 64;
-
-    pub const DIGEST: usize = 20;
-
-    // The hash of nothing yet.
-    pub fn new() -> Self
-        ensures { λ r. ⌜ progress r ≡ started ⌝ }
-    {
-        Sha1 { h: H0, blocks: 0 }
-    }
-
-    // The hash after one block, of which only the hash value is given: HMAC keeps that of a key and starts each message with it.
-    pub fn after(value: [u32; 5]) -> Self
-        ensures { λ r. ⌜ progress r ≡ startedAfter value ⌝ }
-    {
-        Sha1 {
-            h: value,
-            blocks: 1,
-        }
-    }
-
-    // The last hash value of all that was absorbed and of a message after it. HMAC's inner hash hands it to the outer one.
-    pub fn value_with(self, message: &[u8]) -> [u32; 5]
-        ensures { λ r. ⌜ r ≡ lastValue (absorbed (progress self) (now (message .entry))) ⌝ }
-    {
-        let value = self.h;
-        let h = whole(value, message);
-        let mut block = marked(message);
-        let count = bytes_after(self.blocks, message.len());
-        last_value(h, &mut block, count)
-    }
-
-    // The digest of all that was absorbed and of the digest of a last hash value after it: HMAC's outer hash.
-    pub fn finish_with_digest(self, value: [u32; 5]) -> [u8; 20]
-        ensures { λ r. ⌜ r ≡ finished (absorbed (progress self) (Fips180.digest value)) ⌝ }
-    {
-        let h = self.h;
-        let mut block = marked_digest(value);
-        let count = bytes_after(self.blocks, Sha1::DIGEST);
-        to_bytes(compress_last(h, &mut block, count))
-    }
+// The digest of a block, of which only the hash value is given, and of a message after it: HMAC's inner and outer hash.
+pub fn digest_after(value: [u32; 5], message: &[u8]) -> [u8; DIGEST]
+    ensures { λ r. ⌜ r ≡ digestAfter value (now (message .entry)) ⌝ }
+{
+    digest_from(value, 64, message)
 }
 
 // The hash value after the whole blocks of a message, from the first one.
@@ -178,8 +134,8 @@ pub fn value_after(message: &[u8]) -> [u32; 5]
 }
 
 // The hash of a message.
-pub fn digest(message: &[u8]) -> [u8; 20]
+pub fn digest(message: &[u8]) -> [u8; DIGEST]
     ensures { λ r. ⌜ r ≡ Fips180.sha1 (now (message .entry)) ⌝ }
 {
-    to_bytes(Sha1::new().value_with(message))
+    digest_from(H0, 0, message)
 }

@@ -11,8 +11,7 @@ use Rattle.fips180.specs.Window.{window}
 use Rattle.fips180.specs.Statements.{Has}
 use Rattle.fips180.proofs.Sha1Rounds.{round-by-cases}
 use Rattle.fips180.proofs.Window.{window-at}
-use Rattle.sha1_block.specs.Variables.{stepBy}
-use Rattle.sha1_block.specs.Rounds.{runs}
+use Rattle.sha1_block.specs.Internal.{stepBy, runs}
 use Rattle.sha1_block.specs.Statements.{WordInPlace, RoundByWindow}
 
 -- n rounds from round t on, of one function and constant, with the words in the window from place j on

@@ -1,3 +1,2 @@
-pub mod Rounds
-pub mod Variables
 pub mod Statements
+pub mod Internal

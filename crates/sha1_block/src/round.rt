@@ -1,10 +1,10 @@
 // SHA-1's functions (FIPS 180-4, 4.1.1), and the two steps of 6.1.2 that are made of them: a word of the schedule and a round. A round keeps the
-// last five values of the working variable a (specs/Variables.antt): c, d and e are rotated where they are used.
+// last five values of the working variable a (specs/Internal.antt): c, d and e are rotated where they are used.
 ghost use mathlib.Core.Path.{_≡_};
 ghost use Prim.Native.Nat.{_+_, _<_, _%_, _^_};
 ghost use Rattle.fips180.specs.Words as Words;
 ghost use Rattle.fips180.specs.Sha1 as Sha1;
-ghost use Rattle.sha1_block.specs.Variables.{variables, stepBy};
+ghost use Rattle.sha1_block.specs.Internal.{variables, stepBy};
 
 // The rotation of a word to the left by n bits (3.2).
 fn rotl(x: u32, n: u32) -> u32

@@ -1,87 +1,63 @@
-use mathlib.Core.Path.{sym}
-use mathlib.Core.Bool.{_&&_}
+use mathlib.Core.Path.{_≡_, sym, _∙_}
 use native.Mathlib.Omega.{arith}
 use denote.Ref.{now}
 use lib.ListN.{length}
-use Rattle.refusal.specs.Checks.{check6}
+use lib.Seq.{length-take-le}
+use Rattle.refusal.specs.Answers.{checkedAs}
 use Rattle.refusal.proofs.Answering.{passed, refused-so, written-so}
-use Rattle.handover_rules.specs.Handover.{check34, isId, isSpa, r0Check, r0Input, r0Key}
+use Rattle.handover_rules.specs.Handover.{r0Check, r0Input, r0Key, r0Answer, r0Buffer}
 use Rattle.handover_rules.proofs.Accepting.{r0-lengths}
-use Rattle.handover.proofs.Answers.{half-length, room-passed}
-use Rattle.handover.proofs.Derived.{r0-put, r0-is-text, r0-padded, some-bytes}
+use Rattle.handover.proofs.Answers.{r0-tested}
+use Rattle.handover.proofs.Derived.{r0-put}
 use borrow.Author.Needs.{needs}
 use Rattle.handover.proofs.r0_key.Statement.{statement}
 use Rattle.handover.proofs.r0_key.Tie as tie
 
+-- the tests that were made
+tested : (k : tie.After-check-call)
+    → (let a = k .before .before .before .before .before .args in checkedAs (k .check-call .result) ≡ r0Check (now (a .rrk)) (now (a .ad-id)) (now (a .spa)) (length (now (a .out))))
+tested k = r0-tested _ _ _ _ (k .check-call .ensures)
+
 id-requires : tie.Need-id-requires
-unfolding r0Check
-id-requires c κs =
-    let k = c .before .before in
-    let a = k .before .before .before .before .before .args in
-    r0-lengths (now (a .rrk)) (now (a .ad-id)) (now (a .spa)) (length (now (a .out))) (passed (k .check-call .ensures) (c .enum-told .given .1)) .0
+id-requires c κs = r0-lengths _ _ _ _ (passed (tested (c .before .before)) (c .enum-told .given .1)) .1
 
 address-requires : tie.Need-address-requires
-unfolding r0Check
-address-requires c κs =
-    let t = c .before in
-    let k = t .before .before in
-    let a = k .before .before .before .before .before .args in
-    r0-lengths (now (a .rrk)) (now (a .ad-id)) (now (a .spa)) (length (now (a .out))) (passed (k .check-call .ensures) (t .enum-told .given .1)) .1
+address-requires c κs = let t = c .before in r0-lengths _ _ _ _ (passed (tested (t .before .before)) (t .enum-told .given .1)) .2
 
-slice-aggregate-derive : tie.Need-slice-aggregate-derive
-slice-aggregate-derive c =
+slice-aggregate-new : tie.Need-slice-aggregate-new
+slice-aggregate-new c =
     let t = c .before .before .before .before in
     let k = t .before .before in
-    let a = k .before .before .before .before .before .args in
-    sym (half-length (now (a .rrk)) (check34 (isId (now (a .ad-id)) && isSpa (now (a .spa)))) (check6 32 (length (now (a .out)))) (passed (k .check-call .ensures) (t .enum-told .given .1)))
+    let whole = r0-lengths _ _ _ _ (passed (tested k) (t .enum-told .given .1)) .0 in
+    sym (length-take-le 32 (now (k .before .before .before .before .before .args .rrk)) (omega (arith, whole)))
 
 derive-requires : tie.Need-derive-requires
-unfolding r0Check
 derive-requires c κs =
-    let x = c .before .before .before in
-    let s = x .before in
-    let i = s .before in
-    let t = i .before in
-    let k = t .before .before in
-    let a = k .before .before .before .before .before .args in
-    let ad = now (a .ad-id) in
-    let spa = now (a .spa) in
-    let lengths = r0-lengths (now (a .rrk)) ad spa (length (now (a .out))) (passed (k .check-call .ensures) (t .enum-told .given .1)) in
-    let is = r0-is-text ad spa (lengths .0) (lengths .1) in
-    let half = half-length (now (a .rrk)) (check34 (isId ad && isSpa spa)) (check6 32 (length (now (a .out)))) (passed (k .check-call .ensures) (t .enum-told .given .1)) in (
-      omega arith,
-      (
-        some-bytes (r0Input ad spa 1) _ is (r0-padded ad spa (lengths .0) (lengths .1) (i .id .ensures) (s .address .ensures) (x .r0-text .ensures)),
-        room-passed _ 32 _ (passed (k .check-call .ensures) (t .enum-told .given .1)),
-      ),
-    )
+    let t = c .before .before .before .before .before .before .before in
+    (search needs, r0-lengths _ _ _ _ (passed (tested (t .before .before)) (t .enum-told .given .1)) .3)
 
 returns : tie.Need-returns
-unfolding r0Check
-returns c = refused-so 32 _ _ (c .before .before .before .check-call .ensures) (c .before .why .given .1)
+unfolding r0Answer r0Buffer
+returns c = refused-so 32 _ _ (tested (c .before .before .before)) (c .before .why .given .1)
 
 returns-2 : tie.Need-returns-2
-unfolding r0Check
+unfolding r0Answer r0Buffer
 returns-2 c =
     let d = c .before .before .before in
-    let x = d .before .before .before .before in
+    let n = d .before .before .before in
+    let x = n .before .before in
     let s = x .before in
     let i = s .before in
     let t = i .before in
     let k = t .before .before in
     let a = k .before .before .before .before .before .args in
-    let ad = now (a .ad-id) in
-    let spa = now (a .spa) in
-    let lengths = r0-lengths (now (a .rrk)) ad spa (length (now (a .out))) (passed (k .check-call .ensures) (t .enum-told .given .1)) in
-    let out = now (a .out) in
-    written-so 32 (r0Key (now (a .rrk)) ad spa) out (k .check-call .ensures) (t .enum-told .given .1)
-    (r0-put (now (a .rrk)) ad spa out
-    (d .derive .ensures (r0Input ad spa 1) (r0-is-text ad spa (lengths .0) (lengths .1))
-    (r0-padded ad spa (lengths .0) (lengths .1) (i .id .ensures) (s .address .ensures) (x .r0-text .ensures))))
+    let text = x .r0-text .ensures ∙ (λ j. r0Input (i .id .ensures j) (s .address .ensures j) 1) in
+    written-so 32 (r0Key (now (a .rrk)) (now (a .ad-id)) (now (a .spa))) (now (a .out)) (tested k) (t .enum-told .given .1)
+    (r0-put (now (a .rrk)) (now (a .ad-id)) (now (a .spa)) (now (a .out)) (n .new .ensures .0) (n .new .ensures .1) text (d .derive .ensures))
 
 pub r0-key-spec : {M : Type 1} → statement M
 r0-key-spec =
     tie.close
     (tie.spec (λ c κs. search needs) (λ c. search needs) (λ c. search needs) id-requires address-requires
-    (λ c κs. search needs) slice-aggregate-derive (λ c. search needs) derive-requires returns (λ c. search needs)
-    returns-2)
+    (λ c κs. search needs) slice-aggregate-new (λ c κs. search needs) (λ c. search needs) derive-requires returns
+    (λ c. search needs) returns-2)

@@ -1,90 +1,59 @@
-use mathlib.Core.Bool.{_&&_}
-use native.Mathlib.Omega.{arith}
+use mathlib.Core.Path.{_≡_, _∙_}
 use denote.Ref.{now}
 use lib.ListN.{length}
-use Rattle.refusal.specs.Checks.{check6}
+use Rattle.refusal.specs.Answers.{checkedAs}
 use Rattle.refusal.proofs.Answering.{passed, refused-so, written-so}
-use Rattle.handover_rules.specs.Handover.{check34, isId, isSpa, r1Check, r1Input, r1Key}
+use Rattle.handover_rules.specs.Handover.{r1Check, r1Input, r1Key, r1Answer, r1Buffer}
 use Rattle.handover_rules.proofs.Accepting.{r1-lengths}
-use Rattle.handover.proofs.Answers.{key-length, room-passed}
-use Rattle.handover.proofs.Derived.{r1-put, r1-is-text, r1-padded, some-bytes}
+use Rattle.handover.proofs.Answers.{r1-tested}
+use Rattle.handover.proofs.Derived.{r1-put}
 use borrow.Author.Needs.{needs}
 use Rattle.handover.proofs.r1_key.Statement.{statement}
 use Rattle.handover.proofs.r1_key.Tie as tie
 
+-- the tests that were made
+tested : (k : tie.After-check-call)
+    → (let a = k .before .before .before .before .before .before .args in
+    checkedAs (k .check-call .result) ≡ r1Check (now (a .r0-key)) (now (a .ad-id)) (now (a .an-id)) (now (a .spa)) (length (now (a .out))))
+tested k = r1-tested _ _ _ _ _ (k .check-call .ensures)
+
 id-requires : tie.Need-id-requires
-unfolding r1Check
-id-requires c κs =
-    let k = c .before .before in
-    let a = k .before .before .before .before .before .before .args in
-    r1-lengths (now (a .r0-key)) (now (a .ad-id)) (now (a .an-id)) (now (a .spa)) (length (now (a .out))) (passed (k .check-call .ensures) (c .enum-told .given .1)) .0
+id-requires c κs = r1-lengths _ _ _ _ _ (passed (tested (c .before .before)) (c .enum-told .given .1)) .1
 
 id-requires-2 : tie.Need-id-requires-2
-unfolding r1Check
-id-requires-2 c κs =
-    let t = c .before in
-    let k = t .before .before in
-    let a = k .before .before .before .before .before .before .args in
-    r1-lengths (now (a .r0-key)) (now (a .ad-id)) (now (a .an-id)) (now (a .spa)) (length (now (a .out))) (passed (k .check-call .ensures) (t .enum-told .given .1)) .1
+id-requires-2 c κs = let t = c .before in r1-lengths _ _ _ _ _ (passed (tested (t .before .before)) (t .enum-told .given .1)) .2
 
 address-requires : tie.Need-address-requires
-unfolding r1Check
-address-requires c κs =
-    let t = c .before .before in
-    let k = t .before .before in
-    let a = k .before .before .before .before .before .before .args in
-    r1-lengths (now (a .r0-key)) (now (a .ad-id)) (now (a .an-id)) (now (a .spa)) (length (now (a .out))) (passed (k .check-call .ensures) (t .enum-told .given .1)) .2
+address-requires c κs = let t = c .before .before in r1-lengths _ _ _ _ _ (passed (tested (t .before .before)) (t .enum-told .given .1)) .3
 
 derive-requires : tie.Need-derive-requires
-unfolding r1Check
 derive-requires c κs =
-    let x = c .before .before in
-    let s = x .before in
-    let n = s .before in
-    let i = n .before in
-    let t = i .before in
-    let k = t .before .before in
-    let a = k .before .before .before .before .before .before .args in
-    let ad = now (a .ad-id) in
-    let an = now (a .an-id) in
-    let spa = now (a .spa) in
-    let lengths = r1-lengths (now (a .r0-key)) ad an spa (length (now (a .out))) (passed (k .check-call .ensures) (t .enum-told .given .1)) in
-    let is = r1-is-text ad an spa (lengths .0) (lengths .1) (lengths .2) in
-    let key = key-length 32 (now (a .r0-key)) (check34 (isId ad && isId an && isSpa spa)) (check6 32 (length (now (a .out)))) (passed (k .check-call .ensures) (t .enum-told .given .1)) in (
-      omega arith,
-      (
-        some-bytes (r1Input ad an spa 1) _ is (r1-padded ad an spa (lengths .0) (lengths .1) (lengths .2) (i .id .ensures) (n .id2 .ensures) (s .address .ensures) (x .r1-text .ensures)),
-        room-passed _ 32 _ (passed (k .check-call .ensures) (t .enum-told .given .1)),
-      ),
-    )
+    let t = c .before .before .before .before .before .before .before in
+    (search needs, r1-lengths _ _ _ _ _ (passed (tested (t .before .before)) (t .enum-told .given .1)) .4)
 
 returns : tie.Need-returns
-unfolding r1Check
-returns c = refused-so 32 _ _ (c .before .before .before .check-call .ensures) (c .before .why .given .1)
+unfolding r1Answer r1Buffer
+returns c = refused-so 32 _ _ (tested (c .before .before .before)) (c .before .why .given .1)
 
 returns-2 : tie.Need-returns-2
-unfolding r1Check
+unfolding r1Answer r1Buffer
 returns-2 c =
     let d = c .before .before .before in
-    let x = d .before .before .before in
+    let v = d .before .before .before in
+    let x = v .before in
     let s = x .before in
     let n = s .before in
     let i = n .before in
     let t = i .before in
     let k = t .before .before in
     let a = k .before .before .before .before .before .before .args in
-    let ad = now (a .ad-id) in
-    let an = now (a .an-id) in
-    let spa = now (a .spa) in
-    let lengths = r1-lengths (now (a .r0-key)) ad an spa (length (now (a .out))) (passed (k .check-call .ensures) (t .enum-told .given .1)) in
-    let out = now (a .out) in
-    written-so 32 (r1Key (now (a .r0-key)) ad an spa) out (k .check-call .ensures) (t .enum-told .given .1)
-    (r1-put (now (a .r0-key)) ad an spa out
-    (d .derive .ensures (r1Input ad an spa 1) (r1-is-text ad an spa (lengths .0) (lengths .1) (lengths .2))
-    (r1-padded ad an spa (lengths .0) (lengths .1) (lengths .2) (i .id .ensures) (n .id2 .ensures) (s .address .ensures) (x .r1-text .ensures))))
+    let text = x .r1-text .ensures ∙ (λ j. r1Input (i .id .ensures j) (n .id2 .ensures j) (s .address .ensures j) 1) in
+    written-so 32 (r1Key (now (a .r0-key)) (now (a .ad-id)) (now (a .an-id)) (now (a .spa))) (now (a .out)) (tested k) (t .enum-told .given .1)
+    (r1-put (now (a .r0-key)) (now (a .ad-id)) (now (a .an-id)) (now (a .spa)) (now (a .out)) (v .new .ensures .0) (v .new .ensures .1) text (d .derive .ensures))
 
 pub r1-key-spec : {M : Type 1} → statement M
 r1-key-spec =
     tie.close
     (tie.spec (λ c κs. search needs) (λ c. search needs) (λ c. search needs) id-requires id-requires-2 address-requires
-    (λ c κs. search needs) (λ c. search needs) derive-requires returns (λ c. search needs) returns-2)
+    (λ c κs. search needs) (λ c κs. search needs) (λ c. search needs) derive-requires returns (λ c. search needs)
+    returns-2)

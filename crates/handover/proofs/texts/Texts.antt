@@ -1,4 +1,4 @@
--- The texts of the KDF with their padding, as their parts are put in place: the identifiers last to first, so that what stands after each is known.
+-- The texts of the KDF as their parts are put in place: the identifiers last to first, so that what stands after each is known.
 use Prim.Native.Nat.{ℕ, _+_, _-_, _≤_}
 use mathlib.Core.Path.{_≡_, refl, sym, ap, _∙_}
 use mathlib.Core.List.{List, [], _∷_, _++_, append-nil, append-assoc}
@@ -8,7 +8,6 @@ use lib.ListN.{length, take, drop, set, replicate, length-append}
 use lib.Seq.{paste, take-all, take-at, drop-at}
 use Rattle.slices.proofs.Copies.{copied-part}
 use Rattle.slices.specs.Ascii.{ascii}
-use Rattle.fips180.specs.Hash.{padding}
 use Rattle.handover_rules.specs.Kdf.{kdfInput}
 use Rattle.handover_rules.specs.Handover.{r0Label, r1Label, r0Input, r1Input}
 
@@ -36,55 +35,48 @@ part-put n a h z rest s {d} {y} (ed, ld) lh lz ey =
 abbrev head : List ℕ → List ℕ
 head label = 1 ∷ 0 ∷ (label ++ (0 ∷ []))
 
--- what stands after them: 256 in two bytes, and the padding
-abbrev tail : ℕ → List ℕ
-tail n = 0 ∷ 1 ∷ padding n
-
--- the bytes that are written one by one
-abbrev pub r0Marked : List ℕ → List ℕ
-r0Marked t = set (set (set (set t 43 1) 44 0x80) 62 3) 63 0x60
-
-abbrev pub r1Marked : List ℕ → List ℕ
-r1Marked t = set (set (set (set t 59 1) 60 0x80) 126 3) 127 0xe0
+-- what stands after them: 256 in two bytes
+abbrev tail : List ℕ
+tail = 0 ∷ 1 ∷ []
 
 -- the text before an identifier is put in place
-r0-begun : {t : List ℕ} → t ≡ take 20 (head r0Label) ++ drop 20 (replicate 64 0) → Is ((head r0Label ++ replicate 16 0) ++ (replicate 6 0 ++ tail 108)) 64 (r0Marked t)
-unfolding r0Label padding
-r0-begun e = let m = ap r0Marked e in (m, ap length m)
+r0-begun : {t : List ℕ} → t ≡ take 20 (head r0Label) ++ drop 20 (replicate 44 0) → Is ((head r0Label ++ replicate 16 0) ++ (replicate 6 0 ++ tail)) 44 (set t 43 1)
+unfolding r0Label
+r0-begun e = let m = ap (λ (t : List ℕ). set t 43 1) e in (m, ap length m)
 
-r1-begun : {t : List ℕ} → t ≡ take 20 (head r1Label) ++ drop 20 (replicate 128 0)
-    → Is ((head r1Label ++ (replicate 16 0 ++ replicate 16 0)) ++ (replicate 6 0 ++ tail 124)) 128 (r1Marked t)
-unfolding r1Label padding
-r1-begun e = let m = ap r1Marked e in (m, ap length m)
+r1-begun : {t : List ℕ} → t ≡ take 20 (head r1Label) ++ drop 20 (replicate 60 0)
+    → Is ((head r1Label ++ (replicate 16 0 ++ replicate 16 0)) ++ (replicate 6 0 ++ tail)) 60 (set t 59 1)
+unfolding r1Label
+r1-begun e = let m = ap (λ (t : List ℕ). set t 59 1) e in (m, ap length m)
 
 -- z, x and y are what the copies of SPA, AN-ID and AD-ID leave of their parts
-module _ (spa : List ℕ) (ls : length spa ≡ 6) {t z : List ℕ} (et : t ≡ take 20 (head r0Label) ++ drop 20 (replicate 64 0))
-    (ez : z ≡ take (length spa) spa ++ drop (length spa) (take 28 (drop 36 (r0Marked t)))) where
-  pub r0-spa : Is ((head r0Label ++ replicate 16 0) ++ (spa ++ tail 108)) 64 (putMid 36 28 (r0Marked t) z)
+module _ (spa : List ℕ) (ls : length spa ≡ 6) {t z : List ℕ} (et : t ≡ take 20 (head r0Label) ++ drop 20 (replicate 44 0))
+    (ez : z ≡ take (length spa) spa ++ drop (length spa) (take 8 (drop 36 (set t 43 1)))) where
+  pub r0-spa : Is ((head r0Label ++ replicate 16 0) ++ (spa ++ tail)) 44 (putMid 36 8 (set t 43 1) z)
   unfolding r0Label
-  r0-spa = part-put 28 36 (head r0Label ++ replicate 16 0) (replicate 6 0) (tail 108) spa (r0-begun et) refl (sym ls) ez
+  r0-spa = part-put 8 36 (head r0Label ++ replicate 16 0) (replicate 6 0) (tail) spa (r0-begun et) refl (sym ls) ez
 
-  pub r0-laid : (ad : List ℕ) {y : List ℕ} → length ad ≡ 16 → y ≡ take (length ad) ad ++ drop (length ad) (take 44 (drop 20 (putMid 36 28 (r0Marked t) z)))
-      → putMid 20 44 (putMid 36 28 (r0Marked t) z) y ≡ r0Input ad spa 1 ++ padding 108
+  pub r0-laid : (ad : List ℕ) {y : List ℕ} → length ad ≡ 16 → y ≡ take (length ad) ad ++ drop (length ad) (take 24 (drop 20 (putMid 36 8 (set t 43 1) z)))
+      → putMid 20 24 (putMid 36 8 (set t 43 1) z) y ≡ r0Input ad spa 1
   unfolding r0Input kdfInput r0Label
-  r0-laid ad la ey = part-put 44 20 (head r0Label) (replicate 16 0) (spa ++ tail 108) ad r0-spa refl (sym la) ey .0 ∙ simp append-assoc
+  r0-laid ad la ey = part-put 24 20 (head r0Label) (replicate 16 0) (spa ++ tail) ad r0-spa refl (sym la) ey .0 ∙ simp append-assoc
 
-module _ (spa : List ℕ) (ls : length spa ≡ 6) {t z : List ℕ} (et : t ≡ take 20 (head r1Label) ++ drop 20 (replicate 128 0))
-    (ez : z ≡ take (length spa) spa ++ drop (length spa) (take 76 (drop 52 (r1Marked t)))) where
-  pub r1-spa : Is ((head r1Label ++ (replicate 16 0 ++ replicate 16 0)) ++ (spa ++ tail 124)) 128 (putMid 52 76 (r1Marked t) z)
+module _ (spa : List ℕ) (ls : length spa ≡ 6) {t z : List ℕ} (et : t ≡ take 20 (head r1Label) ++ drop 20 (replicate 60 0))
+    (ez : z ≡ take (length spa) spa ++ drop (length spa) (take 8 (drop 52 (set t 59 1)))) where
+  pub r1-spa : Is ((head r1Label ++ (replicate 16 0 ++ replicate 16 0)) ++ (spa ++ tail)) 60 (putMid 52 8 (set t 59 1) z)
   unfolding r1Label
-  r1-spa = part-put 76 52 (head r1Label ++ (replicate 16 0 ++ replicate 16 0)) (replicate 6 0) (tail 124) spa (r1-begun et) refl (sym ls) ez
+  r1-spa = part-put 8 52 (head r1Label ++ (replicate 16 0 ++ replicate 16 0)) (replicate 6 0) (tail) spa (r1-begun et) refl (sym ls) ez
 
   module _ (an : List ℕ) (ln : length an ≡ 16) {x : List ℕ}
-      (ex : x ≡ take (length an) an ++ drop (length an) (take 92 (drop 36 (putMid 52 76 (r1Marked t) z)))) where
-    pub r1-an : Is ((head r1Label ++ replicate 16 0) ++ (an ++ (spa ++ tail 124))) 128 (putMid 36 92 (putMid 52 76 (r1Marked t) z) x)
+      (ex : x ≡ take (length an) an ++ drop (length an) (take 24 (drop 36 (putMid 52 8 (set t 59 1) z)))) where
+    pub r1-an : Is ((head r1Label ++ replicate 16 0) ++ (an ++ (spa ++ tail))) 60 (putMid 36 24 (putMid 52 8 (set t 59 1) z) x)
     unfolding r1Label
-    r1-an = part-put 92 36 (head r1Label ++ replicate 16 0) (replicate 16 0) (spa ++ tail 124) an r1-spa refl (sym ln) ex
+    r1-an = part-put 24 36 (head r1Label ++ replicate 16 0) (replicate 16 0) (spa ++ tail) an r1-spa refl (sym ln) ex
 
-    pub r1-laid : (ad : List ℕ) {y : List ℕ} → length ad ≡ 16 → y ≡ take (length ad) ad ++ drop (length ad) (take 108 (drop 20 (putMid 36 92 (putMid 52 76 (r1Marked t) z) x)))
-        → putMid 20 108 (putMid 36 92 (putMid 52 76 (r1Marked t) z) x) y ≡ r1Input ad an spa 1 ++ padding 124
+    pub r1-laid : (ad : List ℕ) {y : List ℕ} → length ad ≡ 16 → y ≡ take (length ad) ad ++ drop (length ad) (take 40 (drop 20 (putMid 36 24 (putMid 52 8 (set t 59 1) z) x)))
+        → putMid 20 40 (putMid 36 24 (putMid 52 8 (set t 59 1) z) x) y ≡ r1Input ad an spa 1
     unfolding r1Input kdfInput r1Label
-    r1-laid ad la ey = part-put 108 20 (head r1Label) (replicate 16 0) (an ++ (spa ++ tail 124)) ad r1-an refl (sym la) ey .0 ∙ simp append-assoc
+    r1-laid ad la ey = part-put 40 20 (head r1Label) (replicate 16 0) (an ++ (spa ++ tail)) ad r1-an refl (sym la) ey .0 ∙ simp append-assoc
 
 -- ---- the name
 

@@ -10,7 +10,7 @@ use Rattle.fips180.specs.Words.{ROTL, Ch, Maj}
 use Rattle.fips180.specs.Sha1.{Parity, T, step}
 use Rattle.fips180.proofs.Bits.{xor, xor-assoc, one-and-ch, sum-maj}
 use Rattle.fips180.proofs.Rotations.{left-lt, left-xor, left-and}
-use Rattle.sha1_block.specs.Variables.{variables}
+use Rattle.sha1_block.specs.Internal.{variables}
 
 module _ (x y z : ℕ) (hx : x < 2 ^ 32) (hy : y < 2 ^ 32) (hz : z < 2 ^ 32) where
   pub rotated-ch : {p q : ℕ} → p ≡ ROTL 30 z → q ≡ ROTL 30 (bitXor y z) → bitXor p (bitAnd x q) ≡ Ch x (ROTL 30 y) (ROTL 30 z)

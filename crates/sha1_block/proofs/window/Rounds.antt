@@ -4,8 +4,7 @@ use mathlib.Core.List.{List}
 use Prim.Native.Nat.{ℕ, _+_}
 use native.Mathlib.Nat.{add-zero}
 use lib.ListN.{getD}
-use Rattle.sha1_block.specs.Variables.{stepBy}
-use Rattle.sha1_block.specs.Rounds.{runs}
+use Rattle.sha1_block.specs.Internal.{stepBy, runs}
 
 module _ (f : ℕ → ℕ → ℕ → ℕ) (k : ℕ) (w : List ℕ) where
   pub four : (j : ℕ) (s : List ℕ) {p q r t : List ℕ} → p ≡ stepBy f k (getD w j 0) s → q ≡ stepBy f k (getD w (j + 1) 0) p

@@ -36,6 +36,6 @@ pub r0-text-spec : {M : Type 1} → statement M
 r0-text-spec =
     tie.close
     (tie.spec (λ c. search needs) (λ c. search needs) (λ c κs. search needs) (λ c. search needs) (λ c. search needs)
-    (λ c. search needs) (λ c. search needs) (λ c. search needs) (λ c. search needs) (λ c. search needs) part-text-end
+    (λ c. search needs) (λ c. search needs) part-text-end
     (λ c κs. search needs) (λ c. search needs) (λ c. search needs) (λ c. search needs) part-text-end-2
     (λ c κs. search needs) returns)

@@ -48,7 +48,7 @@ pub r1-text-spec : {M : Type 1} → statement M
 r1-text-spec =
     tie.close
     (tie.spec (λ c. search needs) (λ c. search needs) (λ c κs. search needs) (λ c. search needs) (λ c. search needs)
-    (λ c. search needs) (λ c. search needs) (λ c. search needs) (λ c. search needs) (λ c. search needs) part-text-end
+    (λ c. search needs) (λ c. search needs) part-text-end
     (λ c κs. search needs) (λ c. search needs) (λ c. search needs) (λ c. search needs) part-text-end-2
     (λ c κs. search needs) (λ c. search needs) (λ c. search needs) (λ c. search needs) part-text-end-3
     (λ c κs. search needs) returns)

@@ -1,6 +1,6 @@
 use mathlib.Core.List.{[], _∷_}
 use lib.ListN.{getD}
-use Rattle.sha1_block.specs.Variables.{variables}
+use Rattle.sha1_block.specs.Internal.{variables}
 use borrow.Author.Needs.{needs}
 use Rattle.sha1_block.proofs.round.variables_of.Statement.{statement}
 use Rattle.sha1_block.proofs.round.variables_of.Tie as tie

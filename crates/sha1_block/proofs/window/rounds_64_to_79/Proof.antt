@@ -1,9 +1,8 @@
 -- `sha1_block::window::rounds_64_to_79` meets its contract: four rounds after four.
 use mathlib.Core.Path.{_≡_}
-use Rattle.sha1_block.specs.Variables.{variables}
+use Rattle.sha1_block.specs.Internal.{variables, runs}
 use denote.Ref.{now}
 use Rattle.fips180.specs.Sha1.{Parity}
-use Rattle.sha1_block.specs.Rounds.{runs}
 use Rattle.sha1_block.proofs.window.Rounds.{more}
 use borrow.Author.Needs.{needs}
 use Rattle.sha1_block.proofs.window.rounds_64_to_79.Statement.{statement}
