@@ -102,7 +102,8 @@ module _ (f s ones others : List ℕ) (a b d : ℕ) (k : Counted f s ones others
       let t = k .told in
       (omega (arith, k .one, count-few 1 ones (countIn f)), omega (arith, k .two, count-few 2 ones (countIn f)), omega (arith, k .three, count-few 3 others (countIn s)))
 
-  tally : _≡_ {A = Tally} (record { onlyFirst = a; changed = b; onlySecond = d }) (record { onlyFirst = countKind 1 (entriesIn f s); changed = countKind 2 (entriesIn f s); onlySecond = countKind 3 (entriesIn f s) })
+  tally : _≡_ {A = Tally} (record { onlyFirst = a; changed = b; onlySecond = d })
+      (record { onlyFirst = countKind 1 (entriesIn f s); changed = countKind 2 (entriesIn f s); onlySecond = countKind 3 (entriesIn f s) })
   tally =
       λ i. record {
         onlyFirst = (k .one ∙ counted-first f s ones others (k .told) 1 (λ e. omega (arith, e)) (λ e. omega (arith, e))) i;

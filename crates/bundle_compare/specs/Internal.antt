@@ -7,7 +7,7 @@ use lib.Dec.{eqb, ltb}
 use lib.ListN.{getD}
 use Rattle.slices.specs.Same.{sameList}
 use Rattle.bundle_rules.specs.Bundle.{Line, lineAt, countIn, linesIn, bodyOf}
-use Rattle.compare_rules.specs.Compare.{Found, missing, found, Entry, listed}
+use Rattle.compare_rules.specs.Compare.{Found, missing, found, Entry, listed, written}
 
 -- ---- the kind of a line
 
@@ -48,3 +48,7 @@ countTo k kinds (suc n) = countTo k kinds n + cond (eqb (getD kinds n 0) k) 1 0
 unfoldable pub entriesTo : List ℕ → List ℕ → ℕ → List Entry
 entriesTo kinds f zero = []
 entriesTo kinds f (suc n) = entriesTo kinds f n ++ listed (getD kinds n 0) (lineAt f n .id) []
+
+-- the bytes of those of all its lines
+abbrev pub bytesOf : List ℕ → List ℕ → List ℕ
+bytesOf kinds f = written (entriesTo kinds f (countIn f))

@@ -10,7 +10,7 @@ ghost use Rattle.refusal.specs.Answers.{checkedAs};
 ghost use Rattle.bundle_rules.specs.Bundle.{countIn, bundleCheck};
 ghost use Rattle.compare_rules.specs.Compare.{listed, written, compareAnswer, compareBuffer, compareCounts};
 ghost use Rattle.bundle_compare.specs.Answers.{answerIn, countsIn};
-ghost use Rattle.bundle_compare.specs.Internal.{countTo, entriesTo};
+ghost use Rattle.bundle_compare.specs.Internal.{countTo, bytesOf};
 
 mod kinds; // the kinds of the lines of two bundles
 mod lines; // the lines of a bundle
@@ -85,9 +85,9 @@ fn put_entry(kind: u8, id: &[u8], at: usize, out: &mut [u8]) -> usize
 fn put_entries(file: &[u8], kinds: &[u8], from: usize, out: &mut [u8]) -> usize
     requires { ⌜ bundleCheck (now file) ≡ pass ⌝ }
     requires { ⌜ countIn (now file) ≤ length (now kinds) ⌝ }
-    requires { ⌜ from + length (written (entriesTo (now kinds) (now file) (countIn (now file)))) ≤ length (now out) ⌝ }
-    ensures end { λ r. ⌜ r ≡ from + length (written (entriesTo (now (kinds .entry)) (now (file .entry)) (countIn (now (file .entry))))) ⌝ }
-    ensures buffer { λ r. ⌜ now (out .exit) ≡ take from (now (out .entry)) ++ (written (entriesTo (now (kinds .entry)) (now (file .entry)) (countIn (now (file .entry)))) ++ drop r (now (out .entry))) ⌝ }
+    requires { ⌜ from + length (bytesOf (now kinds) (now file)) ≤ length (now out) ⌝ }
+    ensures end { λ r. ⌜ r ≡ from + length (bytesOf (now (kinds .entry)) (now (file .entry))) ⌝ }
+    ensures buffer { λ r. ⌜ now (out .exit) ≡ take from (now (out .entry)) ++ (bytesOf (now (kinds .entry)) (now (file .entry)) ++ drop r (now (out .entry))) ⌝ }
 {
     let n = count(file);
     let mut place = from;

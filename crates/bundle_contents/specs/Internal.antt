@@ -1,5 +1,5 @@
 -- What only the contracts of private functions need. Nothing here has to be believed.
-use Prim.Native.Nat.{ℕ, _+_, _*_, _≤_, _<_}
+use Prim.Native.Nat.{ℕ, _+_, _≤_, _<_}
 use mathlib.Core.List.{List, [], _∷_}
 use lib.ListN.{length, getD}
 use Rattle.slices.specs.Numbers.{fromBe32}

@@ -77,15 +77,19 @@ put-entries-requires : tie.Need-put-entries-requires
 put-entries-requires c κs =
     let k = counted (c .before .before .before) in
     let t = k .told in
-    (t .first-passes, (omega arith, omega (arith, c .before .before .if1 .left, bytes-long _ _ _ _ _ _ _ k)))
+    let p = t .first-passes in
+    let q = t .second-passes in
+    (search needs, (omega arith, omega (arith, c .before .before .if1 .left, bytes-long _ _ _ _ _ _ _ k)))
 
 put-entries-requires-2 : tie.Need-put-entries-requires-2
 put-entries-requires-2 c κs =
     let k = counted (c .before .before .before .before .before .before .before .before) in
     let t = k .told in
+    let p = t .first-passes in
+    let q = t .second-passes in
     let e = c .before .before .before .before .put-entries .ensures in
     let z = bytes-long _ _ _ _ _ _ _ k in
-    (t .second-passes, (omega arith, omega (arith, c .before .before .before .before .before .before .before .if1 .left, e .0)))
+    (search needs, (omega arith, omega (arith, c .before .before .before .before .before .before .before .if1 .left, e .0)))
 
 returns-2 : tie.Need-returns-2
 returns-2 c = compare-refused _ _ _ (refused-early _ _ _ (sym (c .before .before .before .check-both .ensures) ∙ ap checkedAs (c .before .why .given .1)))

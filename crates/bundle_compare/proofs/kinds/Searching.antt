@@ -8,8 +8,7 @@ use borrow.Author.Tests.{lt-ltb, le-ltb}
 use Rattle.slices.specs.Same.{sameList}
 use Rattle.bundle_rules.specs.Bundle.{lineAt, linesFrom, countIn, bodyOf}
 use Rattle.bundle_contents.proofs.Contents.{lines-next, lines-done}
-use Rattle.compare_rules.specs.Compare.{missing, found}
-use Rattle.bundle_compare.specs.Internal.{placeOf, placeIn, foundAt, kindBy, kindAt}
+use Rattle.bundle_compare.specs.Internal.{placeOf, placeIn, foundAt, kindAt}
 
 -- a test of line j that came to b: the loop has found the Key ID, or goes on
 pub place-on : (f id own : List ℕ) (j n : ℕ) {whole : ℕ} {r b : Bool} → j < n → own ≡ lineAt f j .id → r ≡ sameList own id → r ≡ b

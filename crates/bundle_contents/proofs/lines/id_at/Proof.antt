@@ -1,4 +1,3 @@
-use denote.Ref.{now}
 use Rattle.bundle_contents.proofs.Contents.{id-told}
 use borrow.Author.Needs.{needs}
 use Rattle.bundle_contents.proofs.lines.id_at.Statement.{statement}
