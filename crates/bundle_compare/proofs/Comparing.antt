@@ -1,23 +1,21 @@
 -- What the comparison answers and leaves, where the kinds of the lines of both files stand in two lists.
-use Prim.Native.Nat.{ℕ, _+_, _*_, _≤_, _<_, min}
+use Prim.Native.Nat.{ℕ, _+_, _*_, _≤_, _<_}
 use mathlib.Core.Path.{_≡_, refl, sym, ap, _∙_}
 use mathlib.Core.List.{List, _++_}
-use native.Mathlib.Nat.{min-eq-left}
 use native.Mathlib.Omega.{arith}
 use borrow.Author.Tests.{le-leb, lt-leb}
 use lib.ListN.{length, take, drop, length-append, length-drop}
-use Rattle.refusal.specs.Checks.{Reason, Check, pass, refuse, bare, unless, _andThen_}
-use Rattle.refusal.specs.Answers.{returned, refused, bufferAfter}
-use Rattle.refusal.proofs.Passing.{before-passed, last-passed, both-pass, first-refuses, second-decides}
+use Rattle.refusal.specs.Checks.{Reason, pass, refuse, bare, unless, _andThen_}
+use Rattle.refusal.specs.Answers.{returned, refused}
+use Rattle.refusal.proofs.Passing.{both-pass, first-refuses, second-decides}
 use Rattle.key_frame.proofs.Parts.{next-part}
 use Rattle.bundle_rules.specs.Bundle.{countIn, bodiesOf, bundleCheck}
 use Rattle.bundle_rules.proofs.Reading.{contents}
 use Rattle.compare_rules.specs.Compare.{entries, firstEntries, secondEntries, written, countKind, entriesIn, entriesLength, compareCheck, compareAnswer, compareBuffer, Tally, compareCounts}
 use Rattle.compare_rules.specs.Statements.{total}
-use Rattle.compare_rules.specs.Places.{firstKind, secondKind, kindsTo, firstKinds, secondKinds}
-use Rattle.compare_rules.proofs.Places.{kinds-long}
 use Rattle.compare_rules.proofs.Counting.{fit-entries, all-counted, written-size}
-use Rattle.bundle_compare.specs.Internal.{countTo, entriesTo}
+use Rattle.bundle_compare.specs.Internal.{kindAt, kindsTo, countTo, entriesTo}
+use Rattle.bundle_compare.proofs.Places.{kinds-long}
 use Rattle.bundle_compare.proofs.Entries.{written-append}
 use Rattle.bundle_compare.proofs.Tallying.{count-few, count-append, count-entries, first-no-3, second-none}
 use Rattle.bundle_compare.proofs.Listing.{first-list, second-list}
@@ -32,12 +30,8 @@ pub record Told (f s ones others : List ℕ) : Type 0 where
   pub second-few : countIn s ≤ 64
   pub ones-long : length ones ≡ 64
   pub others-long : length others ≡ 64
-  pub first-kinds : ones ≡ kindsTo (firstKind f s) (countIn f) ++ after-ones
-  pub second-kinds : others ≡ kindsTo (secondKind f s) (countIn s) ++ after-others
-
--- what was put into an array that had room
-kinds-put : (c : Check) (kind : ℕ → ℕ) (n : ℕ) (l : List ℕ) {kinds : List ℕ} → c ≡ pass → n ≤ length l → kinds ≡ bufferAfter c n (kindsTo kind (min n (length l))) l → kinds ≡ kindsTo kind n ++ drop n l
-kinds-put c kind n l e h p = p ∙ rw (e, min-eq-left h)
+  pub first-kinds : ones ≡ kindsTo (kindAt 1 2 f s) (countIn f) ++ after-ones
+  pub second-kinds : others ≡ kindsTo (kindAt 3 0 s f) (countIn s) ++ after-others
 
 kinds-size : (kind : ℕ → ℕ) (n : ℕ) (l : List ℕ) {kinds : List ℕ} → n ≤ length l → kinds ≡ kindsTo kind n ++ drop n l → length kinds ≡ length l
 kinds-size kind n l h e =
@@ -45,27 +39,24 @@ kinds-size kind n l h e =
     let d = length-drop n l in
     ap length e ∙ length-append (kindsTo kind n) (drop n l) ∙ omega arith
 
--- what `find_kinds` ensures of two arrays of 64, where it passes
-pub told-by : (f s l m ones others : List ℕ) → length l ≡ 64 → length m ≡ 64 → (bundleCheck f andThen bundleCheck s) ≡ pass
-    → ones ≡ bufferAfter (bundleCheck f andThen bundleCheck s) (countIn f) (firstKinds f s (length l)) l
-    → others ≡ bufferAfter (bundleCheck f andThen bundleCheck s) (countIn s) (secondKinds f s (length m)) m
+-- what `put_kinds` ensures of two arrays of 64
+pub told-by : (f s l l′ ones others : List ℕ) (n n′ : ℕ) → length l ≡ 64 → length l′ ≡ 64 → bundleCheck f ≡ pass → bundleCheck s ≡ pass
+    → (n ≡ countIn f) × (ones ≡ kindsTo (kindAt 1 2 f s) n ++ drop n l) → (n′ ≡ countIn s) × (others ≡ kindsTo (kindAt 3 0 s f) n′ ++ drop n′ l′)
     → Told f s ones others
-told-by f s l m ones others h h′ e a b =
-    let p = before-passed (bundleCheck f) (bundleCheck s) e in
-    let q = last-passed (bundleCheck f) (bundleCheck s) e in
+told-by f s l l′ ones others n n′ h h′ p q a b =
     let few = contents f p .high in
     let few′ = contents s q .high in
-    let ones-are = kinds-put _ (firstKind f s) (countIn f) l e (omega arith) a in
-    let others-are = kinds-put _ (secondKind f s) (countIn s) m e (omega arith) b in
+    let ones-are = rw (a .0) at (a .1) in
+    let others-are = rw (b .0) at (b .1) in
     record {
       first-passes = p;
       second-passes = q;
       after-ones = drop (countIn f) l;
-      after-others = drop (countIn s) m;
+      after-others = drop (countIn s) l′;
       first-few = few;
       second-few = few′;
-      ones-long = kinds-size (firstKind f s) (countIn f) l (omega arith) ones-are ∙ h;
-      others-long = kinds-size (secondKind f s) (countIn s) m (omega arith) others-are ∙ h′;
+      ones-long = kinds-size (kindAt 1 2 f s) (countIn f) l (omega arith) ones-are ∙ h;
+      others-long = kinds-size (kindAt 3 0 s f) (countIn s) l′ (omega arith) others-are ∙ h′;
       first-kinds = ones-are;
       second-kinds = others-are;
     }
@@ -111,7 +102,8 @@ module _ (f s ones others : List ℕ) (a b d : ℕ) (k : Counted f s ones others
       let t = k .told in
       (omega (arith, k .one, count-few 1 ones (countIn f)), omega (arith, k .two, count-few 2 ones (countIn f)), omega (arith, k .three, count-few 3 others (countIn s)))
 
-  tally : _≡_ {A = Tally} (record { onlyFirst = a; changed = b; onlySecond = d }) (record { onlyFirst = countKind 1 (entriesIn f s); changed = countKind 2 (entriesIn f s); onlySecond = countKind 3 (entriesIn f s) })
+  tally : _≡_ {A = Tally} (record { onlyFirst = a; changed = b; onlySecond = d })
+      (record { onlyFirst = countKind 1 (entriesIn f s); changed = countKind 2 (entriesIn f s); onlySecond = countKind 3 (entriesIn f s) })
   tally =
       λ i. record {
         onlyFirst = (k .one ∙ counted-first f s ones others (k .told) 1 (λ e. omega (arith, e)) (λ e. omega (arith, e))) i;

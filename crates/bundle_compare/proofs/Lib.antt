@@ -1,3 +1,5 @@
+mod Accepted
+mod Places
 mod Entries
 mod Tallying
 mod Listing

@@ -10,11 +10,10 @@ use lib.Dec.{eqb}
 use lib.ListN.{getD}
 use Rattle.refusal.specs.Checks.{pass}
 use Rattle.bundle_rules.specs.Bundle.{lineAt, linesFrom, countIn, bodyOf, bodiesOf, bundleCheck}
-use Rattle.bundle_contents.proofs.Walking.{lines-done}
+use Rattle.bundle_contents.proofs.Contents.{lines-done}
 use Rattle.compare_rules.specs.Compare.{Entry, listed, firstEntries, secondEntries}
-use Rattle.compare_rules.specs.Places.{firstKind, secondKind, kindsTo}
-use Rattle.compare_rules.proofs.Places.{first-next, second-next, kind-told}
-use Rattle.bundle_compare.specs.Internal.{entriesTo}
+use Rattle.bundle_compare.specs.Internal.{kindAt, kindsTo, entriesTo}
+use Rattle.bundle_compare.proofs.Places.{first-next, second-next, kind-told}
 
 -- ---- the entries of the first lines, and of those after them
 
@@ -60,10 +59,10 @@ list-of f kinds kind of next none rest e =
     ∙ rw (sub-zero (countIn f))
 
 module _ (f s : List ℕ) (p : bundleCheck f ≡ pass) (q : bundleCheck s ≡ pass) (kinds : List ℕ) where
-  pub first-list : (rest : List ℕ) → kinds ≡ kindsTo (firstKind f s) (countIn f) ++ rest → entriesTo kinds f (countIn f) ≡ firstEntries (bodiesOf s) (bodiesOf f)
+  pub first-list : (rest : List ℕ) → kinds ≡ kindsTo (kindAt 1 2 f s) (countIn f) ++ rest → entriesTo kinds f (countIn f) ≡ firstEntries (bodiesOf s) (bodiesOf f)
   unfolding firstEntries
-  first-list = list-of f kinds (firstKind f s) (firstEntries (bodiesOf s)) (λ i h. first-next f s i p q h) refl
+  first-list = list-of f kinds (kindAt 1 2 f s) (firstEntries (bodiesOf s)) (λ i h. first-next f s i p q h) refl
 
-  pub second-list : (rest : List ℕ) → kinds ≡ kindsTo (secondKind f s) (countIn s) ++ rest → entriesTo kinds s (countIn s) ≡ secondEntries (bodiesOf f) (bodiesOf s)
+  pub second-list : (rest : List ℕ) → kinds ≡ kindsTo (kindAt 3 0 s f) (countIn s) ++ rest → entriesTo kinds s (countIn s) ≡ secondEntries (bodiesOf f) (bodiesOf s)
   unfolding secondEntries
-  second-list = list-of s kinds (secondKind f s) (secondEntries (bodiesOf f)) (λ i h. second-next f s i p q h) refl
+  second-list = list-of s kinds (kindAt 3 0 s f) (secondEntries (bodiesOf f)) (λ i h. second-next f s i p q h) refl

@@ -1,4 +1,2 @@
-mod Lines
-pub mod Telling
+mod Searching
 mod Filling
-mod Finding

@@ -5,16 +5,20 @@ ghost use mathlib.Core.List.{[], _++_};
 ghost use Prim.Native.Nat.{_+_, _≤_};
 ghost use lib.Dec.{eqb};
 ghost use lib.ListN.{length, take, drop};
-ghost use Rattle.refusal.specs.Checks.{pass};
+ghost use Rattle.refusal.specs.Checks.{pass, _andThen_};
+ghost use Rattle.refusal.specs.Answers.{checkedAs};
 ghost use Rattle.bundle_rules.specs.Bundle.{countIn, bundleCheck};
 ghost use Rattle.compare_rules.specs.Compare.{listed, written, compareAnswer, compareBuffer, compareCounts};
 ghost use Rattle.bundle_compare.specs.Answers.{answerIn, countsIn};
-ghost use Rattle.bundle_compare.specs.Internal.{countTo, entriesTo};
+ghost use Rattle.bundle_compare.specs.Internal.{countTo, bytesOf};
 
 mod kinds; // the kinds of the lines of two bundles
+mod lines; // the lines of a bundle
 
-use crate::kinds::find_kinds;
-use bundle_contents::number_at;
+use crate::kinds::put_kinds;
+use crate::lines::count;
+use crate::lines::id_at;
+use bundle_contents::check_bundle;
 use refusal::Checked;
 use refusal::Refusal;
 
@@ -29,6 +33,16 @@ pub struct Counts {
 pub enum Compared {
     Listed(Counts),
     Refused(Refusal),
+}
+
+// The tests of both files but that of the room, the first file's before the second's.
+fn check_both(first: &[u8], second: &[u8]) -> Checked
+    ensures { λ r. ⌜ checkedAs r ≡ (bundleCheck (now (first .entry)) andThen bundleCheck (now (second .entry))) ⌝ }
+{
+    match check_bundle(first) {
+        Checked::Failed(why) => Checked::Failed(why),
+        Checked::Passed => check_bundle(second),
+    }
 }
 
 // 1 where a kind is the wanted one, else 0.
@@ -71,17 +85,15 @@ fn put_entry(kind: u8, id: &[u8], at: usize, out: &mut [u8]) -> usize
 fn put_entries(file: &[u8], kinds: &[u8], from: usize, out: &mut [u8]) -> usize
     requires { ⌜ bundleCheck (now file) ≡ pass ⌝ }
     requires { ⌜ countIn (now file) ≤ length (now kinds) ⌝ }
-    requires { ⌜ from + length (written (entriesTo (now kinds) (now file) (countIn (now file)))) ≤ length (now out) ⌝ }
-    ensures end { λ r. ⌜ r ≡ from + length (written (entriesTo (now (kinds .entry)) (now (file .entry)) (countIn (now (file .entry))))) ⌝ }
-    ensures buffer { λ r. ⌜ now (out .exit) ≡ take from (now (out .entry)) ++ (written (entriesTo (now (kinds .entry)) (now (file .entry)) (countIn (now (file .entry)))) ++ drop r (now (out .entry))) ⌝ }
+    requires { ⌜ from + length (bytesOf (now kinds) (now file)) ≤ length (now out) ⌝ }
+    ensures end { λ r. ⌜ r ≡ from + length (bytesOf (now (kinds .entry)) (now (file .entry))) ⌝ }
+    ensures buffer { λ r. ⌜ now (out .exit) ≡ take from (now (out .entry)) ++ (bytesOf (now (kinds .entry)) (now (file .entry)) ++ drop r (now (out .entry))) ⌝ }
 {
-    let n = number_at(file, 0);
+    let n = count(file);
     let mut place = from;
     let mut i = 0;
     while i < n {
-        let at = 2 + 20 * i;
-        let end = at + 16;
-        place = put_entry(kinds[i], &file[at..end], place, out);
+        place = put_entry(kinds[i], id_at(file, i), place, out);
         i += 1;
     }
     place
@@ -93,15 +105,16 @@ pub fn compare_bundles(first: &[u8], second: &[u8], out: &mut [u8]) -> Compared
     ensures counts { λ r. ⌜ countsIn r ≡ compareCounts (now (first .entry)) (now (second .entry)) (length (now (out .entry))) ⌝ }
     ensures buffer { λ _. ⌜ now (out .exit) ≡ compareBuffer (now (first .entry)) (now (second .entry)) (now (out .entry)) ⌝ }
 {
-    let mut of_first = [0u8; 64];
-    let mut of_second = [0u8; 64];
-    match find_kinds(first, second, &mut of_first, &mut of_second) {
+    match check_both(first, second) {
         Checked::Failed(why) => Compared::Refused(why),
         Checked::Passed => {
-            let n = number_at(first, 0);
+            let mut of_first = [0u8; 64];
+            let mut of_second = [0u8; 64];
+            let n = put_kinds(first, second, 1, 2, &mut of_first);
+            let m = put_kinds(second, first, 3, 0, &mut of_second);
             let only_first = count_kind(&of_first, n, 1);
             let changed = count_kind(&of_first, n, 2);
-            let only_second = count_kind(&of_second, number_at(second, 0), 3);
+            let only_second = count_kind(&of_second, m, 3);
             let size = (17 * (only_first + changed + only_second)) as usize;
             if out.len() < size {
                 return Compared::Refused(Refusal::Room);

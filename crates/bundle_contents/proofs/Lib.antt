@@ -1,4 +1,4 @@
-pub mod Walking
-pub mod Bodies
-pub mod Tests
-pub mod Numbers
+pub mod Contents
+mod Walking
+mod Bodies
+mod Tests

@@ -1,2 +1,1 @@
-pub mod IdsInternal
 pub mod Internal

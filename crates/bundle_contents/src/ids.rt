@@ -3,7 +3,7 @@ ghost use mathlib.Core.Path.{_≡_};
 ghost use Prim.Native.Nat.{_+_, _≤_};
 ghost use lib.ListN.{length};
 ghost use Rattle.slices.specs.Same.{sameList};
-ghost use Rattle.bundle_contents.specs.IdsInternal.{wordAt, BytesAt};
+ghost use Rattle.bundle_contents.specs.Internal.{wordAt, BytesAt};
 use slices::from_be32;
 use slices::same_bytes;
 
@@ -17,16 +17,11 @@ fn word_at(s: &[u8], at: usize) -> u32
 }
 
 // Whether two Key IDs are the same. It stops at the first word that differs, since Key IDs are public; the last word comes first, since IDs that are counted up
-// differ there. Of what is no Key ID, all bytes are compared.
-pub fn same_id(a: &[u8], b: &[u8]) -> bool
+// differ there.
+pub(crate) fn same_words(a: &[u8], b: &[u8]) -> bool
+    requires { ⌜ (length (now a) ≡ 16) × (length (now b) ≡ 16) ⌝ }
     ensures { λ r. ⌜ r ≡ sameList (now (a .entry)) (now (b .entry)) ⌝ }
 {
-    if a.len() != 16 {
-        return same_bytes(a, b);
-    }
-    if b.len() != 16 {
-        return same_bytes(a, b);
-    }
     if word_at(a, 12) != word_at(b, 12) {
         return false;
     }
@@ -37,4 +32,17 @@ pub fn same_id(a: &[u8], b: &[u8]) -> bool
         return false;
     }
     word_at(a, 8) == word_at(b, 8)
+}
+
+// The same for other crates. Any two byte strings are the same or not, so it asks nothing of them: what is no Key ID is compared byte by byte.
+pub fn same_id(a: &[u8], b: &[u8]) -> bool
+    ensures { λ r. ⌜ r ≡ sameList (now (a .entry)) (now (b .entry)) ⌝ }
+{
+    if a.len() != 16 {
+        return same_bytes(a, b);
+    }
+    if b.len() != 16 {
+        return same_bytes(a, b);
+    }
+    same_words(a, b)
 }

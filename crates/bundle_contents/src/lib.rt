@@ -1,37 +1,41 @@
 // The table of contents and the bodies of a bundle (document 02, request 9): the tests of a file that its reader and the comparison of two share.
 ghost use mathlib.Core.Path.{_≡_};
-ghost use Prim.Native.Nat.{_+_, _*_, _-_, _≤_};
+ghost use Prim.Native.Nat.{_-_, _≤_};
 ghost use lib.ListN.{length};
 ghost use Rattle.refusal.specs.Answers.{checkedAs};
-ghost use Rattle.bundle_contents.specs.Internal.{Inside};
+ghost use Rattle.bundle_contents.specs.Internal.{HasLines, Inside};
 ghost use Rattle.bundle_rules.specs.Bundle.{contentsEnd, idStands, idRepeats, linesFrom, follow, lastEnd, idsOf, bodiesCheck, bundleCheck};
 
 mod body; // a body held against its line
-mod digits; // the numbers of the table of contents
 mod ids; // Key IDs compared, by words
+mod lines; // a line of the table of contents
 
 use crate::body::check_body;
-pub use digits::lines_length;
-pub use digits::number_at;
+use crate::ids::same_words;
+use crate::lines::body_at;
+use crate::lines::contents_end;
+use crate::lines::id_at;
+use crate::lines::number_at;
+use crate::lines::offset_at;
+use crate::lines::size_at;
 pub use ids::same_id;
+pub use lines::lines_length;
 use refusal::Checked;
 use refusal::Refusal;
 
 // Whether each of n lines' offsets is the previous end, for the first the end of the contents.
 fn follows(file: &[u8], n: usize) -> bool
-    requires { ⌜ n ≤ 64 ⌝ }
+    requires { ⌜ HasLines (now file) n ⌝ }
     ensures { λ r. ⌜ r ≡ follow (contentsEnd n) (linesFrom (now (file .entry)) 0 n) ⌝ }
 {
-    let mut end = 2 + lines_length(n);
+    let mut end = contents_end(n);
     let mut i = 0;
     while i < n {
-        let line = lines_length(i);
-        let offset = number_at(file, 18 + line);
-        let size = number_at(file, 20 + line);
+        let offset = offset_at(file, i);
         if offset != end {
             return false;
         }
-        end = offset + size;
+        end = offset + size_at(file, i);
         i += 1;
     }
     true
@@ -39,27 +43,24 @@ fn follows(file: &[u8], n: usize) -> bool
 
 // The end of the last of n lines' bodies.
 fn last_end(file: &[u8], n: usize) -> usize
-    requires { ⌜ (1 ≤ n) × (n ≤ 64) ⌝ }
+    requires { ⌜ HasLines (now file) n ⌝ }
+    requires { ⌜ 1 ≤ n ⌝ }
     ensures { λ r. ⌜ r ≡ lastEnd (contentsEnd n) (linesFrom (now (file .entry)) 0 n) ⌝ }
 {
     let last = n - 1;
-    let line = lines_length(last);
-    let offset = number_at(file, 18 + line);
-    let size = number_at(file, 20 + line);
-    offset + size
+    offset_at(file, last) + size_at(file, last)
 }
 
-// Whether a Key ID stands in the lines from j on, to the nth.
+// Whether a Key ID stands in the lines from `from` on, to the nth.
 fn id_stands(file: &[u8], id: &[u8], from: usize, n: usize) -> bool
-    requires { ⌜ (from ≤ n) × (n ≤ 64) ⌝ }
-    requires { ⌜ 2 + 20 * n ≤ length (now file) ⌝ }
+    requires { ⌜ HasLines (now file) n ⌝ }
+    requires { ⌜ length (now id) ≡ 16 ⌝ }
+    requires { ⌜ from ≤ n ⌝ }
     ensures { λ r. ⌜ r ≡ idStands (now (id .entry)) (idsOf (linesFrom (now (file .entry)) from (n - from))) ⌝ }
 {
     let mut j = from;
     while j < n {
-        let at = 2 + 20 * j;
-        let end = at + 16;
-        if same_id(&file[at..end], id) {
+        if same_words(id_at(file, j), id) {
             return true;
         }
         j += 1;
@@ -69,15 +70,12 @@ fn id_stands(file: &[u8], id: &[u8], from: usize, n: usize) -> bool
 
 // Whether a Key ID stands twice in n lines.
 fn id_repeats(file: &[u8], n: usize) -> bool
-    requires { ⌜ n ≤ 64 ⌝ }
-    requires { ⌜ 2 + 20 * n ≤ length (now file) ⌝ }
+    requires { ⌜ HasLines (now file) n ⌝ }
     ensures { λ r. ⌜ r ≡ idRepeats (idsOf (linesFrom (now (file .entry)) 0 n)) ⌝ }
 {
     let mut i = 0;
     while i < n {
-        let at = 2 + 20 * i;
-        let end = at + 16;
-        if id_stands(file, &file[at..end], i + 1, n) {
+        if id_stands(file, id_at(file, i), i + 1, n) {
             return true;
         }
         i += 1;
@@ -87,20 +85,13 @@ fn id_repeats(file: &[u8], n: usize) -> bool
 
 // The bodies of n lines, one after the other.
 fn check_bodies(file: &[u8], n: usize) -> Checked
-    requires { ⌜ n ≤ 64 ⌝ }
-    requires { ⌜ 2 + 20 * n ≤ length (now file) ⌝ }
+    requires { ⌜ HasLines (now file) n ⌝ }
     requires { ⌜ Inside (now file) (linesFrom (now file) 0 n) ⌝ }
     ensures { λ r. ⌜ checkedAs r ≡ bodiesCheck (now (file .entry)) (linesFrom (now (file .entry)) 0 n) ⌝ }
 {
     let mut i = 0;
     while i < n {
-        let line = lines_length(i);
-        let at = 2 + line;
-        let id_end = at + 16;
-        let offset = number_at(file, 18 + line);
-        let size = number_at(file, 20 + line);
-        let end = offset + size;
-        match check_body(&file[at..id_end], &file[offset..end]) {
+        match check_body(id_at(file, i), body_at(file, i)) {
             Checked::Failed(why) => return Checked::Failed(why),
             Checked::Passed => {
                 i += 1;
@@ -124,8 +115,7 @@ pub fn check_bundle(file: &[u8]) -> Checked
     if 64 < n {
         return Checked::Failed(Refusal::BundleCount);
     }
-    let contents = 2 + lines_length(n);
-    if file.len() < contents {
+    if file.len() < contents_end(n) {
         return Checked::Failed(Refusal::BundleContents);
     }
     if !follows(file, n) {

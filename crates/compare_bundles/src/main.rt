@@ -59,11 +59,16 @@ fn write_id(id: &[u8]) {
 // Writes the line of an entry.
 fn write_entry(kind: u8, id: &[u8]) {
     match kind {
-        1 => io::write_all(STDOUT_FILENO, b"only in the first   "),
-        2 => io::write_all(STDOUT_FILENO, b"changed             "),
-        _ => io::write_all(STDOUT_FILENO, b"only in the second  "),
+        1 => {
+            io::write_all(STDOUT_FILENO, b"only in the first   ");
+        }
+        2 => {
+            io::write_all(STDOUT_FILENO, b"changed             ");
+        }
+        _ => {
+            io::write_all(STDOUT_FILENO, b"only in the second  ");
+        }
     }
-    ;
     write_id(id);
     io::write_all(STDOUT_FILENO, b"\n");
 }

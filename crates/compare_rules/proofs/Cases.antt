@@ -1,6 +1,6 @@
 -- The checked cases of request 10, computed from the definitions.
 use mathlib.Core.Path.{refl}
-use mathlib.Core.List.{flatten as concat}
+use mathlib.Core.List.{flatten}
 use Rattle.refusal.specs.Checks.{unless, _andThen_, within}
 use Rattle.slices.specs.Same.{sameList}
 use Rattle.keywrap.specs.Calls.{wrappable}
@@ -25,5 +25,5 @@ use Rattle.compare_rules.specs.Compare.{lookup, listed, firstEntries, se
 use Rattle.compare_rules.specs.Cases.{CompareCases}
 
 pub compare-cases : CompareCases
-unfolding compareAnswer compareBuffer compareCounts compareCheck entriesIn entries firstEntries secondEntries listed lookup written countKind bundleCheck contentsCheck bodiesCheck bodyOf lastEnd follow linesFrom lineAt fileOf linesOf lineOf idRepeats idStands concat keyIdIn fieldsIn frameCheck lengthHolds wrappable sameList unless _andThen_ within
+unfolding compareAnswer compareBuffer compareCounts compareCheck entriesIn entries firstEntries secondEntries listed lookup written countKind bundleCheck contentsCheck bodiesCheck bodyOf lastEnd follow linesFrom lineAt fileOf linesOf lineOf idRepeats idStands flatten keyIdIn fieldsIn frameCheck lengthHolds wrappable sameList unless _andThen_ within
 compare-cases = (refl, refl, refl, refl, refl, refl, refl, refl)

@@ -13,7 +13,7 @@ use Rattle.slices.specs.Numbers.{fromBe32}
 use Rattle.slices.specs.Same.{sameList}
 use Rattle.slices.proofs.Truth.{and-left, and-right, same-truth}
 use Rattle.slices.proofs.Same.{same-equal}
-use Rattle.bundle_contents.specs.IdsInternal.{wordAt, BytesAt}
+use Rattle.bundle_contents.specs.Internal.{wordAt, BytesAt}
 
 -- four bytes are the same where their words are
 four-same : (p q r s p′ q′ r′ s′ : ℕ) → p < 256 → q < 256 → r < 256 → s < 256 → p′ < 256 → q′ < 256 → r′ < 256 → s′ < 256
