@@ -32,7 +32,7 @@ pub fn refused(why: Refusal) -> Outcome
 }
 
 // Acceptance, for C.
-pub(crate) fn accepted(n: u64) -> Outcome
+fn accepted(n: u64) -> Outcome
     ensures { λ r. ⌜ r ≡ acceptedOutcome n ⌝ }
 {
     Outcome {
@@ -41,7 +41,7 @@ pub(crate) fn accepted(n: u64) -> Outcome
     }
 }
 
-// The answer of a call that writes, for C.
+// The answer of a call, for C.
 pub fn returned(answer: Answered) -> Outcome
     ensures { λ r. ⌜ r ≡ outcomeOf (answerOf answer) ⌝ }
 {

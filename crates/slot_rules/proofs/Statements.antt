@@ -37,7 +37,7 @@ use Rattle.slot_rules.specs.Statements.{
   DropExactly,
   ZerosAreEmpty,
 }
-use Rattle.slot_rules.proofs.Digits.{empty-law}
+use Rattle.slot_rules.proofs.Words.{empty-law}
 use Rattle.slot_rules.proofs.Tables.{taken-more, freed-less, none-live, lowest-none, below-lowest, lowest-le, live-le, full-lowest}
 use Rattle.slot_rules.proofs.Sound.{rest, rest-at}
 

@@ -7,11 +7,13 @@ use lib.ListN.{length, getD, replicate}
 use Rattle.refusal.specs.Checks.{bare}
 use Rattle.refusal.specs.Answers.{Answer, returned, refused}
 use Rattle.slot_rules.specs.declared.Name.{Name}
+use Rattle.slot_rules.specs.declared.Slots.{Slots}
 use Rattle.slot_rules.specs.declared.Parent.{Parent}
-use Rattle.slot_rules.specs.declared.Parent.the-variants.{Root, Below}
+use Rattle.slot_rules.specs.declared.Parent.the-variants.{Below}
 use Rattle.slot_rules.specs.Table.{Slot, free, lowestFree, liveCount, isLive, slotsFrom}
 use Rattle.slot_rules.specs.Parents.{Key, parentIn, goesWith, rootWithin, parentLive, rootNear}
 use Rattle.slot_rules.specs.Calls.{putAnswer, putTable, dropAnswer, dropTable}
+use Rattle.slot_rules.specs.Stored.{Fits, tableOf, putStored, dropStored}
 
 -- 64 slots, all free
 abbrev pub empty : {X : Type 0} → List (Slot X)
@@ -109,3 +111,11 @@ DropExactly =
 -- a word of zeros is the empty table, whatever stands in the slots
 abbrev pub ZerosAreEmpty : Type 1
 ZerosAreEmpty = (X : Type 0) (held : List X) → length held ≡ 64 → slotsFrom 0 held ≡ empty
+
+-- what a put stores holds the table after the put, and so with a drop
+abbrev pub StoredIsTable : Type 0
+StoredIsTable =
+    (s : Slots)
+    → Fits s
+    → ((x : Name) (p : Parent) → tableOf (putStored s x p) ≡ putTable (tableOf s) x p)
+    × ((n : ℕ) → tableOf (dropStored s n) ≡ dropTable (tableOf s) n)

@@ -18,4 +18,4 @@ returns c =
     (handed-key (p .read .result .answer) (p .read .result .fields) r (c .returned .ensures) (e .0) (e .1 .0), e .1 .1)
 
 pub kv-read-key-attribute-spec : {M : Type 1} → statement M
-kv-read-key-attribute-spec = tie.close (tie.spec (search needs) returned-requires (search needs) returns)
+kv-read-key-attribute-spec = tie.close (tie.spec (λ c κs. search needs) returned-requires (λ c. search needs) returns)

@@ -12,4 +12,4 @@ returns : tie.Need-returns
 returns c = c .first-round .ensures ∙ ap firstRoundOutcome (c .before .choose .ensures)
 
 pub kv-choose-offer-spec : {M : Type 1} → statement M
-kv-choose-offer-spec = tie.close (tie.spec (search needs) first-round-requires returns)
+kv-choose-offer-spec = tie.close (tie.spec (λ c κs. search needs) first-round-requires returns)

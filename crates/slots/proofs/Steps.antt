@@ -12,25 +12,21 @@ use lib.Dec.{ltb, eqb}
 use lib.ListN.{length, getD, set, List·getD-eq-default}
 use lib.Seq.{getD-set-same, getD-set-other}
 use Rattle.slices.proofs.Truth.{and-left}
 use Rattle.slot_rules.specs.declared.Name.{Name}
 use Rattle.slot_rules.specs.declared.Parent.{Parent}
 use Rattle.slot_rules.specs.declared.Parent.the-variants.{Root, Below}
-use Rattle.slot_rules.specs.Table.{hasDigit, Slot, free, holding, slotOf, slotsFrom, lowestFree, liveCount, isHolding, isLive}
+use Rattle.slot_rules.specs.Table.{Slot, free, holding, slotOf, slotsFrom, lowestFree, liveCount, isHolding, isLive}
 use Rattle.slot_rules.specs.Parents.{Key, parentIn, up, isSlot, reaches, goesWith, isNone, isRoot, rootAt, rootWithin}
 use Rattle.slot_rules.specs.Stored.{parentOf, keysOf}
-use Rattle.slot_rules.specs.Internal.{stepFrom, stepIn, reachesBy, rootBy, rootWithinTwoBy}
-use Rattle.slot_rules.proofs.Digits.{length-slots, lowest-law, live-law, at-law}
+use Rattle.slots.specs.Internal.{hasBit, stepFrom, stepIn, reachesBy, rootBy, rootWithinTwoBy}
+use Rattle.slot_rules.proofs.Words.{length-slots}
+use Rattle.slot_rules.proofs.Stored.{keys-length}
+use Rattle.slots.proofs.BitLaws.{lowest-law, live-law, at-law}
 
-pub below : (w n : ℕ) → hasDigit w n ≡ true → n < 64
+pub below : (w n : ℕ) → hasBit w n ≡ true → n < 64
 below w n e = ltb-true n 64 (and-left (ltb n 64) (eqb (w / 2 ^ n % 2) 1) e)
 
 -- ---- what a slot holds
-
-keys-length : (names : List Name) (parents : List ℕ) → length names ≡ length parents → length (keysOf names parents) ≡ length names
-unfolding keysOf
-keys-length [] parents e = refl
-keys-length (x ∷ names) [] e = absurd (omega arith)
-keys-length (x ∷ names) (p ∷ parents) e = ap suc (keys-length names parents (omega arith))
 
 keys-at : (names : List Name) (parents : List ℕ) (s : ℕ) (d : Name) (k : Key) → length names ≡ length parents → s < length names
     → getD (keysOf names parents) s k ≡ record { name = getD names s d; parent = parentOf (getD parents s 0) }
@@ -40,18 +36,10 @@ keys-at (x ∷ names) [] s d k e h = absurd (omega arith)
 keys-at (x ∷ names) (p ∷ parents) zero d k e h = refl
 keys-at (x ∷ names) (p ∷ parents) (suc s) d k e h = keys-at names parents s d k (omega arith) (omega arith)
 
-pub keys-set : (names : List Name) (parents : List ℕ) (i : ℕ) (x : Name) (p : ℕ) → length names ≡ length parents → i < length names
-    → keysOf (set names i x) (set parents i p) ≡ set (keysOf names parents) i (record { name = x; parent = parentOf p })
-unfolding keysOf
-keys-set [] parents i x p e h = absurd (omega arith)
-keys-set (y ∷ names) [] i x p e h = absurd (omega arith)
-keys-set (y ∷ names) (q ∷ parents) zero x p e h = refl
-keys-set (y ∷ names) (q ∷ parents) (suc i) x p e h = ap (λ (t : List Key). record { name = y; parent = parentOf q } ∷ t) (keys-set names parents i x p (omega arith) (omega arith))
-
-slot-digit : (k : Key) (d : ℕ) → d < 2 → slotOf d k ≡ cond (eqb d 1) (holding k) free
-slot-digit k zero h = refl
-slot-digit k (suc zero) h = refl
-slot-digit k (suc (suc d)) h = absurd (omega arith)
+slot-bit : (k : Key) (d : ℕ) → d < 2 → slotOf d k ≡ cond (eqb d 1) (holding k) free
+slot-bit k zero h = refl
+slot-bit k (suc zero) h = refl
+slot-bit k (suc (suc d)) h = absurd (omega arith)
 
 none-at : (b : ℕ) → isNone (parentOf b) ≡ eqb b 255
 none-at b = go (eqb b 255)
@@ -71,12 +59,12 @@ no-name : Name
 no-name = record { bytes = [] }
 
 -- from a free slot no step leads to another
-free-stays : (w : ℕ) (parents : List ℕ) (n s : ℕ) → hasDigit w n ≡ true → hasDigit w s ≡ false → reachesBy (stepFrom w parents) n s ≡ false
+free-stays : (w : ℕ) (parents : List ℕ) (n s : ℕ) → hasBit w n ≡ true → hasBit w s ≡ false → reachesBy (stepFrom w parents) n s ≡ false
 unfolding reachesBy stepFrom
 free-stays w parents n s e q =
     let h : n < 64 = below w n e in
     let far : eqb 255 n ≡ false = ne-eqb 255 n (λ (z : 255 ≡ n). omega arith) in
-    let other : eqb s n ≡ false = ne-eqb s n (λ (z : s ≡ n). false≢true (sym q ∙ ap (hasDigit w) z ∙ e)) in
+    let other : eqb s n ≡ false = ne-eqb s n (λ (z : s ≡ n). false≢true (sym q ∙ ap (hasBit w) z ∙ e)) in
     simp (other, q, far)
 
 -- of a word of taken slots, 64 names and 64 parents' bytes
@@ -104,7 +92,7 @@ module _ (w : ℕ) (names : List Name) (parents : List ℕ) (b : w < 2 ^ 64) (l 
   key : ℕ → Key
   key s = record { name = getD names s no-name; parent = parentOf (getD parents s 0) }
 
-  slot-is : (s : ℕ) → Dec (s < 64) → getD table s free ≡ cond (hasDigit w s) (holding (key s)) free
+  slot-is : (s : ℕ) → Dec (s < 64) → getD table s free ≡ cond (hasBit w s) (holding (key s)) free
   unfolding table keys key
   slot-is s (yes h) =
       let i = size in
@@ -113,7 +101,7 @@ module _ (w : ℕ) (names : List Name) (parents : List ℕ) (b : w < 2 ^ 64) (l 
       let test : ltb s 64 ≡ true = lt-ltb s 64 h in
       at-law keys w s (key 0) inside
       ∙ ap (slotOf (w / 2 ^ s % 2)) (keys-at names parents s no-name (key 0) same near)
-      ∙ slot-digit (key s) (w / 2 ^ s % 2) (mod-lt (w / 2 ^ s) (zero-lt-suc 1))
+      ∙ slot-bit (key s) (w / 2 ^ s % 2) (mod-lt (w / 2 ^ s) (zero-lt-suc 1))
       ∙ simp test
   slot-is s (no g) =
       let i = length-slots keys w ∙ size in
@@ -121,11 +109,11 @@ module _ (w : ℕ) (names : List Name) (parents : List ℕ) (b : w < 2 ^ 64) (l 
       let test : ltb s 64 ≡ false = le-ltb s 64 (omega arith) in
       List·getD-eq-default table free past ∙ simp test
 
-  slot-of : (s : ℕ) → getD table s free ≡ cond (hasDigit w s) (holding (key s)) free
+  slot-of : (s : ℕ) → getD table s free ≡ cond (hasBit w s) (holding (key s)) free
   slot-of s = slot-is s (decLt s 64)
 
-  pub live-of : (s : ℕ) → isLive table s ≡ hasDigit w s
-  live-of s = ap isHolding (slot-of s) ∙ go (hasDigit w s)
+  pub live-of : (s : ℕ) → isLive table s ≡ hasBit w s
+  live-of s = ap isHolding (slot-of s) ∙ go (hasBit w s)
     where
       go : (c : Bool) → isHolding (cond c (holding (key s)) free) ≡ c
       go true = refl
@@ -133,7 +121,7 @@ module _ (w : ℕ) (names : List Name) (parents : List ℕ) (b : w < 2 ^ 64) (l 
 
   up-below : (s : ℕ) → up table (Below s) ≡ parentOf (stepFrom w parents s)
   unfolding stepFrom key
-  up-below s = ap parentIn (slot-of s) ∙ go (hasDigit w s)
+  up-below s = ap parentIn (slot-of s) ∙ go (hasBit w s)
     where
       go : (c : Bool) → parentIn (cond c (holding (key s)) free) ≡ parentOf (cond c (getD parents s 0) 255)
       go true = refl
@@ -162,18 +150,18 @@ module _ (w : ℕ) (names : List Name) (parents : List ℕ) (b : w < 2 ^ 64) (l 
       (ap₂ _||_ (ap (isSlot n) two ∙ slot-at n (p (p s)) h) (ap (isSlot n) three ∙ slot-at n (p (p (p s))) h)))
 
   -- what reaches a live slot is live, so that the code need not ask
-  pub goes-of : (n s : ℕ) → hasDigit w n ≡ true → goesWith table n s ≡ reachesBy (stepFrom w parents) n s
+  pub goes-of : (n s : ℕ) → hasBit w n ≡ true → goesWith table n s ≡ reachesBy (stepFrom w parents) n s
   unfolding goesWith
   goes-of n s e =
-      ap₂ _&&_ (live-of s) (reaches-of n s (below w n e)) ∙ go (hasDigit w s) refl
+      ap₂ _&&_ (live-of s) (reaches-of n s (below w n e)) ∙ go (hasBit w s) refl
     where
-      go : (c : Bool) → hasDigit w s ≡ c → (c && reachesBy (stepFrom w parents) n s) ≡ reachesBy (stepFrom w parents) n s
+      go : (c : Bool) → hasBit w s ≡ c → (c && reachesBy (stepFrom w parents) n s) ≡ reachesBy (stepFrom w parents) n s
       go true q = refl
       go false q = sym (free-stays w parents n s e q)
 
   root-below : (s : ℕ) → rootAt table (Below s) ≡ rootBy w parents s
   unfolding rootBy key
-  root-below s = ap isRoot (slot-of s) ∙ go (hasDigit w s)
+  root-below s = ap isRoot (slot-of s) ∙ go (hasBit w s)
     where
       go : (c : Bool) → isRoot (cond c (holding (key s)) free) ≡ (c && eqb (getD parents s 0) 255)
       go true = none-at (getD parents s 0)

@@ -1,8 +1,8 @@
 use borrow.Author.Needs.{needs}
 use borrow.Author.Tests.{le-ltb}
-use Rattle.slot_rules.proofs.Digits.{low-tested, high-tested}
-use Rattle.slots.proofs.digits.has_digit.Statement.{statement}
-use Rattle.slots.proofs.digits.has_digit.Tie as tie
+use Rattle.slots.proofs.BitLaws.{low-tested, high-tested}
+use Rattle.slots.proofs.bits.has_bit.Statement.{statement}
+use Rattle.slots.proofs.bits.has_bit.Tie as tie
 
 returns : tie.Need-returns
 returns c = let a = c .before .args in low-tested (a .word) (a .i) (c .if1 .taken)
@@ -15,8 +15,8 @@ returns-2 c =
 returns-3 : tie.Need-returns-3
 returns-3 c = simp (le-ltb _ _ (c .if2 .left))
 
-pub has-digit-spec : {M : Type 1} → statement M
-has-digit-spec =
+pub has-bit-spec : {M : Type 1} → statement M
+has-bit-spec =
     tie.close
     (tie.spec (λ c. search needs) (λ c. search needs) (λ c. search needs) (λ c. search needs) (λ c. search needs)
     (λ c. search needs) returns returns-2 returns-3)
