@@ -7,6 +7,7 @@ pub mod negotiations;
 pub mod slot_tables;
 
 ghost use mathlib.Core.Path.{_≡_};
+ghost use Prim.Native.Nat.{_%_, _^_};
 ghost use Rattle.refusal.specs.Answers.{reasonOf, answerOf, checkedAs};
 ghost use Rattle.outcome.specs.Outcomes.{outcomeOf, acceptedOutcome, refusedOutcome, checkOutcome};
 use refusal::Answered;
@@ -29,6 +30,13 @@ pub fn refused(why: Refusal) -> Outcome
         refusal: refusal::number(why),
         value: refusal::place(why) as u64,
     }
+}
+
+// The low 32 bits of a number.
+pub(crate) fn low(n: usize) -> u32
+    ensures { λ r. ⌜ r ≡ n % 2 ^ 32 ⌝ }
+{
+    (n as u64 % 0x1_0000_0000) as u32
 }
 
 // Acceptance, for C.
