@@ -1,6 +1,6 @@
 -- What only the contracts between this crate and `ketvaulo` need. Nothing here has to be believed.
 -- The struct for C has 32 bits for a count, a length and a position. A conversion takes the low 32 bits of any; of what the calls answer that loses nothing.
-use Prim.Native.Nat.{ℕ, _%_, _^_}
+use Prim.Native.Nat.{_%_, _^_}
 use Rattle.refusal.specs.Answers.{Answer, returned, numberIn}
 use Rattle.area.specs.Area.{AreaAnswer, answered}
 use Rattle.offers.specs.Answers.{FirstAnswer, carryOn, ask}

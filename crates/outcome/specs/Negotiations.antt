@@ -1,5 +1,4 @@
 -- What the calls on offers return to C, by what they answer: kv_first_round and kv_outcome of include/ketvaulo.h.
-use Prim.Native.Nat.{ℕ}
 use Rattle.offers.specs.Answers.{FirstAnswer, carryOn, ask, RenewedAnswer, accepted}
 use Rattle.outcome.specs.Outcomes.{numberIn, acceptedOutcome, refusedOutcome}
 use Rattle.outcome.specs.declared.Outcome.{Outcome}

@@ -11,7 +11,7 @@ use lib.Count.{ones, ones-step, trailingZeros, under}
 use lib.Dec.{eqb}
 use lib.ListN.{length, getD, length-map}
 use lib.Pow.{pow-mono, pow-lt, pow-add, shr-shr, field, mod-mod-pow}
-use Rattle.slot_rules.specs.Table.{Slot, free, holding, slotOf, slotsFrom, lowestFree, liveCount, bit, countGone, wordGone}
+use Rattle.slot_rules.specs.Table.{Slot, free, slotOf, slotsFrom, lowestFree, liveCount, bit, countGone, wordGone}
 use Rattle.slot_rules.proofs.Words.{bit-lt, word-lt}
 use Rattle.slots.specs.Internal.{hasBit}
 

@@ -13,7 +13,6 @@ use lib.ListN.{length, getD, set, List·getD-eq-default}
 use lib.Seq.{getD-set-same, getD-set-other}
 use Rattle.slices.proofs.Truth.{and-left}
 use Rattle.slot_rules.specs.declared.Name.{Name}
-use Rattle.slot_rules.specs.declared.Parent.{Parent}
 use Rattle.slot_rules.specs.declared.Parent.the-variants.{Root, Below}
 use Rattle.slot_rules.specs.Table.{Slot, free, holding, slotOf, slotsFrom, lowestFree, liveCount, isHolding, isLive}
 use Rattle.slot_rules.specs.Parents.{Key, parentIn, up, isSlot, reaches, goesWith, isNone, isRoot, rootAt, rootWithin}
