@@ -3,8 +3,8 @@ ghost use mathlib.Core.Path.{_≡_};
 ghost use lib.ListN.{length};
 ghost use Rattle.outcome.specs.Outcomes.{outcomeOf};
 ghost use Rattle.bundle_rules.specs.Bundle as Bundle;
-ghost use Rattle.compare_rules.specs.Compare.{compareAnswer, compareBuffer, compareCounts};
-ghost use Rattle.outcome.specs.Comparisons.{comparisonOutcome};
+ghost use Rattle.compare_rules.specs.Compare.{compareBuffer};
+ghost use Rattle.ketvaulo.specs.Calls.{compared};
 use outcome::Outcome;
 use outcome::comparisons::Comparison;
 
@@ -29,7 +29,7 @@ pub extern "C" fn kv_read_bundle(file: &[u8], out: &mut [u8]) -> Outcome
 // Document 02, request 10: what changed between two bundles.
 #[no_mangle]
 pub extern "C" fn kv_compare_bundles(first: &[u8], second: &[u8], out: &mut [u8]) -> Comparison
-    ensures answer { λ r. ⌜ r ≡ comparisonOutcome (compareAnswer (now (first .entry)) (now (second .entry)) (length (now (out .entry)))) (compareCounts (now (first .entry)) (now (second .entry)) (length (now (out .entry)))) ⌝ }
+    ensures answer { λ r. ⌜ r ≡ compared (now (first .entry)) (now (second .entry)) (length (now (out .entry))) ⌝ }
     ensures buffer { λ _. ⌜ now (out .exit) ≡ compareBuffer (now (first .entry)) (now (second .entry)) (now (out .entry)) ⌝ }
 {
     outcome::comparisons::returned(bundle_compare::compare_bundles(first, second, out))

@@ -1,11 +1,9 @@
 // The exported functions: Key attributes.
 ghost use mathlib.Core.Path.{_≡_};
 ghost use lib.ListN.{length};
-ghost use Rattle.outcome.specs.Outcomes.{outcomeOf};
-ghost use Rattle.key_frame.specs.KeyFrame.{fieldsOf};
-ghost use Rattle.key_writer.specs.KeyWriter.{writeAnswer, writeBuffer};
 ghost use Rattle.key_reader.specs.KeyReader.{reading, readBuffer};
 ghost use Rattle.outcome.specs.KeyAttributes.{keyOutcome};
+ghost use Rattle.ketvaulo.specs.Calls.{keyWritten, keyBuffer};
 use outcome::Outcome;
 use outcome::key_attributes::KeyAttributeOutcome;
 
@@ -21,8 +19,8 @@ pub extern "C" fn kv_write_key_attribute(
     key: &[u8],
     out: &mut [u8],
 ) -> Outcome
-    ensures answer { λ r. ⌜ r ≡ outcomeOf (writeAnswer (fieldsOf «attribute_type» «app_id» (now («kek_id» .entry)) (now («key_id» .entry)) lifetime) (now (kek .entry)) (now (key .entry)) (length (now (out .entry)))) ⌝ }
-    ensures buffer { λ _. ⌜ now (out .exit) ≡ writeBuffer (fieldsOf «attribute_type» «app_id» (now («kek_id» .entry)) (now («key_id» .entry)) lifetime) (now (kek .entry)) (now (key .entry)) (now (out .entry)) ⌝ }
+    ensures answer { λ r. ⌜ r ≡ keyWritten «attribute_type» «app_id» (now («kek_id» .entry)) (now («key_id» .entry)) lifetime (now (kek .entry)) (now (key .entry)) (length (now (out .entry))) ⌝ }
+    ensures buffer { λ _. ⌜ now (out .exit) ≡ keyBuffer «attribute_type» «app_id» (now («kek_id» .entry)) (now («key_id» .entry)) lifetime (now (kek .entry)) (now (key .entry)) (now (out .entry)) ⌝ }
 {
     outcome::returned(key_writer::write(
         attribute_type,

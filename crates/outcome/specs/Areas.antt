@@ -16,10 +16,3 @@ areaOutcome (answered count nameAt nameLen same) =
     record { refusal = 0; offers = count; at = 0; «name_at» = nameAt; «name_len» = nameLen; «same_name» = flagOf same }
 areaOutcome (AreaAnswer.refused x) =
     record { refusal = numberIn x; offers = 0; at = placeIn x; «name_at» = 0; «name_len» = 0; «same_name» = 0 }
-
--- ---- what only a contract between functions needs, and nothing that has to be believed
-
--- the count of offers that an answer holds, and 0 where it holds none
-abbrev pub countIn : AreaAnswer → ℕ
-countIn (answered count nameAt nameLen same) = count
-countIn (AreaAnswer.refused x) = 0

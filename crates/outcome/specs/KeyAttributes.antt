@@ -1,6 +1,5 @@
 -- What reading a Key attribute returns to C, by what it answers: kv_key_attribute of include/ketvaulo.h.
 use Prim.Native.Nat.{ℕ}
-use Rattle.refusal.specs.Answers.{Answer, returned}
 use Rattle.key_frame.specs.declared.KeyFields.{KeyFields}
 use Rattle.key_reader.specs.KeyReader.{Reading, accepted, noFields}
 use Rattle.outcome.specs.Outcomes.{numberIn}
@@ -23,15 +22,3 @@ keyTold number keyLength f =
 abbrev pub keyOutcome : Reading → KeyAttributeOutcome
 keyOutcome (accepted f n) = keyTold 0 n f
 keyOutcome (Reading.refused x) = keyTold (numberIn x) 0 noFields
-
--- ---- what only a contract between functions needs, and nothing that has to be believed
-
--- the count that an answer holds, and 0 on a refusal
-abbrev pub lengthIn : Answer → ℕ
-lengthIn (returned n) = n
-lengthIn (Answer.refused x) = 0
-
--- what C gets of an answer and of the fields beside it
-abbrev pub keyReturned : Answer → KeyFields → KeyAttributeOutcome
-keyReturned (returned n) f = keyTold 0 n f
-keyReturned (Answer.refused x) f = keyTold (numberIn x) 0 f

@@ -1,5 +1,4 @@
 -- What the calls on offers return to C, by what they answer: kv_first_round and kv_outcome of include/ketvaulo.h.
-use Prim.Native.Nat.{ℕ}
 use Rattle.offers.specs.Answers.{FirstAnswer, carryOn, ask, RenewedAnswer, accepted}
 use Rattle.outcome.specs.Outcomes.{numberIn, acceptedOutcome, refusedOutcome}
 use Rattle.outcome.specs.declared.Outcome.{Outcome}
@@ -15,11 +14,3 @@ firstRoundOutcome (FirstAnswer.refused x) = record { refusal = numberIn x; ask =
 abbrev pub renewedOutcome : RenewedAnswer → Outcome
 renewedOutcome (accepted choice) = acceptedOutcome choice
 renewedOutcome (RenewedAnswer.refused x) = refusedOutcome x
-
--- ---- what only a contract between functions needs, and nothing that has to be believed
-
--- the position that a first round's answer holds, and 0 where it holds none
-abbrev pub positionIn : FirstAnswer → ℕ
-positionIn (carryOn value) = 0
-positionIn (ask value position) = position
-positionIn (FirstAnswer.refused x) = 0

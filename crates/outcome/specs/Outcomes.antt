@@ -13,7 +13,7 @@ refusedOutcome x = record { refusal = numberIn x; value = placeIn x }
 abbrev pub acceptedOutcome : ℕ → Outcome
 acceptedOutcome n = record { refusal = 0; value = n }
 
--- the answer of a call that writes
+-- the answer of a call
 abbrev pub outcomeOf : Answer → Outcome
 outcomeOf (returned n) = acceptedOutcome n
 outcomeOf (refused x) = refusedOutcome x

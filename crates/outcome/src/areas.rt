@@ -1,8 +1,8 @@
 // What the calls that read an attribute area return to C.
 ghost use mathlib.Core.Path.{_≡_};
-ghost use Prim.Native.Nat.{_<_, _^_};
 ghost use Rattle.area.specs.Area.{areaAnswerOf};
-ghost use Rattle.outcome.specs.Areas.{flagOf, areaOutcome, countIn};
+ghost use Rattle.outcome.specs.Areas.{flagOf, areaOutcome};
+ghost use Rattle.outcome.specs.Internal.{countLow};
 use area::AreaRead;
 
 // What reading an area returns to C. `at` is the place that a refusal carries, and 0 where it carries none; every other field but the
@@ -24,23 +24,19 @@ fn flag(b: bool) -> u32
     if b { 1 } else { 0 }
 }
 
-// What reading an area answers, for C. An area has at most 17 offers, so their count fits.
+// What reading an area answers, for C. An area has at most 17 offers, so the low bits are all of their count.
 pub fn returned(answer: AreaRead) -> AreaOutcome
-    requires { ⌜ countIn (areaAnswerOf answer) < 2 ^ 32 ⌝ }
-    ensures { λ r. ⌜ r ≡ areaOutcome (areaAnswerOf answer) ⌝ }
+    ensures { λ r. ⌜ r ≡ areaOutcome (countLow (areaAnswerOf answer)) ⌝ }
 {
     match answer {
-        AreaRead::Read(found) => {
-            let offers = found.count as u32;
-            AreaOutcome {
-                refusal: 0,
-                offers,
-                at: 0,
-                name_at: found.name_at as u64,
-                name_len: found.name_len as u64,
-                same_name: flag(found.same_name),
-            }
-        }
+        AreaRead::Read(found) => AreaOutcome {
+            refusal: 0,
+            offers: crate::low(found.count),
+            at: 0,
+            name_at: found.name_at as u64,
+            name_len: found.name_len as u64,
+            same_name: flag(found.same_name),
+        },
         AreaRead::Refused(why) => {
             let refused = crate::refused(why);
             AreaOutcome {

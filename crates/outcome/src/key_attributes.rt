@@ -1,8 +1,8 @@
 // What the call that reads a Key attribute returns to C.
 ghost use mathlib.Core.Path.{_≡_};
-ghost use Prim.Native.Nat.{_<_, _^_};
 ghost use Rattle.refusal.specs.Answers.{answerOf};
-ghost use Rattle.outcome.specs.KeyAttributes.{keyTold, keyReturned, lengthIn};
+ghost use Rattle.outcome.specs.KeyAttributes.{keyTold};
+ghost use Rattle.outcome.specs.Internal.{keyReturned};
 use key_frame::KeyFields;
 use key_reader::KeyRead;
 use refusal::Answered;
@@ -36,15 +36,14 @@ fn told(refusal: u32, key_len: u32, fields: KeyFields) -> KeyAttributeOutcome
     }
 }
 
-// What reading a Key attribute answers, for C. A key has at most 192 bytes, so its length fits.
+// What reading a Key attribute answers, for C. A key has at most 192 bytes, so the low bits are all of its length.
 pub fn returned(read: KeyRead) -> KeyAttributeOutcome
-    requires { ⌜ lengthIn (answerOf (read .answer)) < 2 ^ 32 ⌝ }
     ensures { λ r. ⌜ r ≡ keyReturned (answerOf (read .answer)) (read .fields) ⌝ }
 {
     let answer = read.answer;
     let fields = read.fields;
     match answer {
-        Answered::Accepted(n) => told(0, n as u32, fields),
+        Answered::Accepted(n) => told(0, crate::low(n), fields),
         Answered::Refused(why) => told(refusal::number(why), 0, fields),
     }
 }

@@ -7,6 +7,7 @@ pub mod negotiations;
 pub mod slot_tables;
 
 ghost use mathlib.Core.Path.{_≡_};
+ghost use Prim.Native.Nat.{_%_, _^_};
 ghost use Rattle.refusal.specs.Answers.{reasonOf, answerOf, checkedAs};
 ghost use Rattle.outcome.specs.Outcomes.{outcomeOf, acceptedOutcome, refusedOutcome, checkOutcome};
 use refusal::Answered;
@@ -31,8 +32,15 @@ pub fn refused(why: Refusal) -> Outcome
     }
 }
 
+// The low 32 bits of a number.
+pub(crate) fn low(n: usize) -> u32
+    ensures { λ r. ⌜ r ≡ n % 2 ^ 32 ⌝ }
+{
+    (n as u64 % 0x1_0000_0000) as u32
+}
+
 // Acceptance, for C.
-pub(crate) fn accepted(n: u64) -> Outcome
+fn accepted(n: u64) -> Outcome
     ensures { λ r. ⌜ r ≡ acceptedOutcome n ⌝ }
 {
     Outcome {
@@ -41,7 +49,7 @@ pub(crate) fn accepted(n: u64) -> Outcome
     }
 }
 
-// The answer of a call that writes, for C.
+// The answer of a call, for C.
 pub fn returned(answer: Answered) -> Outcome
     ensures { λ r. ⌜ r ≡ outcomeOf (answerOf answer) ⌝ }
 {

@@ -1,8 +1,8 @@
 // What the calls on AT_KDF offers return to C.
 ghost use mathlib.Core.Path.{_≡_};
-ghost use Prim.Native.Nat.{_<_, _^_};
 ghost use Rattle.offers.specs.Answers.{firstRoundOf, renewedOf};
-ghost use Rattle.outcome.specs.Negotiations.{firstRoundOutcome, renewedOutcome, positionIn};
+ghost use Rattle.outcome.specs.Negotiations.{firstRoundOutcome, renewedOutcome};
+ghost use Rattle.outcome.specs.Internal.{positionLow};
 use crate::Outcome;
 use offers::FirstRound;
 use offers::Renewed;
@@ -16,10 +16,9 @@ pub struct FirstRoundOutcome {
     pub position: u32,
 }
 
-// The first round's answer, for C. A position is one of at most 16, so it fits.
+// The first round's answer, for C. A position is one of at most 16, so the low bits are all of it.
 pub fn first_round(answer: FirstRound) -> FirstRoundOutcome
-    requires { ⌜ positionIn (firstRoundOf answer) < 2 ^ 32 ⌝ }
-    ensures { λ r. ⌜ r ≡ firstRoundOutcome (firstRoundOf answer) ⌝ }
+    ensures { λ r. ⌜ r ≡ firstRoundOutcome (positionLow (firstRoundOf answer)) ⌝ }
 {
     match answer {
         FirstRound::CarryOn(value) => FirstRoundOutcome {
@@ -32,7 +31,7 @@ pub fn first_round(answer: FirstRound) -> FirstRoundOutcome
             refusal: 0,
             ask: 1,
             value: value as u32,
-            position: position as u32,
+            position: crate::low(position),
         },
         FirstRound::Refused(why) => FirstRoundOutcome {
             refusal: refusal::number(why),

@@ -1,12 +1,8 @@
 // How C names a parent, and what the calls that put and drop return to C. The slots are passed by value, and come back with the answer.
 ghost use mathlib.Core.Path.{_≡_};
-ghost use Rattle.slots.specs.Answers.{answerOf};
-ghost use Rattle.outcome.specs.Outcomes.{outcomeOf};
 ghost use Rattle.outcome.specs.SlotTables.{parentFor};
-use crate::Outcome;
 use slot_rules::Parent;
 use slot_rules::Slots;
-use slots::SlotAnswer;
 
 // What a put and a drop return to C: 0 and the slot's number or how many went, or the refusal's number and 0; and the slots after the call.
 #[repr(C)]
@@ -14,16 +10,6 @@ pub struct SlotsOutcome {
     pub refusal: u32,
     pub value: u64,
     pub slots: Slots,
-}
-
-// The answer of a call on slots, for C.
-pub fn returned(answer: SlotAnswer) -> Outcome
-    ensures { λ r. ⌜ r ≡ outcomeOf (answerOf answer) ⌝ }
-{
-    match answer {
-        SlotAnswer::Number(n) => crate::accepted(n),
-        SlotAnswer::Refused(why) => crate::refused(why),
-    }
 }
 
 // A parent by its number in C.

@@ -1,6 +1,5 @@
-pub mod Digits
+pub mod Words
 pub mod Tables
 pub mod Sound
 pub mod Statements
-pub mod Steps
 pub mod Stored

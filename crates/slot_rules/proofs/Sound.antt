@@ -1,22 +1,21 @@
 -- Every table that calls make from the empty one is sound: a live slot's parent is none or live, and a root is near.
-use mathlib.Core.Path.{_≡_, refl, sym, ap, ap₂, _∙_}
+use mathlib.Core.Path.{_≡_, refl, sym, ap, _∙_}
 use mathlib.Core.Bool.{Bool, true, false, cond, _&&_, _||_, false≢true}
 use mathlib.Core.List.{List, [], _∷_}
-use Prim.Native.Nat.{ℕ, zero, suc, _+_, _≤_, _<_}
+use Prim.Native.Nat.{ℕ, zero, suc, _+_, _<_}
 use native.Mathlib.Omega.{arith}
 use borrow.Author.Tests.{eqb-true, eqb-false, ltb-true}
-use lib.Dec.{ltb, eqb}
+use lib.Dec.{eqb}
 use lib.ListN.{length, getD, set, replicate}
 use lib.Seq.{getD-set-same, getD-set-other}
-use Rattle.refusal.specs.Checks.{Check, pass, refuse, bare, unless, _andThen_}
-use Rattle.refusal.specs.Answers.{Answer, returned, refused}
+use Rattle.refusal.specs.Checks.{Check, pass, refuse, _andThen_}
 use Rattle.refusal.proofs.Passing.{before-passed, last-passed, test-passed}
 use Rattle.slot_rules.specs.declared.Name.{Name}
 use Rattle.slot_rules.specs.declared.Parent.{Parent}
 use Rattle.slot_rules.specs.declared.Parent.the-variants.{Root, Below}
 use Rattle.slot_rules.specs.Table.{Slot, free, holding, lowestFree, isHolding, isLive, freed}
 use Rattle.slot_rules.specs.Parents.{Key, parentIn, up, isSlot, reaches, goesWith, isNone, isRoot, rootAt, rootWithin, parentLive, rootNear}
-use Rattle.slot_rules.specs.Calls.{check46, check47, check48, check49, putCheck, putAnswer, putTable, dropAnswer, dropTable}
+use Rattle.slot_rules.specs.Calls.{check46, check47, check48, check49, putCheck, putTable, dropTable}
 use Rattle.slot_rules.proofs.Tables.{lowest-none, freed-at}
 use Rattle.slot_rules.specs.Statements.{Call, puts, drops, empty, after, afterAll, AlwaysSound}
 

@@ -1,19 +1,19 @@
 -- What holds of any calls on slots.
 use mathlib.Core.Path.{_≡_, refl, sym, ap, _∙_}
-use mathlib.Core.Bool.{Bool, true, false, cond, _&&_, _||_}
+use mathlib.Core.Bool.{Bool, true, false, cond}
 use mathlib.Core.List.{List, [], _∷_}
 use Prim.Native.Nat.{ℕ, _+_, _<_, _≤_}
 use native.Mathlib.Omega.{arith}
-use borrow.Author.Tests.{eq-eqb, le-ltb, ltb-true, ltb-false}
+use borrow.Author.Tests.{eq-eqb, lt-ltb, le-ltb, ltb-true, ltb-false}
 use lib.Dec.{ltb}
-use lib.ListN.{length, getD, replicate}
-use lib.Seq.{getD-set-other}
+use lib.ListN.{length, getD, set, replicate}
+use lib.Seq.{getD-set-same, getD-set-other}
 use Rattle.slices.proofs.Truth.{and-left}
-use Rattle.refusal.specs.Checks.{Check, pass, refuse, bare, unless, _andThen_}
-use Rattle.refusal.specs.Answers.{Answer, returned, refused, answerTo}
+use Rattle.refusal.specs.Checks.{Reason, Check, pass, refuse, bare, unless, _andThen_}
+use Rattle.refusal.specs.Answers.{Answer, returned, refused, answerTo, afterCheck}
 use Rattle.refusal.proofs.Passing.{last-passed, test-passed, test-holds}
 use Rattle.slot_rules.specs.declared.Parent.{Parent}
-use Rattle.slot_rules.specs.Table.{Slot, free, holding, lowestFree, liveCount, isHolding, isLive}
+use Rattle.slot_rules.specs.Table.{Slot, free, holding, lowestFree, liveCount, isHolding, isLive, countGone}
 use Rattle.slot_rules.specs.Parents.{Key, reaches, goesWith, parentLive, rootNear}
 use Rattle.slot_rules.specs.Calls.{check46, check47, check48, check49, putCheck, putAnswer, putTable, dropAnswer, dropTable}
 use Rattle.slot_rules.specs.Statements.{
@@ -31,13 +31,17 @@ use Rattle.slot_rules.specs.Statements.{
   went,
   LiveCount,
   PutRefused,
+  PutAccepted,
+  PutKept,
+  DropCounted,
+  RefusedStays,
   LowestTaken,
   OthersStay,
   NoSuchSlotExactly,
   DropExactly,
   ZerosAreEmpty,
 }
-use Rattle.slot_rules.proofs.Digits.{empty-law}
+use Rattle.slot_rules.proofs.Words.{empty-law}
 use Rattle.slot_rules.proofs.Tables.{taken-more, freed-less, none-live, lowest-none, below-lowest, lowest-le, live-le, full-lowest}
 use Rattle.slot_rules.proofs.Sound.{rest, rest-at}
 
@@ -72,6 +76,16 @@ any-calls t (c ∷ calls) = let h = any-calls (after t c) calls in let s = step 
 
 pub live-count : LiveCount
 live-count calls = let h = any-calls empty calls in let z = none-live Key 64 in omega arith
+
+-- ---- an answer, and the tests that it tells of
+
+tests-passed : (c : Check) (n i : ℕ) → answerTo c n ≡ returned i → (c ≡ pass) × (n ≡ i)
+tests-passed pass n i e = (refl, cc)
+tests-passed (refuse y) n i e = let z : _≡_ {A = ℕ} 0 1 = cc (sym e) in absurd (omega arith)
+
+refused-before : {T : Type 0} (c : Check) (n : ℕ) (y : Reason) (after before : T) → answerTo c n ≡ refused y → afterCheck c after before ≡ before
+refused-before pass n y after before e = let z : _≡_ {A = ℕ} 0 1 = cc (sym e) in absurd (omega arith)
+refused-before (refuse x) n y after before e = refl
 
 -- ---- refused exactly then
 
@@ -129,6 +143,14 @@ put-refused t p =
       λ e f q. rw e (rw f (rw (not-full t q))),
     )
 
+-- a slot is free where not all are counted
+free-left : {X : Type 0} (t : List (Slot X)) → liveCount t < length t → ltb (lowestFree t) (length t) ≡ true
+free-left t h = let a = lowest-le t in let b : lowestFree t < length t = omega arith in lt-ltb _ _ b
+
+pub put-accepted : PutAccepted
+unfolding putAnswer putCheck check46 check48 check49 unless _andThen_
+put-accepted t p e f h = rw e (rw f (rw (free-left t h)))
+
 pub no-such-slot-exactly : NoSuchSlotExactly
 unfolding dropAnswer check47 unless
 no-such-slot-exactly t n = (go (isLive t n) refl, λ e. simp e)
@@ -146,6 +168,15 @@ lowest-taken t p i e =
     let inside : lowestFree t < length t = ltb-true _ _ (h .0) in
     (rw (h .1) at inside, rw (h .1) at (ap isHolding (lowest-none t)), λ j g. below-lowest t j (rw (h .1) g))
 
+pub put-kept : PutKept
+unfolding putTable putAnswer
+put-kept t x p i e =
+    let k : Key = record { name = x; parent = p } in
+    let h = tests-passed (putCheck t p) (lowestFree t) i e in
+    ap (λ (c : Check). getD (afterCheck c (set t (lowestFree t) (holding k)) t) i free) (h .0)
+    ∙ ap (λ (j : ℕ). getD (set t (lowestFree t) (holding k)) j free) (sym (h .1))
+    ∙ getD-set-same t (lowestFree t) (holding k) free (room t p (h .0))
+
 -- ---- nothing else changes
 
 pub others-stay : OthersStay
@@ -155,6 +186,20 @@ others-stay t x p j h = go (putCheck t p) refl
     go : (c : Check) → putCheck t p ≡ c → getD (putTable t x p) j free ≡ getD t j free
     go pass e = simp e (getD-set-other t (lowestFree t) j (holding (record { name = x; parent = p })) free h)
     go (refuse y) e = simp e
+
+pub refused-stays : RefusedStays
+unfolding putTable putAnswer dropTable dropAnswer
+refused-stays t = (
+  λ x p y e. refused-before (putCheck t p) (lowestFree t) y _ t e,
+  λ n y e. refused-before (check47 t n) (countGone (goesWith t n) 0 (length t)) y _ t e,
+)
+
+pub drop-counted : DropCounted
+unfolding dropTable dropAnswer check47
+drop-counted t n live = (
+  rw (test-holds (isLive t n) (bare 47) live),
+  rw (test-holds (isLive t n) (bare 47) live) (freed-less (goesWith t n) 0 t (λ i q. goes-live t n i q)),
+)
 
 pub drop-exactly : DropExactly
 unfolding dropTable check47 goesWith reaches rest

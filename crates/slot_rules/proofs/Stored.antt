@@ -1,117 +1,81 @@
--- What the operations on stored slots come to in the table that they hold.
-use mathlib.Core.Path.{_≡_, refl, sym, ap, ap₂, _∙_}
-use mathlib.Core.Bool.{Bool, true, false}
-use mathlib.Core.List.{List}
-use Prim.Native.Nat.{ℕ, _-_, _^_, _<_}
+-- What a call stores holds the table after it.
+use mathlib.Core.Path.{_≡_, refl, sym, ap, _∙_}
+use mathlib.Core.Bool.{true, false, false≢true}
+use mathlib.Core.List.{List, [], _∷_}
+use Prim.Native.Nat.{ℕ, zero, suc, _≤_, _<_, _^_}
+use native.Mathlib.Decide.{decLt}
 use native.Mathlib.Omega.{arith}
 use borrow.Author.Tests.{ltb-true, ne-eqb}
 use lib.Bits.{bitOr}
-use lib.Count.{ones, trailingZeros}
 use lib.Dec.{ltb, eqb}
-use lib.ListN.{length, set}
-use Rattle.refusal.specs.Checks.{Reason, Check, pass, refuse, bare, unless, _andThen_}
-use Rattle.refusal.specs.Answers.{returned, refused, answerTo}
-use Rattle.refusal.proofs.Passing.{before-passed, last-passed, test-passed, test-holds}
+use lib.ListN.{length, set, List·getD-eq-default}
+use Rattle.refusal.specs.Checks.{Check, pass, refuse, bare, unless, _andThen_}
+use Rattle.refusal.proofs.Passing.{before-passed, last-passed, test-passed}
 use Rattle.slot_rules.specs.declared.Name.{Name}
 use Rattle.slot_rules.specs.declared.Slots.{Slots}
 use Rattle.slot_rules.specs.declared.Parent.{Parent}
 use Rattle.slot_rules.specs.declared.Parent.the-variants.{Root, Below}
-use Rattle.slot_rules.specs.Table.{hasDigit, holding, slotsFrom, lowestFree, liveCount, isLive, countGone, wordGone}
-use Rattle.slot_rules.specs.Parents.{goesWith, parentLive, rootNear}
-use Rattle.slot_rules.specs.Calls.{check46, check47, check48, check49, putCheck, putAnswer, putTable, dropAnswer, dropTable}
-use Rattle.slot_rules.specs.Stored.{tableOf, parentOf, byteOf, keysOf, taking, freeing, goneWith, putStored, dropStored}
-use Rattle.slot_rules.specs.Internal.{stepFrom, stepIn, reachesBy, rootWithinTwoBy}
-use Rattle.slot_rules.proofs.Digits.{put-law, freed-law, count-law, word-same}
-use Rattle.slot_rules.proofs.Steps.{table, keys, below, keys-set, same-ways}
-use Rattle.slot_rules.proofs.Steps
+use Rattle.slot_rules.specs.Table.{free, holding, slotsFrom, lowestFree, isHolding, isLive}
+use Rattle.slot_rules.specs.Parents.{Key, goesWith, parentLive}
+use Rattle.slot_rules.specs.Calls.{check46, check47, check48, check49, putCheck, putTable, dropTable}
+use Rattle.slot_rules.specs.Stored.{Fits, parentOf, byteOf, keysOf, tableOf, putStored, dropStored}
+use Rattle.slot_rules.specs.Statements.{StoredIsTable}
+use Rattle.slot_rules.proofs.Words.{length-slots, put-law, freed-law}
 
--- a test that fails refuses
-test-fails : (t : Bool) (x : Reason) → t ≡ false → unless t x ≡ refuse x
-unfolding unless
-test-fails t x e = rw e
+-- ---- what the slots hold
 
--- no parent passes both tests
-pub root-checked : (s : Slots) → pass ≡ (check48 (tableOf s) Root andThen check49 (tableOf s) Root)
-unfolding check48 check49 unless _andThen_
-root-checked s = refl
+pub keys-length : (names : List Name) (parents : List ℕ) → length names ≡ length parents → length (keysOf names parents) ≡ length names
+unfolding keysOf
+keys-length [] parents e = refl
+keys-length (x ∷ names) [] e = absurd (omega arith)
+keys-length (x ∷ names) (p ∷ parents) e = ap suc (keys-length names parents (omega arith))
 
--- a parent that is none or a live slot fits a byte, which holds it
-module _ (p : Parent) (h : (q : ℕ) → p ≡ Below q → q < 64) where
-  pub byte-back : parentOf (byteOf p) ≡ p
-  byte-back = go p h
-    where
-      go : (p : Parent) → ((q : ℕ) → p ≡ Below q → q < 64) → parentOf (byteOf p) ≡ p
-      go Root h = refl
-      go (Below q) h =
-          let l : q < 64 = h q refl in
-          let t : eqb q 255 ≡ false = ne-eqb q 255 (λ (z : q ≡ 255). omega arith) in
-          simp t
+keys-set : (names : List Name) (parents : List ℕ) (i : ℕ) (x : Name) (p : ℕ) → length names ≡ length parents → i < length names
+    → keysOf (set names i x) (set parents i p) ≡ set (keysOf names parents) i (record { name = x; parent = parentOf p })
+unfolding keysOf
+keys-set [] parents i x p e h = absurd (omega arith)
+keys-set (y ∷ names) [] i x p e h = absurd (omega arith)
+keys-set (y ∷ names) (q ∷ parents) zero x p e h = refl
+keys-set (y ∷ names) (q ∷ parents) (suc i) x p e h =
+    ap (λ (t : List Key). record { name = y; parent = parentOf q } ∷ t) (keys-set names parents i x p (omega arith) (omega arith))
 
-  pub byte-fits : byteOf p < 256
-  byte-fits = go p h
-    where
-      go : (p : Parent) → ((q : ℕ) → p ≡ Below q → q < 64) → byteOf p < 256
-      go Root h = omega arith
-      go (Below q) h = let l : q < 64 = h q refl in omega arith
-
--- slots as they are stored: a word of 64 digits, 64 names, 64 parents
-pub record Fits (s : Slots) : Type 0 where
-  pub bits : s .taken < 2 ^ 64
-  pub names : length (s .names) ≡ 64
-  pub parents : length (s .parents) ≡ 64
+-- a parent that is none or a slot's number is what its byte holds
+byte-back : (p : Parent) → ((q : ℕ) → p ≡ Below q → q < 64) → parentOf (byteOf p) ≡ p
+byte-back Root h = refl
+byte-back (Below q) h =
+    let l : q < 64 = h q refl in
+    let t : eqb q 255 ≡ false = ne-eqb q 255 (λ (z : q ≡ 255). omega arith) in
+    simp t
 
 module _ (s : Slots) (f : Fits s) where
-  b : s .taken < 2 ^ 64
-  b = f .bits
-
-  l : length (s .names) ≡ 64
-  l = f .names
-
-  m : length (s .parents) ≡ 64
-  m = f .parents
-
-  pub counted : ones (s .taken) ≡ liveCount (tableOf s)
-  counted = Steps.counted (s .taken) (s .names) (s .parents) b l m
-
-  pub lowest : trailingZeros 64 ((2 ^ 64 - 1) - s .taken) ≡ lowestFree (tableOf s)
-  unfolding table keys
-  lowest = Steps.lowest (s .taken) (s .names) (s .parents) b l m
-
-  size : length (tableOf s) ≡ 64
-  unfolding table keys
-  size = Steps.long (s .taken) (s .names) (s .parents) b l m
-
-  pub live : (n : ℕ) → isLive (tableOf s) n ≡ hasDigit (s .taken) n
-  unfolding table keys
-  live n = Steps.live-of (s .taken) (s .names) (s .parents) b l m n
-
-  pub live-below : (n : ℕ) → isLive (tableOf s) n ≡ true → n < 64
-  live-below n e = below (s .taken) n (sym (live n) ∙ e)
+  same : length (s .names) ≡ length (s .parents)
+  same = f .names ∙ sym (f .parents)
 
   keys-size : length (keysOf (s .names) (s .parents)) ≡ 64
-  unfolding keys
-  keys-size = Steps.size (s .taken) (s .names) (s .parents) b l m
+  keys-size = keys-length (s .names) (s .parents) same ∙ f .names
 
-  keys-inside : (i : ℕ) → i < 64 → i < length (keysOf (s .names) (s .parents))
-  keys-inside i h = let z = keys-size in omega arith
+  pub size : length (tableOf s) ≡ 64
+  size = length-slots (keysOf (s .names) (s .parents)) (s .taken) ∙ keys-size
+
+  -- a live slot is one of the 64
+  pub live-below : (n : ℕ) → isLive (tableOf s) n ≡ true → n < 64
+  live-below n e = go (decLt n 64)
+    where
+      go : Dec (n < 64) → n < 64
+      go (yes h) = h
+      go (no g) =
+          let z = size in
+          let past : length (tableOf s) ≤ n = omega arith in
+          absurd (false≢true (sym (ap isHolding (List·getD-eq-default (tableOf s) free past)) ∙ e))
+
+  -- ---- a put
 
   -- 46 asks for a slot below 64
   pub full : check46 (tableOf s) ≡ unless (ltb (lowestFree (tableOf s)) 64) (bare 46)
   unfolding check46
   full = ap (λ (n : ℕ). unless (ltb (lowestFree (tableOf s)) n) (bare 46)) size
 
-  -- ---- a put
-
-  pub near : (p : ℕ) → rootNear (tableOf s) (Below p) ≡ rootWithinTwoBy (s .taken) (s .parents) p
-  unfolding table keys
-  near p = Steps.near-of (s .taken) (s .names) (s .parents) b l m p
-
-  pub parent-checked : (p : ℕ)
-      → (unless (hasDigit (s .taken) p) (bare 48) andThen unless (rootWithinTwoBy (s .taken) (s .parents) p) (bare 49))
-      ≡ (check48 (tableOf s) (Below p) andThen check49 (tableOf s) (Below p))
-  unfolding check48 check49
-  parent-checked p = sym (ap₂ (λ (x y : Bool). unless x (bare 48) andThen unless y (bare 49)) (live p) (near p))
-
+  -- where its tests pass, a slot is free, and the parent is none or a slot's number
   module _ (p : Parent) (e : putCheck (tableOf s) p ≡ pass) where
     pub room : lowestFree (tableOf s) < 64
     unfolding putCheck
@@ -119,12 +83,15 @@ module _ (s : Slots) (f : Fits s) where
 
     parent-lives : parentLive (tableOf s) p ≡ true
     unfolding putCheck check48
-    parent-lives = test-passed _ _ (before-passed (check48 (tableOf s) p) (check49 (tableOf s) p) (before-passed (check48 (tableOf s) p andThen check49 (tableOf s) p) (check46 (tableOf s)) e))
+    parent-lives =
+        test-passed _ _
+        (before-passed (check48 (tableOf s) p) (check49 (tableOf s) p)
+        (before-passed (check48 (tableOf s) p andThen check49 (tableOf s) p) (check46 (tableOf s)) e))
 
     pub parent-below : (q : ℕ) → p ≡ Below q → q < 64
     parent-below q z = live-below q (sym (ap (parentLive (tableOf s)) z) ∙ parent-lives)
 
-  pub put-stored : (x : Name) (p : Parent) → tableOf (putStored s x p) ≡ putTable (tableOf s) x p
+  put-stored : (x : Name) (p : Parent) → tableOf (putStored s x p) ≡ putTable (tableOf s) x p
   unfolding putStored putTable
   put-stored x p = go (putCheck (tableOf s) p) refl
     where
@@ -132,24 +99,19 @@ module _ (s : Slots) (f : Fits s) where
       go pass e =
           let i : ℕ = lowestFree (tableOf s) in
           let h : lowestFree (tableOf s) < 64 = room p e in
-          let inside : lowestFree (tableOf s) < length (s .names) = omega (arith, l) in
+          let l = f .names in
+          let k = keys-size in
+          let inside : lowestFree (tableOf s) < length (s .names) = omega arith in
+          let held : lowestFree (tableOf s) < length (keysOf (s .names) (s .parents)) = omega arith in
           simp e
-          (ap (slotsFrom (bitOr (s .taken) (2 ^ i))) (keys-set (s .names) (s .parents) i x (byteOf p) (l ∙ sym m) inside)
-          ∙ put-law (keysOf (s .names) (s .parents)) (s .taken) i (record { name = x; parent = parentOf (byteOf p) }) (keys-inside i h)
+          (ap (slotsFrom (bitOr (s .taken) (2 ^ i))) (keys-set (s .names) (s .parents) i x (byteOf p) same inside)
+          ∙ put-law (keysOf (s .names) (s .parents)) (s .taken) i (record { name = x; parent = parentOf (byteOf p) }) held
           ∙ ap (λ (q : Parent). set (tableOf s) i (holding (record { name = x; parent = q }))) (byte-back p (parent-below p e)))
       go (refuse y) e = simp e
 
   -- ---- a drop
 
-  -- the word of those that reach a live slot by the steps of this list
-  pub gone-live : (n : ℕ) (steps : List ℕ) → isLive (tableOf s) n ≡ true → ((j : ℕ) → stepIn steps j ≡ stepFrom (s .taken) (s .parents) j)
-      → wordGone (reachesBy (stepIn steps) n) 0 64 ≡ goneWith s n
-  unfolding table keys
-  gone-live n steps e g =
-      word-same _ _ (λ j. same-ways (stepIn steps) (stepFrom (s .taken) (s .parents)) g n j
-      ∙ sym (Steps.goes-of (s .taken) (s .names) (s .parents) b l m n j (sym (live n) ∙ e))) 0 64
-
-  pub drop-stored : (n : ℕ) → tableOf (dropStored s n) ≡ dropTable (tableOf s) n
+  drop-stored : (n : ℕ) → tableOf (dropStored s n) ≡ dropTable (tableOf s) n
   unfolding dropStored dropTable
   drop-stored n = go (check47 (tableOf s) n) refl
     where
@@ -157,40 +119,5 @@ module _ (s : Slots) (f : Fits s) where
       go pass e = simp e (rw keys-size at (freed-law (goesWith (tableOf s) n) (keysOf (s .names) (s .parents)) (s .taken) 0))
       go (refuse y) e = simp e
 
-  pub drop-count : (n : ℕ) → isLive (tableOf s) n ≡ true → returned (ones (goneWith s n)) ≡ dropAnswer (tableOf s) n
-  unfolding dropAnswer check47
-  drop-count n e =
-      ap returned (count-law (goesWith (tableOf s) n) 0 64 ∙ ap (countGone (goesWith (tableOf s) n) 0) (sym size))
-      ∙ sym (ap (λ (d : Check). answerTo d (countGone (goesWith (tableOf s) n) 0 (length (tableOf s)))) (test-holds _ _ e))
-
--- ---- the other cases of the calls
-
-module _ (s : Slots) (p : Parent) where
-  pub put-number : (i : ℕ) → i ≡ lowestFree (tableOf s) → putCheck (tableOf s) p ≡ pass → returned i ≡ putAnswer (tableOf s) p
-  unfolding putAnswer
-  put-number i e h = rw h (ap returned e)
-
-  pub put-none : (y : Reason) → putCheck (tableOf s) p ≡ refuse y → refused y ≡ putAnswer (tableOf s) p
-  unfolding putAnswer
-  put-none y h = rw h
-
-  pub put-takes : (r : Slots) (i : ℕ) (x : Name) → i ≡ lowestFree (tableOf s) → putCheck (tableOf s) p ≡ pass → r ≡ taking s i x p → r ≡ putStored s x p
-  unfolding putStored
-  put-takes r i x e h q = rw h (q ∙ ap (λ (n : ℕ). taking s n x p) e)
-
-  pub put-leaves : (y : Reason) (x : Name) → putCheck (tableOf s) p ≡ refuse y → s ≡ putStored s x p
-  unfolding putStored
-  put-leaves y x h = rw h
-
-module _ (s : Slots) (n : ℕ) where
-  pub drop-none : isLive (tableOf s) n ≡ false → refused (bare 47) ≡ dropAnswer (tableOf s) n
-  unfolding dropAnswer check47
-  drop-none e = rw (test-fails (isLive (tableOf s) n) (bare 47) e)
-
-  pub drop-frees : (r : Slots) → isLive (tableOf s) n ≡ true → r ≡ freeing s (goneWith s n) → r ≡ dropStored s n
-  unfolding dropStored check47
-  drop-frees r e q = rw (test-holds (isLive (tableOf s) n) (bare 47) e) q
-
-  pub drop-leaves : isLive (tableOf s) n ≡ false → s ≡ dropStored s n
-  unfolding dropStored check47
-  drop-leaves e = rw (test-fails (isLive (tableOf s) n) (bare 47) e)
+pub stored-is-table : StoredIsTable
+stored-is-table s f = (put-stored s f, drop-stored s f)

@@ -5,7 +5,7 @@ use mathlib.Core.List.{List, [], _∷_}
 use Prim.Native.Nat.{ℕ, zero, suc, _+_, _≤_, _<_}
 use native.Mathlib.Omega.{arith}
 use lib.ListN.{length, getD, set, replicate}
-use Rattle.slot_rules.specs.Table.{Slot, free, holding, lowestFree, liveCount, isHolding, isLive, freed, countGone, digit}
+use Rattle.slot_rules.specs.Table.{Slot, free, holding, lowestFree, liveCount, isHolding, isLive, freed, countGone, bit}
 
 module _ {X : Type 0} where
   -- a slot taken counts one more
@@ -26,7 +26,7 @@ module _ {X : Type 0} where
     where
       go : (x : Slot X) (b : Bool) → (b ≡ true → isHolding x ≡ true)
           → liveCount (freed goes (suc at) t) + countGone goes (suc at) (length t) ≡ liveCount t
-          → liveCount (cond b free x ∷ freed goes (suc at) t) + (digit b + countGone goes (suc at) (length t)) ≡ liveCount (x ∷ t)
+          → liveCount (cond b free x ∷ freed goes (suc at) t) + (bit b + countGone goes (suc at) (length t)) ≡ liveCount (x ∷ t)
       go free true f ih = absurd (false≢true (f refl))
       go free false f ih = omega arith
       go (holding k) true f ih = omega arith

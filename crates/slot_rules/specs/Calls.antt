@@ -7,7 +7,7 @@ use Rattle.refusal.specs.Checks.{Check, bare, unless, _andThen_}
 use Rattle.refusal.specs.Answers.{Answer, answerTo, afterCheck}
 use Rattle.slot_rules.specs.declared.Name.{Name}
 use Rattle.slot_rules.specs.declared.Parent.{Parent}
-use Rattle.slot_rules.specs.Table.{Slot, free, holding, lowestFree, isLive, freed, countGone}
+use Rattle.slot_rules.specs.Table.{Slot, holding, lowestFree, isLive, freed, countGone}
 use Rattle.slot_rules.specs.Parents.{Key, goesWith, parentLive, rootNear}
 
 module _ {X : Type 0} where

@@ -1,17 +1,19 @@
 -- What is proved of the calls on slots (document 02, requests 12 and 13). The proofs are in proofs/.
 use Prim.Native.Nat.{ℕ, _+_, _<_}
 use mathlib.Core.Path.{_≡_}
-use mathlib.Core.Bool.{Bool, true, false}
+use mathlib.Core.Bool.{true, false}
 use mathlib.Core.List.{List, [], _∷_}
 use lib.ListN.{length, getD, replicate}
-use Rattle.refusal.specs.Checks.{bare}
+use Rattle.refusal.specs.Checks.{Reason, bare}
 use Rattle.refusal.specs.Answers.{Answer, returned, refused}
 use Rattle.slot_rules.specs.declared.Name.{Name}
+use Rattle.slot_rules.specs.declared.Slots.{Slots}
 use Rattle.slot_rules.specs.declared.Parent.{Parent}
-use Rattle.slot_rules.specs.declared.Parent.the-variants.{Root, Below}
-use Rattle.slot_rules.specs.Table.{Slot, free, lowestFree, liveCount, isLive, slotsFrom}
+use Rattle.slot_rules.specs.declared.Parent.the-variants.{Below}
+use Rattle.slot_rules.specs.Table.{Slot, free, holding, lowestFree, liveCount, isLive, slotsFrom, countGone}
 use Rattle.slot_rules.specs.Parents.{Key, parentIn, goesWith, rootWithin, parentLive, rootNear}
 use Rattle.slot_rules.specs.Calls.{putAnswer, putTable, dropAnswer, dropTable}
+use Rattle.slot_rules.specs.Stored.{Fits, tableOf, putStored, dropStored}
 
 -- 64 slots, all free
 abbrev pub empty : {X : Type 0} → List (Slot X)
@@ -81,12 +83,27 @@ PutRefused =
     × (putAnswer t p ≡ refused (bare 46) → (parentLive t p ≡ true) × (rootNear t p ≡ true) × (liveCount t ≡ length t))
     × (parentLive t p ≡ true → rootNear t p ≡ true → liveCount t ≡ length t → putAnswer t p ≡ refused (bare 46))
 
--- the slot that a put takes is free, every lower one is taken, and no other slot changes
+-- and it is accepted in every other case, with the number of the lowest free slot
+abbrev pub PutAccepted : Type 0
+PutAccepted =
+    (t : List (Slot Key)) (p : Parent)
+    → parentLive t p ≡ true
+    → rootNear t p ≡ true
+    → liveCount t < length t
+    → putAnswer t p ≡ returned (lowestFree t)
+
+-- the slot that a put takes is free, every lower one is taken, name and parent are kept there, and no other slot changes
 abbrev pub LowestTaken : Type 0
 LowestTaken =
     (t : List (Slot Key)) (p : Parent) (i : ℕ)
     → putAnswer t p ≡ returned i
     → (i < length t) × (isLive t i ≡ false) × ((j : ℕ) → j < i → isLive t j ≡ true)
+
+abbrev pub PutKept : Type 0
+PutKept =
+    (t : List (Slot Key)) (x : Name) (p : Parent) (i : ℕ)
+    → putAnswer t p ≡ returned i
+    → getD (putTable t x p) i free ≡ holding (record { name = x; parent = p })
 
 abbrev pub OthersStay : Type 0
 OthersStay = (t : List (Slot Key)) (x : Name) (p : Parent) (j : ℕ) → (j ≡ lowestFree t → ⊥) → getD (putTable t x p) j free ≡ getD t j free
@@ -96,6 +113,21 @@ abbrev pub NoSuchSlotExactly : Type 0
 NoSuchSlotExactly =
     (t : List (Slot Key)) (n : ℕ)
     → (dropAnswer t n ≡ refused (bare 47) → isLive t n ≡ false) × (isLive t n ≡ false → dropAnswer t n ≡ refused (bare 47))
+
+-- in every other case it is accepted, and the number that it answers is of slots that were live and are not any more
+abbrev pub DropCounted : Type 0
+DropCounted =
+    (t : List (Slot Key)) (n : ℕ)
+    → isLive t n ≡ true
+    → (dropAnswer t n ≡ returned (countGone (goesWith t n) 0 (length t)))
+    × (liveCount (dropTable t n) + countGone (goesWith t n) 0 (length t) ≡ liveCount t)
+
+-- a refused call changes nothing
+abbrev pub RefusedStays : Type 0
+RefusedStays =
+    (t : List (Slot Key))
+    → ((x : Name) (p : Parent) (y : Reason) → putAnswer t p ≡ refused y → putTable t x p ≡ t)
+    × ((n : ℕ) (y : Reason) → dropAnswer t n ≡ refused y → dropTable t n ≡ t)
 
 -- after an accepted drop the slots that go are free, the slot dropped among them, and no other slot changes
 abbrev pub DropExactly : Type 0
@@ -109,3 +141,11 @@ DropExactly =
 -- a word of zeros is the empty table, whatever stands in the slots
 abbrev pub ZerosAreEmpty : Type 1
 ZerosAreEmpty = (X : Type 0) (held : List X) → length held ≡ 64 → slotsFrom 0 held ≡ empty
+
+-- what a put stores holds the table after the put, and so with a drop
+abbrev pub StoredIsTable : Type 0
+StoredIsTable =
+    (s : Slots)
+    → Fits s
+    → ((x : Name) (p : Parent) → tableOf (putStored s x p) ≡ putTable (tableOf s) x p)
+    × ((n : ℕ) → tableOf (dropStored s n) ≡ dropTable (tableOf s) n)

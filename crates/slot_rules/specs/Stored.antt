@@ -1,10 +1,11 @@
 -- How `Slots` holds a table of slots, and what each call leaves in it, the names and parents of free slots included.
-use Prim.Native.Nat.{ℕ, _-_, _^_}
+use Prim.Native.Nat.{ℕ, _-_, _^_, _<_}
+use mathlib.Core.Path.{_≡_}
 use mathlib.Core.Bool.{cond}
 use mathlib.Core.List.{List, [], _∷_}
 use lib.Bits.{bitAnd, bitOr}
 use lib.Dec.{eqb}
-use lib.ListN.{set}
+use lib.ListN.{length, set}
 use Rattle.refusal.specs.Answers.{afterCheck}
 use Rattle.slot_rules.specs.declared.Name.{Name}
 use Rattle.slot_rules.specs.declared.Slots.{Slots}
@@ -13,6 +14,12 @@ use Rattle.slot_rules.specs.declared.Parent.the-variants.{Root, Below}
 use Rattle.slot_rules.specs.Table.{Slot, slotsFrom, lowestFree, wordGone}
 use Rattle.slot_rules.specs.Parents.{Key, goesWith}
 use Rattle.slot_rules.specs.Calls.{check47, putCheck}
+
+-- what holds of every `Slots` of the code and of C: a word of 64 bits, 64 names, 64 parents
+pub record Fits (s : Slots) : Type 0 where
+  pub bits : s .taken < 2 ^ 64
+  pub names : length (s .names) ≡ 64
+  pub parents : length (s .parents) ≡ 64
 
 -- a byte as a parent, 255 for none, and a parent as a byte
 abbrev pub parentOf : ℕ → Parent
@@ -30,11 +37,11 @@ keysOf (x ∷ names) (p ∷ parents) = record { name = x; parent = parentOf p } 
 abbrev pub tableOf : Slots → List (Slot Key)
 tableOf s = slotsFrom (s .taken) (keysOf (s .names) (s .parents))
 
--- slot i taken: its digit is set, and name and parent stand in their places
+-- slot i taken: its bit is set, and name and parent stand in their places
 abbrev pub taking : Slots → ℕ → Name → Parent → Slots
 taking s i x p = record { taken = bitOr (s .taken) (2 ^ i); names = set (s .names) i x; parents = set (s .parents) i (byteOf p) }
 
--- the slots of a word freed: their digits are cleared, and nothing else changes
+-- the slots of a word freed: their bits are cleared, and nothing else changes
 abbrev pub freeing : Slots → ℕ → Slots
 freeing s gone = record { taken = bitAnd (s .taken) ((2 ^ 64 - 1) - gone); names = s .names; parents = s .parents }
 

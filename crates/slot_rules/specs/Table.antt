@@ -1,19 +1,14 @@
 -- A table of slots (document 02, requests 12 and 13), whatever a slot holds, and how a word tells which slots are taken. Slots are counted from 0, and
--- slot 0 is the word's lowest binary digit.
-use Prim.Native.Nat.{ℕ, zero, suc, _+_, _*_, _/_, _%_, _^_}
-use mathlib.Core.Bool.{Bool, true, false, cond, _&&_}
+-- slot 0 is the word's lowest bit.
+use Prim.Native.Nat.{ℕ, zero, suc, _+_, _*_, _/_, _%_}
+use mathlib.Core.Bool.{Bool, true, false, cond}
 use mathlib.Core.List.{List, [], _∷_}
-use lib.Dec.{ltb, eqb}
 use lib.ListN.{getD}
 
 -- a slot is free or holds something
 pub data Slot (X : Type 0) : Type 0 where
   free : Slot X
   holding : X → Slot X
-
--- whether digit n of a word of 64 is set
-abbrev pub hasDigit : ℕ → ℕ → Bool
-hasDigit w n = ltb n 64 && eqb (w / 2 ^ n % 2) 1
 
 module _ {X : Type 0} where
   -- the number of the lowest free slot; where none is free, the count of all
@@ -36,7 +31,7 @@ module _ {X : Type 0} where
   abbrev pub isLive : List (Slot X) → ℕ → Bool
   isLive t n = isHolding (getD t n free)
 
-  -- a slot by its digit, 1 for taken, and by what stands there, which counts only then
+  -- a slot by its bit, 1 for taken, and by what stands there, which counts only then
   abbrev pub slotOf : ℕ → X → Slot X
   slotOf zero x = free
   slotOf (suc d) x = holding x
@@ -51,15 +46,15 @@ module _ {X : Type 0} where
   freed goes at [] = []
   freed goes at (s ∷ slots) = cond (goes at) free s ∷ freed goes (suc at) slots
 
--- how many of n slots from number `at` on go, and the word that has their digits set
-abbrev pub digit : Bool → ℕ
-digit true = 1
-digit false = 0
+-- how many of n slots from number `at` on go, and the word that has their bits set
+abbrev pub bit : Bool → ℕ
+bit true = 1
+bit false = 0
 
 unfoldable pub countGone : (ℕ → Bool) → ℕ → ℕ → ℕ
 countGone goes at zero = 0
-countGone goes at (suc n) = digit (goes at) + countGone goes (suc at) n
+countGone goes at (suc n) = bit (goes at) + countGone goes (suc at) n
 
 unfoldable pub wordGone : (ℕ → Bool) → ℕ → ℕ → ℕ
 wordGone goes at zero = 0
-wordGone goes at (suc n) = wordGone goes (suc at) n * 2 + digit (goes at)
+wordGone goes at (suc n) = wordGone goes (suc at) n * 2 + bit (goes at)

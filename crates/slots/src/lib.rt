@@ -2,17 +2,17 @@
 // value, and come back with the answer.
 ghost use mathlib.Core.Path.{_≡_};
 ghost use Prim.Native.Nat.{_<_};
-ghost use Rattle.refusal.specs.Answers.{checkedAs};
+ghost use Rattle.refusal.specs.Answers.{checkedAs, answerOf};
 ghost use Rattle.slot_rules.specs.Table.{lowestFree, liveCount};
-ghost use Rattle.slot_rules.specs.Calls.{putCheck, putAnswer, putTable, dropAnswer, dropTable};
+ghost use Rattle.slot_rules.specs.Calls.{putCheck, putAnswer, dropAnswer};
 ghost use Rattle.slot_rules.specs.Stored.{tableOf, byteOf, putStored, dropStored};
-ghost use Rattle.slots.specs.Answers.{answerOf};
 
-mod digits; // digits of the word of taken slots
+mod bits; // bits of the word of taken slots
 mod tree; // the tests of a parent, and what goes with a slot
 
-use digits::has_digit;
-use digits::power;
+use bits::has_bit;
+use bits::mask;
+use refusal::Answered;
 use refusal::Checked;
 use refusal::Refusal;
 use refusal::then_check;
@@ -23,16 +23,10 @@ use slot_rules::Slots;
 use tree::check_parent;
 use tree::gone;
 
-// What a call answers: a put the number of its slot, a drop how many went; or a refusal.
-pub enum SlotAnswer {
-    Number(u64),
-    Refused(Refusal),
-}
-
-// What a call answers, and the slots after it. A call makes one copy of the slots, changes it or not, and returns it at its end: where a refusal
-// returns its argument by a way of its own, the compiler keeps three copies on the stack.
+// What a call answers, a put the number of its slot and a drop how many went, and the slots after it. A call makes one copy of the slots, changes it or
+// not, and returns it at its end: where a refusal returns its argument by a way of its own, the compiler keeps three copies on the stack.
 pub struct After {
-    pub answer: SlotAnswer,
+    pub answer: Answered,
     pub slots: Slots,
 }
 
@@ -77,20 +71,18 @@ fn parent_byte(parent: Parent) -> u8
 pub fn put(slots: Slots, name: Name, parent: Parent) -> After
     ensures answer { λ r. ⌜ answerOf (r .answer) ≡ putAnswer (tableOf slots) parent ⌝ }
     ensures stored { λ r. ⌜ r .slots ≡ putStored slots name parent ⌝ }
-    ensures table { λ r. ⌜ tableOf (r .slots) ≡ putTable (tableOf slots) name parent ⌝ }
 {
     let check = check_put(slots, parent);
     let mut next = slots;
     let answer = match check {
-        Checked::Failed(why) => SlotAnswer::Refused(why),
+        Checked::Failed(why) => Answered::Refused(why),
         Checked::Passed => {
-            let place = lowest_free(slots);
-            let number = place as u64;
-            let at = place as usize;
-            next.taken = slots.taken | power(number);
+            let number = lowest_free(slots);
+            let at = number as usize;
+            next.taken = slots.taken | mask(number);
             next.names[at] = name;
             next.parents[at] = parent_byte(parent);
-            SlotAnswer::Number(number)
+            Answered::Accepted(at)
         }
     };
     After {
@@ -105,16 +97,15 @@ pub fn put(slots: Slots, name: Name, parent: Parent) -> After
 pub fn drop(slots: Slots, number: u64) -> After
     ensures answer { λ r. ⌜ answerOf (r .answer) ≡ dropAnswer (tableOf slots) number ⌝ }
     ensures stored { λ r. ⌜ r .slots ≡ dropStored slots number ⌝ }
-    ensures table { λ r. ⌜ tableOf (r .slots) ≡ dropTable (tableOf slots) number ⌝ }
 {
     let mut next = slots;
-    let answer = if has_digit(slots.taken, number) {
+    let answer = if has_bit(slots.taken, number) {
         let word = gone(slots, number);
-        let went = u64::count_ones(word) as u64;
+        let went = u64::count_ones(word) as usize;
         next.taken = slots.taken & !word;
-        SlotAnswer::Number(went)
+        Answered::Accepted(went)
     } else {
-        SlotAnswer::Refused(Refusal::NoSuchSlot)
+        Answered::Refused(Refusal::NoSuchSlot)
     };
     After {
         answer: answer,

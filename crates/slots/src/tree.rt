@@ -4,11 +4,11 @@ ghost use mathlib.Core.Path.{_≡_};
 ghost use mathlib.Core.Bool.{true, cond};
 ghost use Rattle.refusal.specs.Checks.{_andThen_};
 ghost use Rattle.refusal.specs.Answers.{checkedAs};
-ghost use Rattle.slot_rules.specs.Table.{digit, isLive, wordGone};
+ghost use Rattle.slot_rules.specs.Table.{bit, isLive, wordGone};
 ghost use Rattle.slot_rules.specs.Calls.{check48, check49};
 ghost use Rattle.slot_rules.specs.Stored.{tableOf, goneWith};
-ghost use Rattle.slot_rules.specs.Internal.{stepFrom, stepIn, HasSteps, reachesBy, rootBy, rootWithinTwoBy};
-use crate::digits::has_digit;
+ghost use Rattle.slots.specs.Internal.{stepFrom, stepIn, HasSteps, reachesBy, rootBy, rootWithinTwoBy};
+use crate::bits::has_bit;
 use refusal::Checked;
 use refusal::Refusal;
 use refusal::then_check;
@@ -29,7 +29,7 @@ fn wide(b: u8) -> u64
 fn step(taken: u64, parents: &[u8; 64], s: u64) -> u64
     ensures { λ r. ⌜ r ≡ stepFrom taken (now (parents .entry)) s ⌝ }
 {
-    if has_digit(taken, s) {
+    if has_bit(taken, s) {
         wide(parents[s as usize])
     } else {
         255
@@ -40,7 +40,7 @@ fn step(taken: u64, parents: &[u8; 64], s: u64) -> u64
 fn is_root(taken: u64, parents: &[u8; 64], s: u64) -> bool
     ensures { λ r. ⌜ r ≡ rootBy taken (now (parents .entry)) s ⌝ }
 {
-    if has_digit(taken, s) {
+    if has_bit(taken, s) {
         parents[s as usize] == 255
     } else {
         false
@@ -64,7 +64,7 @@ pub(crate) fn check_parent(slots: Slots, parent: Parent) -> Checked
     match parent {
         Parent::Root => Checked::Passed,
         Parent::Below(p) => then_check(
-            unless(has_digit(slots.taken, p), Refusal::ParentNotLive),
+            unless(has_bit(slots.taken, p), Refusal::ParentNotLive),
             unless(root_within_two(slots.taken, &parents, p), Refusal::TooDeep),
         ),
     }
@@ -79,7 +79,7 @@ fn step_of(live: bool, parent: u8) -> u8
     if live { parent } else { 255 }
 }
 
-// The steps of all slots, so that the many that a drop makes ask for no digit.
+// The steps of all slots, so that the many that a drop makes ask for no bit.
 fn all_steps(taken: u64, parents: &[u8; 64]) -> [u8; 64]
     ensures { λ r. ⌜ HasSteps r taken (now (parents .entry)) ⌝ }
 {
@@ -111,9 +111,9 @@ fn reaches(steps: &[u8; 64], n: u64, s: u64) -> bool
     (s == n) | ((a == n) | ((b == n) | (c == n)))
 }
 
-// A truth value as a binary digit.
-fn digit_of(b: bool) -> u64
-    ensures { λ r. ⌜ r ≡ digit b ⌝ }
+// A truth value as a bit.
+fn bit_of(b: bool) -> u64
+    ensures { λ r. ⌜ r ≡ bit b ⌝ }
 {
     if b { 1 } else { 0 }
 }
@@ -126,7 +126,7 @@ fn reaching(steps: &[u8; 64], n: u64) -> u64
     let mut s = 64;
     while 0 < s {
         s -= 1;
-        word = word * 2 + digit_of(reaches(steps, n, s));
+        word = word * 2 + bit_of(reaches(steps, n, s));
     }
     word
 }

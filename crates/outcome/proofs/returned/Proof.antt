@@ -1,13 +1,12 @@
-use mathlib.Core.Path.{_∙_}
 use borrow.Author.Needs.{needs}
 use Rattle.outcome.proofs.returned.Statement.{statement}
 use Rattle.outcome.proofs.returned.Tie as tie
 
 returns : tie.Need-returns
-returns c = c .accepted .ensures ∙ rw (c .before .before .answer .given .1)
+returns c = rw (c .before .before .answer .given .1) (c .accepted .ensures)
 
 returns-2 : tie.Need-returns-2
-returns-2 c = c .refused .ensures ∙ rw (c .before .before .answer2 .given .1)
+returns-2 c = rw (c .before .before .answer2 .given .1) (c .refused .ensures)
 
 pub returned-spec : {M : Type 1} → statement M
 returned-spec =

@@ -1,11 +1,12 @@
 use borrow.Author.Needs.{needs}
 use mathlib.Core.Path.{sym, ap, ap₂, _∙_}
 use Prim.Native.Nat.{ℕ}
-use Rattle.slot_rules.proofs.Digits.{length-mapped}
+use Rattle.slots.proofs.BitLaws.{length-mapped}
 use lib.Dec.{ltb}
 use Rattle.refusal.specs.Checks.{bare, unless, _andThen_}
 use Rattle.slot_rules.specs.Calls.{putCheck}
-use Rattle.slot_rules.proofs.Stored.{Fits, full}
+use Rattle.slot_rules.specs.Stored.{Fits}
+use Rattle.slot_rules.proofs.Stored.{full}
 use Rattle.slots.proofs.check_put.Statement.{statement}
 use Rattle.slots.proofs.check_put.Tie as tie
 

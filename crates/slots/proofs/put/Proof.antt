@@ -8,9 +8,10 @@ use Rattle.refusal.specs.Checks.{pass}
 use Rattle.refusal.specs.Answers.{checkedAs}
 use Rattle.slot_rules.specs.Table.{lowestFree}
 use Rattle.slot_rules.specs.Calls.{putCheck}
-use Rattle.slot_rules.specs.Stored.{tableOf}
-use Rattle.slot_rules.proofs.Digits.{length-mapped}
-use Rattle.slot_rules.proofs.Stored.{Fits, room, parent-below, byte-fits, put-number, put-none, put-takes, put-leaves, put-stored}
+use Rattle.slot_rules.specs.Stored.{Fits, tableOf}
+use Rattle.slots.proofs.BitLaws.{length-mapped}
+use Rattle.slot_rules.proofs.Stored.{room, parent-below}
+use Rattle.slots.proofs.Calls.{byte-fits, put-number, put-none, put-takes, put-leaves}
 use Rattle.slots.proofs.put.Statement.{statement}
 use Rattle.slots.proofs.put.Tie as tie
 
@@ -28,8 +29,8 @@ found c =
     let h : lowestFree (tableOf (s .args .slots)) < 64 = room (s .args .slots) (stored s) (s .args .parent) (passed (c .before)) in
     rw (c .lowest-free .ensures) h
 
-power-requires : tie.Need-power-requires
-power-requires c κs = found c
+mask-requires : tie.Need-mask-requires
+mask-requires c κs = found c
 
 element-set-from-name : tie.Need-element-set-from-name
 element-set-from-name c = let h = found (c .before .before) in omega arith
@@ -48,8 +49,7 @@ returns c =
     let s = c .before .before .before .before in
     let a = s .args in
     let no = sym (c .before .before .before .check-put .ensures) ∙ ap checkedAs (c .before .check .given .1) in
-    let e = put-leaves (a .slots) (a .parent) _ (a .name) no in
-    (put-none (a .slots) (a .parent) _ no, (e, ap tableOf e ∙ put-stored (a .slots) (stored s) (a .name) (a .parent)))
+    (put-none (a .slots) (a .parent) _ no, put-leaves (a .slots) (a .parent) _ (a .name) no)
 
 returns-2 : tie.Need-returns-2
 returns-2 c =
@@ -60,17 +60,14 @@ returns-2 c =
     let yes = passed (f .before) in
     let e = put-takes (a .slots) (a .parent) _ i (a .name) (f .lowest-free .ensures) yes
     (λ j. record {
-      taken = bitOr (a .slots .taken) (c .before .before .power .ensures j);
+      taken = bitOr (a .slots .taken) (c .before .before .mask .ensures j);
       names = set (a .slots .names) i (a .name);
       parents = set (a .slots .parents) i (c .parent-byte .ensures j);
-    }) in (
-      put-number (a .slots) (a .parent) i (f .lowest-free .ensures) yes,
-      (e, ap tableOf e ∙ put-stored (a .slots) (stored s) (a .name) (a .parent)),
-    )
+    }) in (put-number (a .slots) (a .parent) i (f .lowest-free .ensures) yes, e)
 
 pub put-spec : {M : Type 1} → statement M
 put-spec =
     tie.close
     (tie.spec (λ c κs. search needs) (λ c. search needs) (λ c. search needs) (λ c κs. search needs) (λ c. search needs)
-    (λ c. search needs) power-requires (λ c. search needs) element-set-from-name parent-byte-requires element-write-next
+    mask-requires (λ c. search needs) element-set-from-name parent-byte-requires element-write-next
     returns returns-2)

@@ -10,4 +10,4 @@ returns c =
     (c .returned .ensures ∙ (λ i. comparisonOutcome (e .0 i) (e .1 .0 i)), e .1 .1)
 
 pub kv-compare-bundles-spec : {M : Type 1} → statement M
-kv-compare-bundles-spec = tie.close (tie.spec (search needs) (search needs) (search needs) returns)
+kv-compare-bundles-spec = tie.close (tie.spec (λ c κs. search needs) (λ c κs. search needs) (λ c. search needs) returns)

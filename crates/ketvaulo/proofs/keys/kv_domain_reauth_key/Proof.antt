@@ -7,4 +7,4 @@ returns : tie.Need-returns
 returns c = let p = c .before .before .before in (handed (p .domain-reauth-key .result) (c .returned .ensures) (p .domain-reauth-key .ensures .0), p .domain-reauth-key .ensures .1)
 
 pub kv-domain-reauth-key-spec : {M : Type 1} → statement M
-kv-domain-reauth-key-spec = tie.close (tie.spec (search needs) (search needs) (search needs) returns)
+kv-domain-reauth-key-spec = tie.close (tie.spec (λ c κs. search needs) (λ c κs. search needs) (λ c. search needs) returns)

@@ -7,4 +7,4 @@ returns : tie.Need-returns
 returns c = let p = c .before .before .before in (handed (p .answer .result) (c .returned .ensures) (p .answer .ensures .0), p .answer .ensures .1)
 
 pub kv-answer-offer-spec : {M : Type 1} → statement M
-kv-answer-offer-spec = tie.close (tie.spec (search needs) (search needs) (search needs) returns)
+kv-answer-offer-spec = tie.close (tie.spec (λ c κs. search needs) (λ c κs. search needs) (λ c. search needs) returns)

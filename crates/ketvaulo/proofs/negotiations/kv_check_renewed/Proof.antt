@@ -8,4 +8,4 @@ returns : tie.Need-returns
 returns c = c .renewed .ensures ∙ ap renewedOutcome (c .before .recheck .ensures)
 
 pub kv-check-renewed-spec : {M : Type 1} → statement M
-kv-check-renewed-spec = tie.close (tie.spec (search needs) (search needs) returns)
+kv-check-renewed-spec = tie.close (tie.spec (λ c κs. search needs) (λ c κs. search needs) returns)

@@ -8,4 +8,4 @@ returns : tie.Need-returns
 returns c = c .checked .ensures ∙ ap checkOutcome (c .before .check .ensures)
 
 pub kv-check-packet-spec : {M : Type 1} → statement M
-kv-check-packet-spec = tie.close (tie.spec (search needs) (search needs) returns)
+kv-check-packet-spec = tie.close (tie.spec (λ c κs. search needs) (λ c κs. search needs) returns)

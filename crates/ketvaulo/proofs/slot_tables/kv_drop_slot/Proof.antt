@@ -9,7 +9,7 @@ returns : tie.Need-returns
 returns c =
     let p = c .before .before .drop .ensures in
     let e = c .returned .ensures ∙ ap outcomeOf (p .0) in
-    (λ i. slotsOutcome (e i) (p .1 .0 i), p .1 .1)
+    λ i. slotsOutcome (e i) (p .1 i)
 
 pub kv-drop-slot-spec : {M : Type 1} → statement M
 kv-drop-slot-spec = tie.close (tie.spec (λ c κs. search needs) (λ c κs. search needs) returns)

@@ -3,11 +3,8 @@ use borrow.Author.Needs.{needs}
 use Rattle.outcome.proofs.key_attributes.returned.Statement.{statement}
 use Rattle.outcome.proofs.key_attributes.returned.Tie as tie
 
-cast-told : tie.Need-cast-told
-cast-told c = let e = c .before .answer .given .1 in record { fits = rw e at (c .before .before .before .before .pre) }
-
 returns : tie.Need-returns
-returns c = simp (c .before .before .answer .given .1, c .told .ensures) refl
+returns c = simp (c .before .before .before .answer .given .1, c .before .low .ensures, c .told .ensures) refl
 
 returns-2 : tie.Need-returns-2
 returns-2 c = simp (c .before .before .before .answer2 .given .1, c .before .number .ensures, c .told2 .ensures) refl
@@ -15,5 +12,5 @@ returns-2 c = simp (c .before .before .before .answer2 .given .1, c .before .num
 pub returned-spec : {M : Type 1} → statement M
 returned-spec =
     tie.close
-    (tie.spec (λ c. search needs) cast-told (λ c κs. search needs) (λ c. search needs) (λ c κs. search needs)
+    (tie.spec (λ c. search needs) (λ c κs. search needs) (λ c κs. search needs) (λ c. search needs) (λ c κs. search needs)
     (λ c κs. search needs) returns returns-2)

@@ -6,7 +6,7 @@ use native.Mathlib.Omega.{arith}
 use lib.Dec.{eqb}
 use lib.ListN.{length, getD, set, length-set}
 use lib.Pow.{shr-shr}
-use Rattle.slot_rules.proofs.Steps.{Filled, filled-next, filled-whole}
+use Rattle.slots.proofs.Steps.{Filled, filled-next, filled-whole}
 use Rattle.slots.proofs.tree.all_steps.Statement.{statement}
 use Rattle.slots.proofs.tree.all_steps.Tie as tie
 

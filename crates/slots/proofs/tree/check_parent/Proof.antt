@@ -2,8 +2,9 @@ use borrow.Author.Needs.{needs}
 use mathlib.Core.Bool.{Bool}
 use mathlib.Core.Path.{ap, ap₂, _∙_}
 use Rattle.refusal.specs.Checks.{bare, unless, _andThen_}
-use Rattle.slot_rules.proofs.Digits.{length-mapped}
-use Rattle.slot_rules.proofs.Stored.{Fits, parent-checked, root-checked}
+use Rattle.slots.proofs.BitLaws.{length-mapped}
+use Rattle.slot_rules.specs.Stored.{Fits}
+use Rattle.slots.proofs.Calls.{parent-checked, root-checked}
 use Rattle.slots.proofs.tree.check_parent.Statement.{statement}
 use Rattle.slots.proofs.tree.check_parent.Tie as tie
 
@@ -23,7 +24,7 @@ returns-2 c =
     rw (p .parent .given .1)
     (c .then-check .ensures
     ∙ ap₂ _andThen_
-    (one .unless .ensures ∙ ap (λ (b : Bool). unless b (bare 48)) (one .before .has-digit .ensures))
+    (one .unless .ensures ∙ ap (λ (b : Bool). unless b (bare 48)) (one .before .has-bit .ensures))
     (c .before .unless2 .ensures ∙ ap (λ (b : Bool). unless b (bare 49)) (two .root-within-two .ensures))
     ∙ parent-checked (s .args .slots) (stored s) _)
 

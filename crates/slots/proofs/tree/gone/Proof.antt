@@ -1,7 +1,8 @@
 use borrow.Author.Needs.{needs}
 use mathlib.Core.Path.{_∙_}
-use Rattle.slot_rules.proofs.Digits.{length-mapped}
-use Rattle.slot_rules.proofs.Stored.{Fits, gone-live}
+use Rattle.slots.proofs.BitLaws.{length-mapped}
+use Rattle.slot_rules.specs.Stored.{Fits}
+use Rattle.slots.proofs.Calls.{gone-live}
 use Rattle.slots.proofs.tree.gone.Statement.{statement}
 use Rattle.slots.proofs.tree.gone.Tie as tie
 

@@ -3,7 +3,7 @@ use mathlib.Core.Path.{_≡_, ap, _∙_}
 use mathlib.Core.Bool.{_||_}
 use Prim.Native.Nat.{ℕ}
 use lib.Dec.{eqb}
-use Rattle.slot_rules.specs.Internal.{reachesBy}
+use Rattle.slots.specs.Internal.{reachesBy}
 use Rattle.slots.proofs.tree.reaches.Statement.{statement}
 use Rattle.slots.proofs.tree.reaches.Tie as tie
 

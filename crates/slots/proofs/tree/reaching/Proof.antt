@@ -2,9 +2,10 @@ use borrow.Author.Needs.{needs}
 use mathlib.Core.Path.{_≡_, refl, sym, ap, ap₂, _∙_}
 use Prim.Native.Nat.{ℕ, _+_, _*_, _-_, _≤_, _<_, _^_}
 use native.Mathlib.Omega.{arith}
-use Rattle.slot_rules.specs.Table.{wordGone, digit}
-use Rattle.slot_rules.specs.Internal.{stepIn, reachesBy}
-use Rattle.slot_rules.proofs.Digits.{word-step, word-fits, digit-lt}
+use Rattle.slot_rules.specs.Table.{wordGone, bit}
+use Rattle.slots.specs.Internal.{stepIn, reachesBy}
+use Rattle.slot_rules.proofs.Words.{bit-lt}
+use Rattle.slots.proofs.BitLaws.{word-step, word-fits}
 use Rattle.slots.proofs.tree.reaching.Statement.{statement}
 use Rattle.slots.proofs.tree.reaching.Tie as tie
 
@@ -32,8 +33,8 @@ add-word c =
     let l = c .before .before .before .loop in
     let h : wordGone (reachesBy (stepIn (a .steps .now)) (a .n)) (l .s) (64 - l .s) < 2 ^ 63 = word-fits _ (l .s) (search needs) in
     let g : l .word < 2 ^ 63 = rw (l .inv .1) h in
-    let d : digit (c .before .reaches .result) < 2 = digit-lt (c .before .reaches .result) in
-    let e = c .digit-of .ensures in
+    let d : bit (c .before .reaches .result) < 2 = bit-lt (c .before .reaches .result) in
+    let e = c .bit-of .ensures in
     omega arith
 
 loop-again : tie.Need-loop-again Inv-loop μ-loop
@@ -41,7 +42,7 @@ loop-again c =
     let a = c .before .before .before .before .args in
     let l = c .before .before .before .loop in (
       search needs,
-      ap₂ (λ (x y : ℕ). x * 2 + y) (l .inv .1) (c .digit-of .ensures ∙ ap digit (c .before .reaches .ensures))
+      ap₂ (λ (x y : ℕ). x * 2 + y) (l .inv .1) (c .bit-of .ensures ∙ ap bit (c .before .reaches .ensures))
           ∙ sym (word-step (reachesBy (stepIn (a .steps .now)) (a .n)) (l .s) (search needs) (l .inv .0)),
     )
 

@@ -3,7 +3,7 @@ use mathlib.Core.Path.{_≡_, ap, _∙_}
 use mathlib.Core.Bool.{Bool, _||_}
 use mathlib.Core.List.{List}
 use Prim.Native.Nat.{ℕ}
-use Rattle.slot_rules.specs.Internal.{stepFrom, rootBy, rootWithinTwoBy}
+use Rattle.slots.specs.Internal.{stepFrom, rootBy, rootWithinTwoBy}
 use Rattle.slots.proofs.tree.root_within_two.Statement.{statement}
 use Rattle.slots.proofs.tree.root_within_two.Tie as tie
 

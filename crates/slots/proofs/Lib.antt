@@ -1,0 +1,3 @@
+mod BitLaws
+mod Steps
+mod Calls
