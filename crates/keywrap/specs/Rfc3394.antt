@@ -1,3 +1,2 @@
--- RFC 3394, as the crate rfc3394 defines it, under this crate's name for the callers.
+-- The initial value of RFC 3394 under this crate's name, for the cases of bundles.
 pub use Rattle.rfc3394.specs.Rfc3394.{initialValue}
-unfoldable pub use Rattle.rfc3394.specs.Rfc3394.{wrapped, unwrappedIv, unwrappedKey}
