@@ -24,7 +24,7 @@ loop-again c =
       omega arith,
       eq-step (p .before .before .before .before .args .ks .now) (p .loop .i) _ _ (omega arith)
           (inv-round-by _ (p .loop .t) _ _ (c .before .before .before .before .before .state .ensures) _ _ (c .words2 .result)
-          (c .before .before .before .before .inv-shift-rows .ensures) (c .before .before .before .inv-mix-columns .ensures) (c .before .add-round-key2 .ensures) (c .words2 .ensures))
+          (c .before .before .before .before .inv-shift-rows .ensures) (c .before .before .before .inv-sub-and-mix-columns .ensures) (c .before .add-round-key2 .ensures) (c .words2 .ensures))
           ∙ p .loop .inv .1,
     )
 
