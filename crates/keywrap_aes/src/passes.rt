@@ -7,10 +7,11 @@ use aes128::invert_keys;
 ghost use mathlib.Core.Path.{_≡_};
 ghost use mathlib.Core.List.{_++_};
 ghost use Prim.Native.Nat.{_+_, _*_, _≤_};
-ghost use lib.ListN.{length, take};
+ghost use lib.ListN.{length};
 ghost use Rattle.fips197.specs.State.{bytes};
 ghost use Rattle.fips197.specs.Cipher.{cipher, eqInvCipher};
-ghost use Rattle.rfc3394.specs.Rfc3394.{joined, high, low, addCount, wrapPass, unwrapPass, wrapPasses, unwrapPasses, keyState, wrapRegisters, unwrapRegisters};
+ghost use Rattle.rfc3394.specs.Rfc3394.{joined, high, low, addCount, wrapPass, unwrapPass, wrapPasses, unwrapPasses, keyState};
+ghost use Rattle.keywrap_aes.specs.Internal.{passesOf};
 
 // The KEK as a state of the cipher.
 fn key_state(k: [u8; 16]) -> [[u8; 4]; 4]
@@ -171,27 +172,20 @@ fn unwrap_passes(ks: &[[[u8; 4]; 4]; 11], a: [[u8; 4]; 2], b: &mut [u8], n: usiz
     x
 }
 
-// Wraps the key b in its place under the KEK, from the initial value. The A that comes before the wrapped blocks is returned.
-pub(crate) fn wrap_all(kek: [u8; 16], b: &mut [u8]) -> [[u8; 4]; 2]
+// The six passes under the KEK over the blocks of b, forward or back, from the A given; the last A is returned. Both ways share one function, so that
+// the round keys take their room on the stack once, and are made those of the inverse cipher in their place.
+pub(crate) fn passes(kek: [u8; 16], back: bool, a: [[u8; 4]; 2], b: &mut [u8]) -> [[u8; 4]; 2]
     requires { ⌜ length (now b) ≤ 192 ⌝ }
-    ensures next { λ r. ⌜ high r ≡ wrapRegisters kek (now (b .entry)) .0 ⌝ }
-    ensures part { λ _. ⌜ now (b .exit) ≡ wrapRegisters kek (now (b .entry)) .1 ⌝ }
+    ensures next { λ r. ⌜ high r ≡ passesOf back kek (high a, now (b .entry)) .0 ⌝ }
+    ensures part { λ _. ⌜ now (b .exit) ≡ passesOf back kek (high a, now (b .entry)) .1 ⌝ }
 {
     let mut ks = [[[0u8; 4]; 4]; 11];
     expand_key(key_state(kek), &mut ks);
     let n = b.len() / 8;
-    wrap_passes(&ks, [[0xa6; 4]; 2], b, n)
-}
-
-// Unwraps the blocks b in their place under the KEK, from the A that came before them. The last A, which must be the initial value, is returned.
-pub(crate) fn unwrap_all(kek: [u8; 16], a: [[u8; 4]; 2], b: &mut [u8]) -> [[u8; 4]; 2]
-    requires { ⌜ length (now b) ≤ 192 ⌝ }
-    ensures next { λ r. ⌜ high r ≡ unwrapRegisters kek (high a ++ now (b .entry)) .0 ⌝ }
-    ensures part { λ _. ⌜ now (b .exit) ≡ unwrapRegisters kek (high a ++ now (b .entry)) .1 ⌝ }
-{
-    let mut ks = [[[0u8; 4]; 4]; 11];
-    expand_key(key_state(kek), &mut ks);
-    invert_keys(&mut ks);
-    let n = b.len() / 8;
-    unwrap_passes(&ks, a, b, n)
+    if back {
+        invert_keys(&mut ks);
+        unwrap_passes(&ks, a, b, n)
+    } else {
+        wrap_passes(&ks, a, b, n)
+    }
 }

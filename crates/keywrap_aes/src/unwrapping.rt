@@ -2,7 +2,7 @@
 // integrity.
 use crate::passes::eight_bytes;
 use crate::passes::front;
-use crate::passes::unwrap_all;
+use crate::passes::passes;
 use bytes::copy;
 use keywrap::is_wrappable;
 use refusal::Answered;
@@ -43,7 +43,7 @@ fn unwrap_into(kek: [u8; 16], wrapped: &[u8], scratch: &mut [u8]) -> [[u8; 4]; 2
     ensures key { λ _. ⌜ now (scratch .exit) ≡ unwrappedKey kek (now (wrapped .entry)) ⌝ }
 {
     copy(&wrapped[8..], scratch);
-    unwrap_all(kek, front(&wrapped[..8]), scratch)
+    passes(kek, true, front(&wrapped[..8]), scratch)
 }
 
 // Whether a is the initial value. All eight bytes are read before it is decided.

@@ -1,7 +1,7 @@
 // A key wrapped (RFC 3394, with AES-128 and the default initial value) under a key encryption key (KEK), with document 01's tests. A wrapped key is 8 bytes
 // longer than the key.
 use crate::passes::eight_bytes;
-use crate::passes::wrap_all;
+use crate::passes::passes;
 use bytes::copy;
 use keywrap::is_wrappable;
 use refusal::Answered;
@@ -35,8 +35,8 @@ fn wrap_into(kek: [u8; 16], key: &[u8], out: &mut [u8])
 {
     let end = key.len() + 8;
     copy(key, &mut out[8..end]);
-    let a = eight_bytes(wrap_all(kek, &mut out[8..end]));
-    copy(&a, out);
+    let a = passes(kek, false, [[0xa6; 4]; 2], &mut out[8..end]);
+    copy(&eight_bytes(a), out);
 }
 
 // Wraps the key under the KEK. The wrapped key, 8 bytes longer, is written at the start of out, and its length is the answer.

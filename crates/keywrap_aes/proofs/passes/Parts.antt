@@ -1,5 +1,6 @@
 -- What the code computes, step by step, is what the definitions say. Each lemma is over plain lists and numbers, and its premises are what the callees ensure.
 use mathlib.Core.Path.{_≡_, refl, sym, ap, ap₂, _∙_}
+use mathlib.Core.Bool.{Bool, true, false}
 use mathlib.Core.List.{List, [], _∷_, _++_}
 use Prim.Native.Nat.{ℕ, zero, suc, _+_, _-_, _*_, _/_, _≤_, _<_}
 use native.Mathlib.Nat.{mul-suc}
@@ -11,9 +12,11 @@ use Rattle.fips197.specs.State.{State, bytes, columns, addRoundKey}
 use Rattle.fips197.specs.Cipher.{cipher, invCipher, eqInvCipher, invertedKeys}
 use Rattle.fips197.specs.KeyExpansion.{expandKey}
 use Rattle.fips197.proofs.Equivalent.{equivalent-inverse}
-use Rattle.rfc3394.specs.Rfc3394.{joined, high, low, addCount, counted, blockAt, withBlock, Registers, wrapStep, unwrapStep, wrapPass, unwrapPass, wrapPasses, unwrapPasses, initialValue, keyState, roundKeys, wrapRegisters, unwrapRegisters}
+use Rattle.rfc3394.specs.Rfc3394.{joined, high, low, addCount, counted, blockAt, withBlock, Registers, keyState, roundKeys}
+use Rattle.rfc3394.specs.Rfc3394.{wrapStep, unwrapStep, wrapPass, unwrapPass, wrapPasses, unwrapPasses}
 use Rattle.rfc3394.proofs.Halves.{Eight, eight, eight-of}
 use Rattle.rfc3394.proofs.Steps.{registers≡}
+use Rattle.keywrap_aes.specs.Internal.{passesOf}
 
 -- ---- eight bytes
 
@@ -117,33 +120,33 @@ pub count-less : (n j c : ℕ) → 0 < j → c ≡ n * j → (n ≤ c) × (c - n
 count-less n zero c h e = absurd (omega arith)
 count-less n (suc j) c h e = less-by (n * (suc j - 1)) n c (e ∙ mul-suc n j ∙ ap (λ (m : ℕ). n * m + n) (sym (sub-one (suc j))))
 
--- ---- all passes, under the KEK
+-- ---- both ways, under the KEK
 
-module _ (kek : List ℕ) (st : State) (ks : List State) (est : st ≡ keyState kek) (eks : ks ≡ expandKey st) (b r z : List ℕ) where
+module _ (kek : List ℕ) (st : State) (ks : List State) (est : st ≡ keyState kek) (eks : ks ≡ expandKey st) (a b r z : List ℕ) where
   keys-are : ks ≡ roundKeys kek
   unfolding roundKeys
   keys-are = eks ∙ ap expandKey est
 
-  pub wrapped-all : r ≡ wrapPasses (cipher ks) (length b / 8) 6 (initialValue, b) .0 → z ≡ wrapPasses (cipher ks) (length b / 8) 6 (initialValue, b) .1
-      → (r ≡ wrapRegisters kek b .0) × (z ≡ wrapRegisters kek b .1)
-  unfolding wrapRegisters
-  wrapped-all p q = (
-    p ∙ ap (λ (k : List State). wrapPasses (cipher k) (length b / 8) 6 (initialValue, b) .0) keys-are,
-    q ∙ ap (λ (k : List State). wrapPasses (cipher k) (length b / 8) 6 (initialValue, b) .1) keys-are,
+  pub passes-forward : r ≡ wrapPasses (cipher ks) (length b / 8) 6 (a, b) .0 → z ≡ wrapPasses (cipher ks) (length b / 8) 6 (a, b) .1
+      → (back : Bool) → back ≡ false → (r ≡ passesOf back kek (a, b) .0) × (z ≡ passesOf back kek (a, b) .1)
+  passes-forward p q true e = let n : _≡_ {A = ℕ} 0 1 = cc in absurd (omega arith)
+  passes-forward p q false e = (
+    p ∙ ap (λ (k : List State). wrapPasses (cipher k) (length b / 8) 6 (a, b) .0) keys-are,
+    q ∙ ap (λ (k : List State). wrapPasses (cipher k) (length b / 8) 6 (a, b) .1) keys-are,
   )
 
   eleven : length ks ≡ 11
   unfolding expandKey
   eleven = ap length eks
 
-  module _ (ds : List State) (eds : ds ≡ invertedKeys ks) (a : State) where
+  module _ (ds : List State) (eds : ds ≡ invertedKeys ks) where
     equal : eqInvCipher ds ≡ invCipher (roundKeys kek)
     equal = ap eqInvCipher eds ∙ (λ i s. equivalent-inverse ks eleven s i) ∙ ap invCipher keys-are
 
-    pub unwrapped-all : r ≡ unwrapPasses (eqInvCipher ds) (length b / 8) 6 (high a, b) .0 → z ≡ unwrapPasses (eqInvCipher ds) (length b / 8) 6 (high a, b) .1
-        → (r ≡ unwrapRegisters kek (high a ++ b) .0) × (z ≡ unwrapRegisters kek (high a ++ b) .1)
-    unfolding unwrapRegisters
-    unwrapped-all p q = (
-      p ∙ ap (λ (d : State → State). unwrapPasses d (length b / 8) 6 (high a, b) .0) equal,
-      q ∙ ap (λ (d : State → State). unwrapPasses d (length b / 8) 6 (high a, b) .1) equal,
+    pub passes-back : r ≡ unwrapPasses (eqInvCipher ds) (length b / 8) 6 (a, b) .0 → z ≡ unwrapPasses (eqInvCipher ds) (length b / 8) 6 (a, b) .1
+        → (back : Bool) → back ≡ true → (r ≡ passesOf back kek (a, b) .0) × (z ≡ passesOf back kek (a, b) .1)
+    passes-back p q false e = let n : _≡_ {A = ℕ} 0 1 = cc in absurd (omega arith)
+    passes-back p q true e = (
+      p ∙ ap (λ (d : State → State). unwrapPasses d (length b / 8) 6 (a, b) .0) equal,
+      q ∙ ap (λ (d : State → State). unwrapPasses d (length b / 8) 6 (a, b) .1) equal,
     )

@@ -1,18 +1,20 @@
 -- What the code computes, step by step, is what the definitions say. Each lemma is over plain lists and numbers, and its premises are what the callees ensure.
 use mathlib.Core.Path.{_≡_, sym, ap, ap₂, _∙_}
-use mathlib.Core.Bool.{Bool}
+use mathlib.Core.Bool.{Bool, true}
 use mathlib.Core.List.{List, _++_}
 use Prim.Native.Nat.{ℕ, _-_, _≤_}
 use native.Mathlib.Omega.{arith}
 use borrow.Author.Tests.{leb-true}
-use lib.ListN.{length, take, drop, length-append, length-drop, take-append-drop}
+use lib.ListN.{length, take, drop, length-append, length-drop}
 use lib.Seq.{take-all, take-at, length-take-le}
 use Rattle.refusal.specs.Checks.{Reason, Check, pass, refuse, bare, unless, _andThen_, check6}
 use Rattle.refusal.specs.Answers.{bufferAfter}
 use Rattle.refusal.proofs.Passing.{before-passed, last-passed, test-passed}
 use Rattle.slices.specs.Same.{sameList}
 use Rattle.slices.proofs.Lists.{copied-front}
-use Rattle.rfc3394.specs.Rfc3394.{initialValue, unwrapRegisters, unwrappedIv, unwrappedKey}
+use Rattle.rfc3394.specs.Rfc3394.{initialValue, Registers, unwrapRegisters, unwrappedIv, unwrappedKey}
+use Rattle.rfc3394.proofs.Steps.{registers≡}
+use Rattle.keywrap_aes.specs.Internal.{passesOf}
 use Rattle.keywrap.specs.Calls.{check23, check28, keyLength, unwrapCheck}
 use Rattle.keywrap.proofs.Lengths.{passed-low, passed-high, copied-whole}
 
@@ -52,12 +54,12 @@ copied-rest bytes d r e h =
     copied-whole (rest bytes) d r (e ∙ sym (length-take-le (length bytes - 8) (drop 8 bytes) (simp length-drop (omega arith)))) h
 
 pub unwrapped-in-scratch : (kek bytes s v a r : List ℕ) → 8 ≤ length bytes → s ≡ rest bytes → v ≡ take 8 bytes
-    → a ≡ unwrapRegisters kek (v ++ s) .0 → r ≡ unwrapRegisters kek (v ++ s) .1 → (a ≡ unwrappedIv kek bytes) × (r ≡ unwrappedKey kek bytes)
-unfolding unwrappedIv unwrappedKey
+    → a ≡ passesOf true kek (v, s) .0 → r ≡ passesOf true kek (v, s) .1 → (a ≡ unwrappedIv kek bytes) × (r ≡ unwrappedKey kek bytes)
+unfolding unwrappedIv unwrappedKey unwrapRegisters
 unwrapped-in-scratch kek bytes s v a r long es ev ea er =
     let e : s ≡ drop 8 bytes = es ∙ take-all (length bytes - 8) (drop 8 bytes) (simp length-drop (omega arith)) in
-    let q : v ++ s ≡ bytes = ap₂ (λ (x y : List ℕ). x ++ y) ev e ∙ take-append-drop 8 bytes in
-    (ea ∙ ap (λ (l : List ℕ). unwrapRegisters kek l .0) q, er ∙ ap (λ (l : List ℕ). unwrapRegisters kek l .1) q)
+    let q : passesOf true kek (v, s) ≡ passesOf true kek (take 8 bytes, drop 8 bytes) = ap (passesOf true kek) (registers≡ ev e) in
+    (ea ∙ ap (λ (x : Registers). x .0) q, er ∙ ap (λ (x : Registers). x .1) q)
 
 -- the part of the scratch l that is lent to the unwrapping
 pub lent : (n : ℕ) (bytes l : List ℕ) → n ≡ keyLength bytes → 8 ≤ length bytes → n ≤ 192 → n ≤ length l

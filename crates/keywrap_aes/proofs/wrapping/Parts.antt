@@ -1,5 +1,6 @@
 -- What the code computes, step by step, is what the definitions say. Each lemma is over plain lists and numbers, and its premises are what the callees ensure.
 use mathlib.Core.Path.{_≡_, sym, ap, ap₂, _∙_}
+use mathlib.Core.Bool.{false}
 use mathlib.Core.List.{List, _++_, append-assoc}
 use Prim.Native.Nat.{ℕ, _+_, _≤_}
 use native.Mathlib.Omega.{arith}
@@ -9,7 +10,8 @@ use lib.ListN.{length, take, drop, length-drop}
 use lib.Seq.{take-length, take-at, drop-at, drop-drop, length-take-le}
 use Rattle.refusal.specs.Checks.{Reason, Check, pass, refuse, _andThen_, check6}
 use Rattle.refusal.proofs.Passing.{before-passed, last-passed, test-passed}
-use Rattle.rfc3394.specs.Rfc3394.{wrapRegisters, wrapped}
+use Rattle.rfc3394.specs.Rfc3394.{initialValue, wrapRegisters, wrapped}
+use Rattle.keywrap_aes.specs.Internal.{passesOf}
 use Rattle.keywrap.specs.Calls.{check23, wrapCheck}
 use Rattle.keywrap.proofs.Lengths.{passed-high, copied-whole}
 
@@ -48,10 +50,11 @@ module _ (kek key out : List ℕ) (k : ℕ) (z : List ℕ) (room : length key + 
   key-there = ap (take k) placed ∙ take-at z (drop k (drop 8 out)) k z-length ∙ ez
 
   pub wrapped-in-place : (a r f : List ℕ) → length a ≡ 8
-      → a ≡ wrapRegisters kek (midOf 8 k (putMid 8 k out z)) .0 → r ≡ wrapRegisters kek (midOf 8 k (putMid 8 k out z)) .1
+      → a ≡ passesOf false kek (initialValue, midOf 8 k (putMid 8 k out z)) .0
+      → r ≡ passesOf false kek (initialValue, midOf 8 k (putMid 8 k out z)) .1
       → f ≡ take (length a) a ++ drop (length a) (putMid 8 k (putMid 8 k out z) r)
       → f ≡ wrapped kek key ++ drop (length key + 8) out
-  unfolding wrapped
+  unfolding wrapped wrapRegisters
   wrapped-in-place a r f la ea er ef =
       let w : List ℕ = putMid 8 k out z in
       let l : 8 ≤ length w = rw (same-len-mid 8 k out z (z-length ∙ sym (length-take-le k (drop 8 out) (simp length-drop (omega arith))))) (omega arith) in
@@ -64,4 +67,6 @@ module _ (kek key out : List ℕ) (k : ℕ) (z : List ℕ) (room : length key + 
       ∙ ap₂ (λ (x y : List ℕ). x ++ y) (take-length a) (ap (λ (n : ℕ). drop n (putMid 8 k w r)) la ∙ d)
       ∙ sym (append-assoc a r (drop (length key + 8) out))
       ∙ ap (λ (x : List ℕ). x ++ drop (length key + 8) out)
-      (ap₂ (λ (x y : List ℕ). x ++ y) (ea ∙ ap (λ (l : List ℕ). wrapRegisters kek l .0) key-there) (er ∙ ap (λ (l : List ℕ). wrapRegisters kek l .1) key-there))
+      (ap₂ (λ (x y : List ℕ). x ++ y)
+      (ea ∙ ap (λ (l : List ℕ). passesOf false kek (initialValue, l) .0) key-there)
+      (er ∙ ap (λ (l : List ℕ). passesOf false kek (initialValue, l) .1) key-there))

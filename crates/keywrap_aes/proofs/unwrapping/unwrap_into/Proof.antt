@@ -20,7 +20,7 @@ returns c =
     let s = k .before .before .before .before .before in
     unwrapped-in-scratch (s .args .kek) (now (s .args .wrapped)) _ _ _ _ (s .pre .0)
     (copied-rest (now (s .args .wrapped)) (now (s .args .scratch)) _ (s .pre .2) (k .copy .ensures .1))
-    (f .front .ensures) (u .unwrap-all .ensures .0) (u .unwrap-all .ensures .1)
+    (f .front .ensures) (u .passes .ensures .0) (u .passes .ensures .1)
 
 pub unwrap-into-spec : {M : Type 1} → statement M
 unwrap-into-spec =

@@ -17,7 +17,7 @@ returns c =
     let k = p .before .before .before .before in
     let s = k .before .before .before .before .args in
     wrapped-in-place (s .kek) (now (s .key)) (now (s .out)) (length (now (s .key)) + 8 - 8) _ (search needs) (omega arith) (k .copy .ensures .1)
-    _ _ _ (ap length (e .eight-bytes .ensures)) (e .eight-bytes .ensures ∙ p .wrap-all .ensures .0) (p .wrap-all .ensures .1) (d .copy2 .ensures .1)
+    _ _ _ (ap length (e .eight-bytes .ensures)) (e .eight-bytes .ensures ∙ p .passes .ensures .0) (p .passes .ensures .1) (d .copy2 .ensures .1)
 
 pub wrap-into-spec : {M : Type 1} → statement M
 wrap-into-spec =
