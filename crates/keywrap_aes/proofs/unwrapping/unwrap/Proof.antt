@@ -6,7 +6,7 @@ use native.Mathlib.Omega.{arith}
 use lib.ListN.{length, drop, replicate}
 use lib.Seq.{length-take-le}
 use Rattle.refusal.specs.Answers.{checkedAs, returned, answerTo, bufferAfter}
-use Rattle.refusal.specs.Checks.{Check, pass}
+use Rattle.refusal.specs.Checks.{Check, pass, bare, unless}
 use Rattle.rfc3394.specs.Rfc3394.{unwrappedKey}
 use Rattle.keywrap.specs.Calls.{keyLength, unwrapCheck}
 use Rattle.keywrap_aes.proofs.unwrapping.Parts.{unwrap-bounds, unwrap-refused, unwrap-settled, lent, in-scratch, key-counted, released}
@@ -36,7 +36,11 @@ bounds c =
 counted : (c : tie.After-unwrap-into) → length (c .unwrap-into .last .1 .1 .0) ≡ c .before .before .before .before .before .key-length .result
 counted c = c .unwrap-into .kept .1 .1 .0 ∙ length-take-le _ _ (bounds (c .before .before) .1)
 
--- where it began, from the test of the integrity, and what all tests came to
+-- what the test of the integrity came to
+tested : (c : tie.After-unless) → checkedAs (c .unless .result) ≡ unless (c .before .is-initial .result) (bare 28)
+tested c = c .unless .ensures
+
+-- where it began, from that test, and what all tests came to
 abbrev began : tie.After-unless → tie.Start
 began c = start (c .before .before .before .before .before .before .before)
 
@@ -46,7 +50,7 @@ settled c =
     let t = u .before .before in
     let k = t .before .before in
     unwrap-settled _ _ _ _ _ _ _ (k .before .key-length .ensures) (checked t ∙ k .check-unwrap .ensures) (u .unwrap-into .ensures .0)
-    (c .before .is-initial .ensures) (c .unless .ensures)
+    (c .before .is-initial .ensures) (tested c)
 
 array-borrow-prefix-scratch : tie.Need-array-borrow-prefix-scratch
 array-borrow-prefix-scratch c = bounds c .1
