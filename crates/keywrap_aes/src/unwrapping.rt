@@ -19,7 +19,7 @@ ghost use Rattle.refusal.specs.Checks.{_andThen_, check6};
 ghost use Rattle.refusal.specs.Answers.{checkedAs, answerOf, answerTo, bufferAfter};
 ghost use Rattle.slices.specs.Same.{sameList};
 ghost use Rattle.rfc3394.specs.Rfc3394.{high, initialValue, unwrappedIv, unwrappedKey};
-ghost use Rattle.keywrap.specs.Calls.{check23, check28, unwrapCheck, keyLength};
+ghost use Rattle.keywrap.specs.Calls.{check23, unwrapCheck, keyLength};
 
 // The length of the key that n wrapped bytes hold.
 fn key_length(n: usize) -> usize

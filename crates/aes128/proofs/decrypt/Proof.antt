@@ -1,6 +1,6 @@
 -- `aes128::decrypt` meets its contract: what is left of the rounds at place i is what was left at the start.
 use mathlib.Core.Path.{_≡_, refl, _∙_}
-use Prim.Native.Nat.{_≤_, _-_}
+use Prim.Native.Nat.{_≤_}
 use native.Mathlib.Omega.{arith}
 use Rattle.fips197.specs.Cipher.{eqInvRounds}
 use Rattle.aes128.specs.Internal.{stateOf}

@@ -1,6 +1,6 @@
 -- `keywrap_aes::passes::unwrap_passes` meets its contract: the j passes that are left come to what all six come to, and the count is n * j.
 use mathlib.Core.Path.{_≡_, refl, sym, ap, _∙_}
-use Prim.Native.Nat.{ℕ, _+_, _-_, _*_, _≤_}
+use Prim.Native.Nat.{ℕ, _*_, _≤_}
 use native.Mathlib.Omega.{arith}
 use denote.Ref.{now}
 use lib.ListN.{length}
