@@ -14,9 +14,8 @@ use Rattle.fips197.proofs.Four.{four}
 use Rattle.fips197.proofs.Mix.{exchange}
 use Rattle.fips197.proofs.Steps.{mul-byte, xor-byte}
 use Rattle.fips197.proofs.Xor.{xor-assoc}
-use Rattle.aes128.specs.Words.{wordOf, columnOf, turned}
 use Rattle.aes128.proofs.columns.Words.{xor-word, turn-word, column-word}
-use Rattle.aes128.specs.Internal.{laidOut, byteOf, LookedUp, sumOf, sumColumn}
+use Rattle.aes128.specs.Internal.{wordOf, columnOf, turned, laidOut, byteOf, LookedUp, sumOf, sumColumn}
 use Rattle.aes128.proofs.Square.{laid-out}
 
 -- ---- the sum of four words as the code takes it

@@ -1,12 +1,29 @@
 -- What only the contracts of private functions need. Nothing here has to be believed.
--- The state as four words of 32 bits, and its sixteen bytes looked up in a table.
 use mathlib.Core.Path.{_≡_}
 use mathlib.Core.List.{List, [], _∷_}
-use Prim.Native.Nat.{ℕ, _<_, _/_, _%_}
-use lib.Bits.{bitXor}
+use Prim.Native.Nat.{ℕ, _+_, _*_, _<_, _/_, _%_}
+use lib.Bits.{bitAnd, bitXor}
 use lib.ListN.{length, getD}
 use Rattle.fips197.specs.State.{State, bytes, columns}
-use Rattle.aes128.specs.Words.{columnOf, turned}
+
+-- ---- a column as a word of 32 bits
+
+-- The word of the bytes in the rows 0 to 3, the first the lowest, and the column of a word.
+abbrev pub wordOf : ℕ → ℕ → ℕ → ℕ → ℕ
+wordOf a b c d = ((d * 256 + c) * 256 + b) * 256 + a
+
+abbrev pub columnOf : ℕ → List ℕ
+columnOf x = x % 256 ∷ x / 0x100 % 256 ∷ x / 0x10000 % 256 ∷ x / 0x1000000 % 256 ∷ []
+
+-- Each byte moved one row up, and that of row 0 to row 3.
+abbrev pub turned : ℕ → ℕ
+turned x = x / 0x100 + x % 256 * 0x1000000
+
+-- Each byte doubled in the field of FIPS 197: seven bits of each are shifted to the left, and {1b} is added in the places whose bit 7 was set.
+abbrev pub doubled : ℕ → ℕ
+doubled x = bitXor (bitAnd x 0x7f7f7f7f * 2) (bitAnd (x / 128) 0x01010101 * 0x1b)
+
+-- ---- the state as four words, and its sixteen bytes looked up in a table
 
 -- The state of four words.
 abbrev pub stateOf : List ℕ → State

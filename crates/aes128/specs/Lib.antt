@@ -1,3 +1,1 @@
-pub mod KeysInternal
-pub mod Words
 pub mod Internal

@@ -1,9 +1,18 @@
 // A column of the AES state as one word of 32 bits, so that its four bytes are added or moved at once.
 ghost use mathlib.Core.Path.{_≡_};
 ghost use mathlib.Core.List.{[], _∷_};
+ghost use Prim.Native.Nat.{_<_};
 ghost use lib.ListN.{getD};
-ghost use Rattle.fips197.specs.State.{bytes};
-ghost use Rattle.aes128.specs.Words.{wordOf, columnOf, turned};
+ghost use Rattle.fips197.specs.State.{bytes, addColumn};
+ghost use Rattle.aes128.specs.Internal.{wordOf, columnOf, turned};
+
+// A byte as a number of 32 bits.
+pub(crate) fn wide(x: u8) -> u32
+    ensures same { λ r. ⌜ r ≡ x ⌝ }
+    ensures byte { λ r. ⌜ r < 256 ⌝ }
+{
+    x as u32
+}
 
 // The word of four bytes, the first the lowest.
 fn joined(a: u8, b: u8, c: u8, d: u8) -> u32
@@ -38,4 +47,11 @@ pub(crate) fn turn(x: u32) -> u32
     ensures { λ r. ⌜ r ≡ turned x ⌝ }
 {
     x / 0x100 + x % 256 * 0x1000000
+}
+
+// The sum of two columns.
+pub(crate) fn add_column(w: [u8; 4], k: [u8; 4]) -> [u8; 4]
+    ensures { λ r. ⌜ r ≡ addColumn w k ⌝ }
+{
+    column(word(w) ^ word(k))
 }

@@ -1,24 +1,17 @@
 // The round keys of AES-128 by FIPS 197: the key expansion (section 5.2), and the round keys of the equivalent inverse cipher (section
 // 5.3.5). A column whose mixing is undone is held as one word of 32 bits, so that its four bytes are doubled at once.
+use crate::columns::add_column;
 use crate::columns::column;
 use crate::columns::turn;
+use crate::columns::wide;
 use crate::columns::word;
 use aes_lookup_key_sbox::entry;
 ghost use mathlib.Core.Path.{_≡_};
-ghost use Prim.Native.Nat.{_<_};
 ghost use Rattle.aes_sbox.specs.Field.{xtime};
-ghost use Rattle.fips197.specs.State.{mixColumn, invMixColumn, invMixColumns, addColumn};
+ghost use Rattle.fips197.specs.State.{mixColumn, invMixColumn, invMixColumns};
 ghost use Rattle.fips197.specs.Cipher.{invertedKeys};
 ghost use Rattle.fips197.specs.KeyExpansion.{subWord, keyCore, nextKey, expandKey};
-ghost use Rattle.aes128.specs.KeysInternal.{doubled};
-
-// A byte as a number of 32 bits.
-fn wide(x: u8) -> u32
-    ensures same { λ r. ⌜ r ≡ x ⌝ }
-    ensures byte { λ r. ⌜ r < 256 ⌝ }
-{
-    x as u32
-}
+ghost use Rattle.aes128.specs.Internal.{doubled};
 
 // SubWord: each of four bytes by the S-box.
 fn sub_word(w: [u8; 4]) -> [u8; 4]
@@ -39,13 +32,6 @@ fn key_core(w: [u8; 4], c: u8) -> [u8; 4]
 {
     let t = sub_word([w[1], w[2], w[3], w[0]]);
     [t[0] ^ c, t[1], t[2], t[3]]
-}
-
-// The sum of two columns.
-fn add_column(w: [u8; 4], k: [u8; 4]) -> [u8; 4]
-    ensures { λ r. ⌜ r ≡ addColumn w k ⌝ }
-{
-    [w[0] ^ k[0], w[1] ^ k[1], w[2] ^ k[2], w[3] ^ k[3]]
 }
 
 // The round key after k, with the round constant c.

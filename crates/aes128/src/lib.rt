@@ -5,17 +5,18 @@
 mod columns; // columns of the state as words of 32 bits
 mod keys; // the round keys of the cipher and of the equivalent inverse cipher
 
+use crate::columns::add_column;
 use crate::columns::column;
 use crate::columns::turn;
+use crate::columns::wide;
 use crate::columns::word;
 pub use keys::expand_key;
 pub use keys::invert_keys;
 ghost use mathlib.Core.Path.{_≡_};
 ghost use mathlib.Core.List.{[], _∷_};
-ghost use Prim.Native.Nat.{_<_};
 ghost use lib.ListN.{getD};
 ghost use Rattle.aes_sbox.specs.Tables.{sbox, invSbox, mixedSbox, unmixedSbox};
-ghost use Rattle.fips197.specs.State.{bytes, columns, Column, Block, subBytes, invSubBytes, shiftRows, invShiftRows, mixColumns, invMixColumns, addColumn, addRoundKey};
+ghost use Rattle.fips197.specs.State.{bytes, columns, Column, Block, subBytes, invSubBytes, shiftRows, invShiftRows, mixColumns, invMixColumns, addRoundKey};
 ghost use Rattle.fips197.specs.Cipher.{cipher, eqInvCipher};
 ghost use Rattle.aes128.specs.Internal.{stateOf, laidOut, LookedUp, sumColumn};
 
@@ -70,14 +71,6 @@ fn inv_shift_rows(s: [[u8; 4]; 4]) -> [[u8; 4]; 4]
         diagonal(c, b, a, d),
         diagonal(d, c, b, a),
     ]
-}
-
-// A byte as a number of 32 bits.
-fn wide(x: u8) -> u32
-    ensures same { λ r. ⌜ r ≡ x ⌝ }
-    ensures byte { λ r. ⌜ r < 256 ⌝ }
-{
-    x as u32
 }
 
 // The bytes of a column as numbers of 32 bits.
@@ -182,24 +175,17 @@ fn inv_sub_bytes(s: [[u8; 4]; 4]) -> [[u8; 4]; 4]
 }
 
 // SubBytes and MixColumns.
-fn mix_columns(s: [[u8; 4]; 4]) -> [[u8; 4]; 4]
+fn sub_and_mix_columns(s: [[u8; 4]; 4]) -> [[u8; 4]; 4]
     ensures { λ r. ⌜ r ≡ mixColumns (subBytes s) ⌝ }
 {
     sums(each_mixed(wide_state(s)))
 }
 
 // InvSubBytes and InvMixColumns.
-fn inv_mix_columns(s: [[u8; 4]; 4]) -> [[u8; 4]; 4]
+fn inv_sub_and_mix_columns(s: [[u8; 4]; 4]) -> [[u8; 4]; 4]
     ensures { λ r. ⌜ r ≡ invMixColumns (invSubBytes s) ⌝ }
 {
     sums(each_unmixed(wide_state(s)))
-}
-
-// The sum of two columns.
-fn add_column(w: [u8; 4], k: [u8; 4]) -> [u8; 4]
-    ensures { λ r. ⌜ r ≡ addColumn w k ⌝ }
-{
-    column(word(w) ^ word(k))
 }
 
 // AddRoundKey.
@@ -222,7 +208,7 @@ pub fn encrypt(ks: &[[[u8; 4]; 4]; 11], s: [[u8; 4]; 4]) -> [[u8; 4]; 4]
     let mut i: u32 = 0;
     while i < 9 {
         i += 1;
-        let next = words(add_round_key(mix_columns(shift_rows(state(t))), ks[i as usize]));
+        let next = words(add_round_key(sub_and_mix_columns(shift_rows(state(t))), ks[i as usize]));
         t = next;
     }
     add_round_key(sub_bytes(shift_rows(state(t))), ks[10])
@@ -235,7 +221,10 @@ pub fn decrypt(ks: &[[[u8; 4]; 4]; 11], s: [[u8; 4]; 4]) -> [[u8; 4]; 4]
     let mut t = words(add_round_key(s, ks[10]));
     let mut i: u32 = 9;
     while 0 < i {
-        let next = words(add_round_key(inv_mix_columns(inv_shift_rows(state(t))), ks[i as usize]));
+        let next = words(add_round_key(
+            inv_sub_and_mix_columns(inv_shift_rows(state(t))),
+            ks[i as usize],
+        ));
         t = next;
         i -= 1;
     }

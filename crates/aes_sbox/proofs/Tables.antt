@@ -8,7 +8,7 @@ use lib.ListN.{getD}
 use Rattle.aes_sbox.specs.Field.{xtime, mulBits, mul}
 use Rattle.aes_sbox.specs.Sbox.{inverse, affine, invAffine, sboxOf, invSboxOf}
 use Rattle.aes_sbox.specs.Tables.{sbox, invSbox, mixedSbox, unmixedSbox, mixedWord, unmixedWord}
-use Rattle.aes_sbox.specs.Statements.{InverseInverts, SboxByRule, InvSboxByRule, SboxUndone, MixedByRule, UnmixedByRule}
+use Rattle.aes_sbox.specs.Statements.{InverseInverts, SboxByRule, InvSboxByRule, TablesUndone, SboxUndone, MixedByRule, UnmixedByRule}
 use Rattle.aes_sbox.proofs.Table.{at, both, both-left, both-right}
 use Rattle.aes_sbox.proofs.Inverses.{inverses, inverse-at}
 
@@ -71,6 +71,9 @@ sboxOf-byte k h = subst (λ (x : ℕ). x < 256) (sbox-rule k h) (entry k h .sbox
 
 pub invSboxOf-byte : (k : ℕ) → k < 256 → invSboxOf k < 256
 invSboxOf-byte k h = subst (λ (x : ℕ). x < 256) (invSbox-rule k h) (entry k h .small)
+
+pub tables-undone : TablesUndone
+tables-undone k h = (entry k h .back, entry k h .there)
 
 pub sbox-undone : SboxUndone
 sbox-undone k h = (

@@ -17,7 +17,10 @@ SboxByRule = (k : ℕ) → k < 256 → getD sbox k 0 ≡ sboxOf k
 abbrev pub InvSboxByRule : Type 0
 InvSboxByRule = (k : ℕ) → k < 256 → getD invSbox k 0 ≡ invSboxOf k
 
--- Each S-box undoes the other.
+-- Each S-box undoes the other, table by table and rule by rule.
+abbrev pub TablesUndone : Type 0
+TablesUndone = (k : ℕ) → k < 256 → (getD invSbox (getD sbox k 0) 0 ≡ k) × (getD sbox (getD invSbox k 0) 0 ≡ k)
+
 abbrev pub SboxUndone : Type 0
 SboxUndone = (k : ℕ) → k < 256 → (invSboxOf (sboxOf k) ≡ k) × (sboxOf (invSboxOf k) ≡ k)
 

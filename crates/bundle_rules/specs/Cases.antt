@@ -5,7 +5,7 @@ use mathlib.Core.List.{List, [], _∷_, _++_}
 use lib.ListN.{take, replicate, set}
 use Rattle.refusal.specs.Checks.{bare}
 use Rattle.refusal.specs.Answers.{returned, refused}
-use Rattle.keywrap.specs.Rfc3394.{initialValue}
+use Rattle.rfc3394.specs.Rfc3394.{initialValue}
 use Rattle.bundle_rules.specs.Bundle.{fileOf, writeAnswer, readAnswer}
 
 -- an attribute of n bytes whose Key ID is one byte, 16 times

@@ -11,7 +11,7 @@ use Rattle.refusal.specs.Checks.{Check, pass, refuse, bare, unless, _andThen_, 
 use Rattle.refusal.proofs.Passing.{within-low, within-high, before-passed, last-passed, test-passed}
 use Rattle.slices.proofs.Truth.{and-left, and-right}
 use Rattle.slices.proofs.Same.{same-equal}
-use Rattle.keywrap.specs.Rfc3394.{initialValue}
+use Rattle.rfc3394.specs.Rfc3394.{initialValue}
 use Rattle.keywrap.specs.Calls.{wrappable}
 use Rattle.key_frame.specs.KeyFrame.{ivIn, lengthHolds, check25, check26, check27, frameCheck}
 

@@ -8,7 +8,7 @@ use lib.ListN.{length, take, drop, getD, replicate}
 use Rattle.refusal.specs.Checks.{Check, bare, unless, _andThen_, check20}
 use Rattle.slices.specs.Numbers.{be32, be32At}
 use Rattle.slices.specs.Same.{sameList}
-use Rattle.keywrap.specs.Rfc3394.{initialValue}
+use Rattle.rfc3394.specs.Rfc3394.{initialValue}
 use Rattle.keywrap.specs.Calls.{wrappable}
 use Rattle.key_frame.specs.declared.KeyFields.{KeyFields}
 

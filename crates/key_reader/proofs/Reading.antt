@@ -13,7 +13,7 @@ use Rattle.refusal.specs.declared.Answered.{Answered}
 use Rattle.refusal.specs.declared.Answered.the-variants.{Accepted, Refused}
 use Rattle.refusal.proofs.Passing.{before-passed, last-passed, test-passed, test-holds, both-pass, first-refuses}
 use Rattle.slices.proofs.Lists.{rest-drop}
-use Rattle.keywrap.specs.Rfc3394.{unwrappedIv, unwrappedKey}
+use Rattle.rfc3394.specs.Rfc3394.{unwrappedIv, unwrappedKey}
 use Rattle.keywrap.specs.Calls.{check23, check28, keyLength, unwrapCheck}
 use Rattle.key_frame.specs.KeyFrame.{fieldsIn, wrappedIn, keyLengthIn, check22, frameCheck, sixteenOf}
 use Rattle.key_frame.specs.declared.KeyFields.{KeyFields}

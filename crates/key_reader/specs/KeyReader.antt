@@ -4,7 +4,7 @@ use mathlib.Core.List.{List}
 use lib.ListN.{length, replicate}
 use Rattle.refusal.specs.Checks.{Reason, Check, pass, refuse, _andThen_, check6}
 use Rattle.refusal.specs.Answers.{Answer, returned, bufferAfter}
-use Rattle.keywrap.specs.Rfc3394.{unwrappedIv, unwrappedKey}
+use Rattle.rfc3394.specs.Rfc3394.{unwrappedIv, unwrappedKey}
 use Rattle.keywrap.specs.Calls.{check28}
 use Rattle.key_frame.specs.KeyFrame.{fieldsOf, fieldsIn, wrappedIn, keyLengthIn, check22, frameCheck}
 use Rattle.key_frame.specs.declared.KeyFields.{KeyFields}

@@ -13,7 +13,7 @@ use Rattle.refusal.specs.Checks.{pass, bare, check20}
 use Rattle.refusal.proofs.Passing.{before-passed, last-passed, test-holds, both-pass}
 use Rattle.slices.specs.Numbers.{be32, be32At}
 use Rattle.slices.proofs.Same.{equal-same}
-use Rattle.keywrap.specs.Rfc3394.{initialValue}
+use Rattle.rfc3394.specs.Rfc3394.{initialValue}
 use Rattle.slices.specs.Bytes.{Bytes}
 use Rattle.keywrap.specs.Calls.{wrappable}
 use Rattle.key_frame.specs.KeyFrame.{header, fieldsIn, ivIn, wrappedIn, frameCheck}

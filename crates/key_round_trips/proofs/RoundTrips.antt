@@ -10,11 +10,11 @@ use lib.ListN.{length, take, drop, length-append, length-drop}
 use lib.Seq.{take-at, length-take-le}
 use Rattle.refusal.specs.Checks.{Check, pass, refuse, bare, _andThen_, check20}
 use Rattle.refusal.proofs.Passing.{before-passed, last-passed, test-passed, test-holds, both-pass}
-use Rattle.keywrap.specs.Rfc3394.{initialValue, wrapped, unwrappedIv}
+use Rattle.rfc3394.specs.Rfc3394.{initialValue, wrapped, unwrappedIv}
 use Rattle.slices.specs.Bytes.{Bytes}
 use Rattle.keywrap.specs.Calls.{wrappable}
 use Rattle.slices.proofs.Bytes.{bytes-drop}
-use Rattle.keywrap.proofs.Laws.{length-wrapped, unwrap-initial, unwrap-key, length-unwrappedKey, wrap-again}
+use Rattle.rfc3394.proofs.Laws.{length-wrapped, unwrap-initial, unwrap-key, length-unwrappedKey, wrap-again}
 use Rattle.slices.proofs.Same.{same-equal, equal-same}
 use Rattle.key_frame.specs.KeyFrame.{check22, fieldsIn, wrappedIn, keyLengthIn, frameCheck}
 use Rattle.key_frame.specs.declared.KeyFields.{KeyFields}

@@ -5,7 +5,7 @@ use mathlib.Core.List.{List, [], _∷_, _++_, append-assoc}
 use native.Mathlib.Omega.{arith}
 use lib.ListN.{length, take, drop, length-append}
 use Rattle.slices.specs.Numbers.{be32}
-use Rattle.keywrap.specs.Rfc3394.{initialValue}
+use Rattle.rfc3394.specs.Rfc3394.{initialValue}
 use Rattle.key_frame.specs.KeyFrame.{fieldsOf, header}
 use Rattle.key_frame.proofs.Parts.{next-part}
 

@@ -16,7 +16,7 @@ use Rattle.refusal.specs.Answers.{Answer, returned, answerTo, bufferAfter}
 use Rattle.refusal.proofs.Passing.{before-passed, last-passed, test-passed, first-refuses}
 use Rattle.slices.proofs.Truth.{and-left, and-right, same-truth}
 use Rattle.slices.proofs.Lists.{rest-drop}
-use Rattle.keywrap.specs.Rfc3394.{wrapped}
+use Rattle.rfc3394.specs.Rfc3394.{wrapped}
 use Rattle.keywrap.specs.Calls.{wrapCheck}
 use Rattle.key_frame.specs.KeyFrame.{fieldsOf, header, check22, sixteenOf}
 use Rattle.key_frame.specs.declared.KeyFields.{KeyFields}

@@ -6,7 +6,7 @@ use lib.Dec.{eqb}
 use lib.ListN.{length}
 use Rattle.refusal.specs.Checks.{Check, bare, unless, _andThen_, check6, check20}
 use Rattle.refusal.specs.Answers.{Answer, answerTo, bufferAfter}
-use Rattle.keywrap.specs.Rfc3394.{wrapped}
+use Rattle.rfc3394.specs.Rfc3394.{wrapped}
 use Rattle.keywrap.specs.Calls.{check23}
 use Rattle.key_frame.specs.KeyFrame.{header, check22}
 use Rattle.key_frame.specs.declared.KeyFields.{KeyFields}

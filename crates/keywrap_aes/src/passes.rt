@@ -7,11 +7,11 @@ use aes128::invert_keys;
 ghost use mathlib.Core.Path.{_≡_};
 ghost use mathlib.Core.List.{_++_};
 ghost use Prim.Native.Nat.{_+_, _*_, _≤_};
-ghost use lib.ListN.{length, take};
+ghost use lib.ListN.{length};
 ghost use Rattle.fips197.specs.State.{bytes};
 ghost use Rattle.fips197.specs.Cipher.{cipher, eqInvCipher};
-ghost use Rattle.rfc3394.specs.Rfc3394.{joined, high, low, addCount, wrapPass, unwrapPass, wrapPasses, unwrapPasses, keyState, passesOf};
-ghost use Rattle.keywrap_aes.specs.Passes.{eightOf, passesWithin};
+ghost use Rattle.rfc3394.specs.Rfc3394.{joined, high, low, addCount, wrapPass, unwrapPass, wrapPasses, unwrapPasses, keyState};
+ghost use Rattle.keywrap_aes.specs.Internal.{passesOf};
 
 // The KEK as a state of the cipher.
 fn key_state(k: [u8; 16]) -> [[u8; 4]; 4]
@@ -25,22 +25,17 @@ fn key_state(k: [u8; 16]) -> [[u8; 4]; 4]
     ]
 }
 
-// Eight bytes as two columns.
-fn two_columns(a: [u8; 8]) -> [[u8; 4]; 2]
-    ensures { λ r. ⌜ high r ≡ eightOf a ⌝ }
-{
-    [[a[0], a[1], a[2], a[3]], [a[4], a[5], a[6], a[7]]]
-}
-
 // The eight bytes of two columns.
-fn eight_bytes(c: [u8; 4], d: [u8; 4]) -> [u8; 8]
-    ensures { λ r. ⌜ r ≡ bytes (λ x. x) c ++ bytes (λ x. x) d ⌝ }
+pub(crate) fn eight_bytes(a: [[u8; 4]; 2]) -> [u8; 8]
+    ensures { λ r. ⌜ r ≡ high a ⌝ }
 {
+    let c = a[0];
+    let d = a[1];
     [c[0], c[1], c[2], c[3], d[0], d[1], d[2], d[3]]
 }
 
 // The eight bytes of b, as two columns.
-fn front(b: &[u8]) -> [[u8; 4]; 2]
+pub(crate) fn front(b: &[u8]) -> [[u8; 4]; 2]
     requires { ⌜ length (now b) ≡ 8 ⌝ }
     ensures { λ r. ⌜ high r ≡ now (b .entry) ⌝ }
 {
@@ -142,13 +137,12 @@ fn unwrap_pass(
 }
 
 // Six passes over the n blocks of b.
-fn wrap_passes(ks: &[[[u8; 4]; 4]; 11], a: [u8; 8], b: &mut [u8], n: usize) -> [u8; 8]
+fn wrap_passes(ks: &[[[u8; 4]; 4]; 11], a: [[u8; 4]; 2], b: &mut [u8], n: usize) -> [[u8; 4]; 2]
     requires { ⌜ (n * 8 ≤ length (now b)) × (n ≤ 24) ⌝ }
-    ensures next { λ r. ⌜ r ≡ wrapPasses (cipher (now (ks .entry))) n 6 (eightOf a, now (b .entry)) .0 ⌝ }
-    ensures part { λ _. ⌜ now (b .exit) ≡ wrapPasses (cipher (now (ks .entry))) n 6 (eightOf a, now (b .entry)) .1 ⌝ }
-    ensures eight { λ r. ⌜ length r ≡ 8 ⌝ }
+    ensures next { λ r. ⌜ high r ≡ wrapPasses (cipher (now (ks .entry))) n 6 (high a, now (b .entry)) .0 ⌝ }
+    ensures part { λ _. ⌜ now (b .exit) ≡ wrapPasses (cipher (now (ks .entry))) n 6 (high a, now (b .entry)) .1 ⌝ }
 {
-    let mut x = two_columns(a);
+    let mut x = a;
     let mut c: u8 = 0;
     let mut j: u32 = 0;
     while j < 6 {
@@ -157,17 +151,16 @@ fn wrap_passes(ks: &[[[u8; 4]; 4]; 11], a: [u8; 8], b: &mut [u8], n: usize) -> [
         c += n as u8;
         j += 1;
     }
-    eight_bytes(x[0], x[1])
+    x
 }
 
 // Six passes back over the n blocks of b.
-fn unwrap_passes(ks: &[[[u8; 4]; 4]; 11], a: [u8; 8], b: &mut [u8], n: usize) -> [u8; 8]
+fn unwrap_passes(ks: &[[[u8; 4]; 4]; 11], a: [[u8; 4]; 2], b: &mut [u8], n: usize) -> [[u8; 4]; 2]
     requires { ⌜ (n * 8 ≤ length (now b)) × (n ≤ 24) ⌝ }
-    ensures next { λ r. ⌜ r ≡ unwrapPasses (eqInvCipher (now (ks .entry))) n 6 (eightOf a, now (b .entry)) .0 ⌝ }
-    ensures part { λ _. ⌜ now (b .exit) ≡ unwrapPasses (eqInvCipher (now (ks .entry))) n 6 (eightOf a, now (b .entry)) .1 ⌝ }
-    ensures eight { λ r. ⌜ length r ≡ 8 ⌝ }
+    ensures next { λ r. ⌜ high r ≡ unwrapPasses (eqInvCipher (now (ks .entry))) n 6 (high a, now (b .entry)) .0 ⌝ }
+    ensures part { λ _. ⌜ now (b .exit) ≡ unwrapPasses (eqInvCipher (now (ks .entry))) n 6 (high a, now (b .entry)) .1 ⌝ }
 {
-    let mut x = two_columns(a);
+    let mut x = a;
     let mut c: u8 = 6 * (n as u8);
     let mut j: u32 = 6;
     while 0 < j {
@@ -176,27 +169,16 @@ fn unwrap_passes(ks: &[[[u8; 4]; 4]; 11], a: [u8; 8], b: &mut [u8], n: usize) ->
         let next = unwrap_pass(ks, x, &mut *b, n, c);
         x = next;
     }
-    eight_bytes(x[0], x[1])
+    x
 }
 
-// The same eight bytes.
-fn kept(a: [u8; 8]) -> [u8; 8]
-    ensures { λ r. ⌜ r ≡ eightOf a ⌝ }
+// The six passes under the KEK over the blocks of b, forward or back, from the A given; the last A is returned. Both ways share one function, so that
+// the round keys take their room on the stack once, and are made those of the inverse cipher in their place.
+pub(crate) fn passes(kek: [u8; 16], back: bool, a: [[u8; 4]; 2], b: &mut [u8]) -> [[u8; 4]; 2]
+    requires { ⌜ length (now b) ≤ 192 ⌝ }
+    ensures next { λ r. ⌜ high r ≡ passesOf back kek (high a, now (b .entry)) .0 ⌝ }
+    ensures part { λ _. ⌜ now (b .exit) ≡ passesOf back kek (high a, now (b .entry)) .1 ⌝ }
 {
-    [a[0], a[1], a[2], a[3], a[4], a[5], a[6], a[7]]
-}
-
-// The six passes under the KEK over the blocks of b, forward or back, from the A given; the last A is returned. A b of more than 192 bytes,
-// the longest key that document 01 has wrapped, is left as it is, and so is A. Both ways share one function, so that the round keys take
-// their room on the stack once, and are made those of the inverse cipher in their place.
-pub(crate) fn passes(kek: [u8; 16], back: bool, a: [u8; 8], b: &mut [u8]) -> [u8; 8]
-    ensures next { λ r. ⌜ r ≡ passesWithin back kek (eightOf a, now (b .entry)) .0 ⌝ }
-    ensures part { λ _. ⌜ now (b .exit) ≡ passesWithin back kek (eightOf a, now (b .entry)) .1 ⌝ }
-    ensures eight { λ r. ⌜ length r ≡ 8 ⌝ }
-{
-    if 192 < b.len() {
-        return kept(a);
-    }
     let mut ks = [[[0u8; 4]; 4]; 11];
     expand_key(key_state(kek), &mut ks);
     let n = b.len() / 8;

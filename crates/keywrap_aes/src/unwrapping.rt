@@ -1,5 +1,7 @@
 // A wrapped key unwrapped (RFC 3394, with AES-128 and the default initial value) under a key encryption key (KEK), with document 01's tests and a check of its
 // integrity.
+use crate::passes::eight_bytes;
+use crate::passes::front;
 use crate::passes::passes;
 use bytes::copy;
 use keywrap::is_wrappable;
@@ -12,12 +14,12 @@ use refusal::unless;
 use slices::same_bytes;
 ghost use mathlib.Core.Path.{_≡_};
 ghost use Prim.Native.Nat.{_-_, _≤_};
-ghost use lib.ListN.{length, take};
+ghost use lib.ListN.{length};
 ghost use Rattle.refusal.specs.Checks.{_andThen_, check6};
 ghost use Rattle.refusal.specs.Answers.{checkedAs, answerOf, answerTo, bufferAfter};
 ghost use Rattle.slices.specs.Same.{sameList};
-ghost use Rattle.rfc3394.specs.Rfc3394.{initialValue, unwrappedIv, unwrappedKey};
-ghost use Rattle.keywrap.specs.Calls.{check23, check28, unwrapCheck, keyLength};
+ghost use Rattle.rfc3394.specs.Rfc3394.{high, initialValue, unwrappedIv, unwrappedKey};
+ghost use Rattle.keywrap.specs.Calls.{check23, unwrapCheck, keyLength};
 
 // The length of the key that n wrapped bytes hold.
 fn key_length(n: usize) -> usize
@@ -34,78 +36,44 @@ fn check_unwrap(n: usize, room: usize) -> Checked
     then_check(length, check_room(n, room))
 }
 
-// The first eight bytes of b.
-fn first_eight(b: &[u8]) -> [u8; 8]
-    requires { ⌜ 8 ≤ length (now b) ⌝ }
-    ensures { λ r. ⌜ r ≡ take 8 (now (b .entry)) ⌝ }
-{
-    [b[0], b[1], b[2], b[3], b[4], b[5], b[6], b[7]]
-}
-
 // Unwraps to scratch, which is as long as the key; what must be the initial value is returned.
-fn unwrap_into(kek: [u8; 16], wrapped: &[u8], scratch: &mut [u8]) -> [u8; 8]
+fn unwrap_into(kek: [u8; 16], wrapped: &[u8], scratch: &mut [u8]) -> [[u8; 4]; 2]
     requires { ⌜ (8 ≤ length (now wrapped)) × (length (now scratch) ≤ 192) × (length (now scratch) ≡ keyLength (now wrapped)) ⌝ }
-    ensures next { λ r. ⌜ r ≡ unwrappedIv kek (now (wrapped .entry)) ⌝ }
-    ensures part { λ _. ⌜ now (scratch .exit) ≡ unwrappedKey kek (now (wrapped .entry)) ⌝ }
-    ensures eight { λ r. ⌜ length r ≡ 8 ⌝ }
+    ensures first { λ r. ⌜ high r ≡ unwrappedIv kek (now (wrapped .entry)) ⌝ }
+    ensures key { λ _. ⌜ now (scratch .exit) ≡ unwrappedKey kek (now (wrapped .entry)) ⌝ }
 {
     copy(&wrapped[8..], scratch);
-    passes(kek, true, first_eight(wrapped), scratch)
+    passes(kek, true, front(&wrapped[..8]), scratch)
 }
 
 // Whether a is the initial value. All eight bytes are read before it is decided.
-fn is_initial(a: [u8; 8]) -> bool
-    requires { ⌜ length a ≡ 8 ⌝ }
-    ensures { λ r. ⌜ r ≡ sameList a initialValue ⌝ }
+fn is_initial(a: [[u8; 4]; 2]) -> bool
+    ensures { λ r. ⌜ r ≡ sameList (high a) initialValue ⌝ }
 {
-    same_bytes(&a, &[0xa6; 8])
+    same_bytes(&eight_bytes(a), &[0xa6; 8])
 }
 
-// Unwraps to scratch, and from there copies the key to out, if its integrity holds. Until that is known out is not written.
-fn unwrap_by(kek: [u8; 16], wrapped: &[u8], scratch: &mut [u8], out: &mut [u8]) -> Answered
-    requires { ⌜ (8 ≤ length (now wrapped)) × (keyLength (now wrapped) ≤ 192) × (keyLength (now wrapped) ≤ length (now out)) × (length (now scratch) ≡ keyLength (now wrapped)) ⌝ }
-    ensures answer { λ r. ⌜ answerOf r ≡ answerTo (check28 (unwrappedIv kek (now (wrapped .entry)))) (keyLength (now (wrapped .entry))) ⌝ }
-    ensures buffer { λ _. ⌜ now (out .exit) ≡ bufferAfter (check28 (unwrappedIv kek (now (wrapped .entry)))) (keyLength (now (wrapped .entry))) (unwrappedKey kek (now (wrapped .entry))) (now (out .entry)) ⌝ }
-{
-    let a = unwrap_into(kek, wrapped, &mut *scratch);
-    let integrity = unless(is_initial(a), Refusal::Integrity);
-    match integrity {
-        Checked::Failed(why) => Answered::Refused(why),
-        Checked::Passed => {
-            copy(&scratch[..], out);
-            Answered::Accepted(scratch.len())
-        }
-    }
-}
-
-// Unwraps to the start of scratch, which has room for the key, and from there copies the key to out, if its integrity holds.
-fn unwrap_with(kek: [u8; 16], wrapped: &[u8], scratch: &mut [u8], out: &mut [u8]) -> Answered
-    requires { ⌜ (8 ≤ length (now wrapped)) × (keyLength (now wrapped) ≤ 192) × (keyLength (now wrapped) ≤ length (now out)) × (keyLength (now wrapped) ≤ length (now scratch)) ⌝ }
-    ensures answer { λ r. ⌜ answerOf r ≡ answerTo (check28 (unwrappedIv kek (now (wrapped .entry)))) (keyLength (now (wrapped .entry))) ⌝ }
-    ensures buffer { λ _. ⌜ now (out .exit) ≡ bufferAfter (check28 (unwrappedIv kek (now (wrapped .entry)))) (keyLength (now (wrapped .entry))) (unwrappedKey kek (now (wrapped .entry))) (now (out .entry)) ⌝ }
-{
-    let n = wrapped.len() - 8;
-    unwrap_by(kek, wrapped, &mut scratch[..n], out)
-}
-
-// Unwraps what passed the tests before the integrity.
-fn unwrap_checked(kek: [u8; 16], wrapped: &[u8], out: &mut [u8]) -> Answered
-    requires { ⌜ (8 ≤ length (now wrapped)) × (keyLength (now wrapped) ≤ 192) × (keyLength (now wrapped) ≤ length (now out)) ⌝ }
-    ensures answer { λ r. ⌜ answerOf r ≡ answerTo (check28 (unwrappedIv kek (now (wrapped .entry)))) (keyLength (now (wrapped .entry))) ⌝ }
-    ensures buffer { λ _. ⌜ now (out .exit) ≡ bufferAfter (check28 (unwrappedIv kek (now (wrapped .entry)))) (keyLength (now (wrapped .entry))) (unwrappedKey kek (now (wrapped .entry))) (now (out .entry)) ⌝ }
-{
-    let mut scratch = [0u8; 192];
-    unwrap_with(kek, wrapped, &mut scratch, out)
-}
-
-// Unwraps a wrapped key under the KEK. The key, 8 bytes shorter, is written at the start of out, and its length is the answer.
+// Unwraps a wrapped key under the KEK. The key, 8 bytes shorter, is written at the start of out, and its length is the answer. Until its integrity is known,
+// out is not written.
 pub fn unwrap(kek: [u8; 16], wrapped: &[u8], out: &mut [u8]) -> Answered
     ensures answer { λ r. ⌜ answerOf r ≡ answerTo (unwrapCheck kek (now (wrapped .entry)) (length (now (out .entry)))) (keyLength (now (wrapped .entry))) ⌝ }
     ensures buffer { λ _. ⌜ now (out .exit) ≡ bufferAfter (unwrapCheck kek (now (wrapped .entry)) (length (now (out .entry)))) (keyLength (now (wrapped .entry))) (unwrappedKey kek (now (wrapped .entry))) (now (out .entry)) ⌝ }
 {
-    let check = check_unwrap(key_length(wrapped.len()), out.len());
+    let n = key_length(wrapped.len());
+    let check = check_unwrap(n, out.len());
     match check {
         Checked::Failed(why) => Answered::Refused(why),
-        Checked::Passed => unwrap_checked(kek, wrapped, out),
+        Checked::Passed => {
+            let mut scratch = [0u8; 192];
+            let a = unwrap_into(kek, wrapped, &mut scratch[..n]);
+            let integrity = unless(is_initial(a), Refusal::Integrity);
+            match integrity {
+                Checked::Failed(late) => Answered::Refused(late),
+                Checked::Passed => {
+                    copy(&scratch[..n], out);
+                    Answered::Accepted(n)
+                }
+            }
+        }
     }
 }

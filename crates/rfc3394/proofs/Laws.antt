@@ -1,7 +1,6 @@
 -- What is wrapped is unwrapped again, with the initial value; and bytes that unwrap with the initial value are what wrapping their key gives. Both hold under any
 -- KEK of bytes, for a key of any length: the passes run over its whole blocks of eight.
 use mathlib.Core.Path.{_≡_, refl, sym, ap, ap₂, _∙_}
-use mathlib.Core.Bool.{true}
 use mathlib.Core.List.{List, _++_}
 use Prim.Native.Nat.{ℕ, _+_, _-_, _*_, _/_, _≤_}
 use native.Mathlib.Omega.{arith}
@@ -11,7 +10,7 @@ use Rattle.fips197.specs.State.{State, Block, block, column}
 use Rattle.fips197.specs.Cipher.{cipher, invCipher}
 use Rattle.fips197.proofs.Rounds.{Keys, cipher-block, invCipher-block, uncipher, recipher, expandKey-keys}
 use Rattle.slices.specs.Bytes.{Bytes}
-use Rattle.rfc3394.specs.Rfc3394.{initialValue, Registers, wrapPasses, unwrapPasses, keyState, roundKeys, passesOf, wrapRegisters, wrapped, unwrapRegisters, unwrappedIv, unwrappedKey}
+use Rattle.rfc3394.specs.Rfc3394.{initialValue, Registers, wrapPasses, unwrapPasses, keyState, roundKeys, wrapRegisters, wrapped, unwrapRegisters, unwrappedIv, unwrappedKey}
 use Rattle.rfc3394.specs.Statements.{UnwrapUndoes, WrapUndoes, WrappedLength, UnwrappedLength}
 use Rattle.slices.proofs.Bytes.{bytes-take, bytes-drop}
 use Rattle.rfc3394.proofs.Halves.{half-of, half-length, initial-half}
@@ -76,7 +75,7 @@ module _ (kek : List ℕ) (k : Bytes kek) where
         let r : List ℕ = wrapRegisters kek key .1 in
         let f = half-length (wrap-ready .first) in
         let s = wrap-ready .count in
-        ap (passesOf true kek) (registers≡ (take-at a r 8 f) (drop-at a r 8 f))
+        ap (λ (x : Registers). unwrapPasses (invCipher (roundKeys kek)) (length (x .1) / 8) 6 x) (registers≡ (take-at a r 8 f) (drop-at a r 8 f))
         ∙ ap (λ (m : ℕ). unwrapPasses (invCipher (roundKeys kek)) (m / 8) 6 (a, r)) s
         ∙ unwrap-wrap
 

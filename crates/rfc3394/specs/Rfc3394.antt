@@ -1,6 +1,5 @@
 -- RFC 3394, the key wrap, over any block cipher E with its inverse D, and then with AES-128. Bytes are numbers; a semiblock of the document, 64 bits, is eight
 -- bytes. The wrapping and the unwrapping are those of sections 2.2.1 and 2.2.2 in their indexed form, with i counted from 0: the document's R[i + 1] is block i.
-use mathlib.Core.Bool.{Bool, true, false}
 use mathlib.Core.List.{List, [], _∷_, _++_}
 use Prim.Native.Nat.{ℕ, zero, suc, _+_, _*_, _/_, _%_, _^_}
 use lib.Bits.{bitXor}
@@ -119,21 +118,16 @@ keyState kek =
 unfoldable pub roundKeys : List ℕ → List State
 roundKeys kek = expandKey (keyState kek)
 
--- With AES-128: six passes over the blocks of eight bytes of R, forward or back.
-abbrev pub passesOf : Bool → List ℕ → Registers → Registers
-passesOf false kek x = wrapPasses (cipher (roundKeys kek)) (length (x .1) / 8) 6 x
-passesOf true kek x = unwrapPasses (invCipher (roundKeys kek)) (length (x .1) / 8) 6 x
-
--- 2.2.1: from A = the initial value and the key. The wrapped key is C[0] = A and then the blocks.
+-- 2.2.1, with AES-128: from A = the initial value and the key, six passes over its blocks of eight bytes. The wrapped key is C[0] = A and then the blocks.
 unfoldable pub wrapRegisters : List ℕ → List ℕ → Registers
-wrapRegisters kek key = passesOf false kek (initialValue, key)
+wrapRegisters kek key = wrapPasses (cipher (roundKeys kek)) (length key / 8) 6 (initialValue, key)
 
 unfoldable pub wrapped : List ℕ → List ℕ → List ℕ
 wrapped kek key = wrapRegisters kek key .0 ++ wrapRegisters kek key .1
 
--- 2.2.2: from A = C[0] and the blocks after it. The eight bytes that must be the initial value, and the key.
+-- 2.2.2, with AES-128: from A = C[0] and the blocks after it, six passes back. The eight bytes that must be the initial value, and the key.
 unfoldable pub unwrapRegisters : List ℕ → List ℕ → Registers
-unwrapRegisters kek bytes = passesOf true kek (take 8 bytes, drop 8 bytes)
+unwrapRegisters kek bytes = unwrapPasses (invCipher (roundKeys kek)) (length (drop 8 bytes) / 8) 6 (take 8 bytes, drop 8 bytes)
 
 unfoldable pub unwrappedIv : List ℕ → List ℕ → List ℕ
 unwrappedIv kek bytes = unwrapRegisters kek bytes .0

@@ -6,7 +6,7 @@ use native.Mathlib.Omega.{arith}
 use lib.Bits.{bitAnd, bitXor, and-block, xor-block, xor-mod, xor-shr}
 use Rattle.fips197.specs.State.{Column, column, bytes, addColumn}
 use Rattle.fips197.proofs.Four.{four}
-use Rattle.aes128.specs.Words.{wordOf, columnOf, turned}
+use Rattle.aes128.specs.Internal.{wordOf, columnOf, turned}
 
 -- ---- words of equal bytes
 

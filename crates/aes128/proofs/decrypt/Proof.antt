@@ -1,6 +1,6 @@
 -- `aes128::decrypt` meets its contract: what is left of the rounds at place i is what was left at the start.
 use mathlib.Core.Path.{_≡_, refl, _∙_}
-use Prim.Native.Nat.{_≤_, _-_}
+use Prim.Native.Nat.{_≤_}
 use native.Mathlib.Omega.{arith}
 use Rattle.fips197.specs.Cipher.{eqInvRounds}
 use Rattle.aes128.specs.Internal.{stateOf}
@@ -24,7 +24,7 @@ loop-again c =
       omega arith,
       eq-step (p .before .before .before .before .args .ks .now) (p .loop .i) _ _ (omega arith)
           (inv-round-by _ (p .loop .t) _ _ (c .before .before .before .before .before .state .ensures) _ _ (c .words2 .result)
-          (c .before .before .before .before .inv-shift-rows .ensures) (c .before .before .before .inv-mix-columns .ensures) (c .before .add-round-key2 .ensures) (c .words2 .ensures))
+          (c .before .before .before .before .inv-shift-rows .ensures) (c .before .before .before .inv-sub-and-mix-columns .ensures) (c .before .add-round-key2 .ensures) (c .words2 .ensures))
           ∙ p .loop .inv .1,
     )
 

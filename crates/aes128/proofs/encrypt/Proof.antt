@@ -25,7 +25,7 @@ loop-again c =
       omega arith,
       round-step (p .before .before .before .before .args .ks .now) (p .loop .i) _ _ _ (p .loop .inv .1)
           (round-by _ (p .loop .t) _ _ (c .before .before .before .before .before .state .ensures) _ _ (c .words2 .result)
-          (c .before .before .before .before .shift-rows .ensures) (c .before .before .before .mix-columns .ensures) (c .before .add-round-key2 .ensures) (c .words2 .ensures)),
+          (c .before .before .before .before .shift-rows .ensures) (c .before .before .before .sub-and-mix-columns .ensures) (c .before .add-round-key2 .ensures) (c .words2 .ensures)),
     )
 
 returns : tie.Need-returns Inv-loop μ-loop

@@ -1,6 +1,6 @@
 -- Doubling a word doubles each of its bytes, and so the column that the code mixes as one word is the mixed column of FIPS 197.
-use mathlib.Core.Path.{_≡_, sym, ap, ap₂, _∙_}
-use mathlib.Core.List.{List, [], _∷_}
+use mathlib.Core.Path.{_≡_, ap, ap₂, _∙_}
+use mathlib.Core.List.{List}
 use Prim.Native.Nat.{ℕ, _+_, _*_, _/_, _%_, _<_}
 use native.Mathlib.Omega.{arith}
 use lib.Bits.{bitAnd, bitXor, and-mask}
@@ -10,9 +10,8 @@ use Rattle.fips197.specs.State.{Column, column, bytes, eachRow, mixByte, invMix
 use Rattle.fips197.proofs.Four.{four}
 use Rattle.fips197.proofs.Mix.{by4, one-doubling, premix}
 use Rattle.fips197.proofs.Steps.{xor-byte, xtime-byte}
-use Rattle.aes128.specs.Words.{wordOf, columnOf, turned}
+use Rattle.aes128.specs.Internal.{wordOf, columnOf, turned, doubled}
 use Rattle.aes128.proofs.columns.Words.{word≡, xor-word, and-word, turn-word, column-word, word-bytes}
-use Rattle.aes128.specs.KeysInternal.{doubled}
 
 -- ---- a word times a number, and a word shifted by one bit to the left, with a bit a from below
 

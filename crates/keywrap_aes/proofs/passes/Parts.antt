@@ -1,6 +1,6 @@
 -- What the code computes, step by step, is what the definitions say. Each lemma is over plain lists and numbers, and its premises are what the callees ensure.
 use mathlib.Core.Path.{_≡_, refl, sym, ap, ap₂, _∙_}
-use mathlib.Core.Bool.{Bool, true, false, cond}
+use mathlib.Core.Bool.{Bool, true, false}
 use mathlib.Core.List.{List, [], _∷_, _++_}
 use Prim.Native.Nat.{ℕ, zero, suc, _+_, _-_, _*_, _/_, _≤_, _<_}
 use native.Mathlib.Nat.{mul-suc}
@@ -8,14 +8,15 @@ use native.Mathlib.Numerals.{add-one, sub-one}
 use native.Mathlib.Omega.{arith}
 use borrow.Rule.Slice.PartMut.{midOf, putMid}
 use lib.ListN.{length, getD, set, take, drop}
-use lib.Seq.{take-length, drop-length}
 use Rattle.fips197.specs.State.{State, bytes, columns, addRoundKey}
 use Rattle.fips197.specs.Cipher.{cipher, invCipher, eqInvCipher, invertedKeys}
 use Rattle.fips197.specs.KeyExpansion.{expandKey}
 use Rattle.fips197.proofs.Equivalent.{equivalent-inverse}
-use Rattle.rfc3394.specs.Rfc3394.{joined, high, low, addCount, counted, blockAt, withBlock, Registers, wrapStep, unwrapStep, wrapPass, unwrapPass, wrapPasses, unwrapPasses, keyState, roundKeys, passesOf}
+use Rattle.rfc3394.specs.Rfc3394.{joined, high, low, addCount, counted, blockAt, withBlock, Registers, keyState, roundKeys}
+use Rattle.rfc3394.specs.Rfc3394.{wrapStep, unwrapStep, wrapPass, unwrapPass, wrapPasses, unwrapPasses}
 use Rattle.rfc3394.proofs.Halves.{Eight, eight, eight-of}
 use Rattle.rfc3394.proofs.Steps.{registers≡}
+use Rattle.keywrap_aes.specs.Internal.{passesOf}
 
 -- ---- eight bytes
 
@@ -119,9 +120,9 @@ pub count-less : (n j c : ℕ) → 0 < j → c ≡ n * j → (n ≤ c) × (c - n
 count-less n zero c h e = absurd (omega arith)
 count-less n (suc j) c h e = less-by (n * (suc j - 1)) n c (e ∙ mul-suc n j ∙ ap (λ (m : ℕ). n * m + n) (sym (sub-one (suc j))))
 
--- ---- both ways
+-- ---- both ways, under the KEK
 
-module _ (kek : List ℕ) (st : State) (ks : List State) (a b r z : List ℕ) (est : st ≡ keyState kek) (eks : ks ≡ expandKey st) where
+module _ (kek : List ℕ) (st : State) (ks : List State) (est : st ≡ keyState kek) (eks : ks ≡ expandKey st) (a b r z : List ℕ) where
   keys-are : ks ≡ roundKeys kek
   unfolding roundKeys
   keys-are = eks ∙ ap expandKey est

@@ -10,9 +10,8 @@ use lib.ListN.{length, take, drop, length-drop}
 use lib.Seq.{take-length, take-at, drop-at, drop-drop, length-take-le}
 use Rattle.refusal.specs.Checks.{Reason, Check, pass, refuse, _andThen_, check6}
 use Rattle.refusal.proofs.Passing.{before-passed, last-passed, test-passed}
-use Rattle.rfc3394.specs.Rfc3394.{initialValue, Registers, passesOf, wrapRegisters, wrapped}
-use Rattle.keywrap_aes.specs.Passes.{passesWithin}
-use Rattle.keywrap_aes.proofs.passes.Within.{within}
+use Rattle.rfc3394.specs.Rfc3394.{initialValue, wrapRegisters, wrapped}
+use Rattle.keywrap_aes.specs.Internal.{passesOf}
 use Rattle.keywrap.specs.Calls.{check23, wrapCheck}
 use Rattle.keywrap.proofs.Lengths.{passed-high, copied-whole}
 
@@ -36,7 +35,7 @@ wrap-bounds n room e = (passed-high n (before-passed _ _ e), leb-true (n + 8) ro
 drop-part : (n k : ℕ) (l z : List ℕ) → n ≤ length l → drop n (putMid n k l z) ≡ z ++ drop k (drop n l)
 drop-part n k l z h = drop-at (take n l) (z ++ drop k (drop n l)) n (length-take-le n l h)
 
-module _ (kek key out : List ℕ) (k : ℕ) (z : List ℕ) (short : length key ≤ 192) (room : length key + 8 ≤ length out) (ek : k ≡ length key)
+module _ (kek key out : List ℕ) (k : ℕ) (z : List ℕ) (room : length key + 8 ≤ length out) (ek : k ≡ length key)
     (hz : z ≡ take (length key) key ++ drop (length key) (midOf 8 k out)) where
   ez : z ≡ key
   ez = copied-whole key (midOf 8 k out) z (length-take-le k (drop 8 out) (simp length-drop (omega arith)) ∙ ek) hz
@@ -50,12 +49,9 @@ module _ (kek key out : List ℕ) (k : ℕ) (z : List ℕ) (short : length key �
   key-there : midOf 8 k (putMid 8 k out z) ≡ key
   key-there = ap (take k) placed ∙ take-at z (drop k (drop 8 out)) k z-length ∙ ez
 
-  passed : passesWithin false kek (initialValue, midOf 8 k (putMid 8 k out z)) ≡ passesOf false kek (initialValue, key)
-  passed = ap (λ (m : List ℕ). passesWithin false kek (initialValue, m)) key-there ∙ within false kek (initialValue, key) short
-
   pub wrapped-in-place : (a r f : List ℕ) → length a ≡ 8
-      → a ≡ passesWithin false kek (initialValue, midOf 8 k (putMid 8 k out z)) .0
-      → r ≡ passesWithin false kek (initialValue, midOf 8 k (putMid 8 k out z)) .1
+      → a ≡ passesOf false kek (initialValue, midOf 8 k (putMid 8 k out z)) .0
+      → r ≡ passesOf false kek (initialValue, midOf 8 k (putMid 8 k out z)) .1
       → f ≡ take (length a) a ++ drop (length a) (putMid 8 k (putMid 8 k out z) r)
       → f ≡ wrapped kek key ++ drop (length key + 8) out
   unfolding wrapped wrapRegisters
@@ -71,4 +67,6 @@ module _ (kek key out : List ℕ) (k : ℕ) (z : List ℕ) (short : length key �
       ∙ ap₂ (λ (x y : List ℕ). x ++ y) (take-length a) (ap (λ (n : ℕ). drop n (putMid 8 k w r)) la ∙ d)
       ∙ sym (append-assoc a r (drop (length key + 8) out))
       ∙ ap (λ (x : List ℕ). x ++ drop (length key + 8) out)
-      (ap₂ (λ (x y : List ℕ). x ++ y) (ea ∙ ap (λ (x : Registers). x .0) passed) (er ∙ ap (λ (x : Registers). x .1) passed))
+      (ap₂ (λ (x y : List ℕ). x ++ y)
+      (ea ∙ ap (λ (l : List ℕ). passesOf false kek (initialValue, l) .0) key-there)
+      (er ∙ ap (λ (l : List ℕ). passesOf false kek (initialValue, l) .1) key-there))

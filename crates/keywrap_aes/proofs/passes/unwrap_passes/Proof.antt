@@ -1,13 +1,11 @@
 -- `keywrap_aes::passes::unwrap_passes` meets its contract: the j passes that are left come to what all six come to, and the count is n * j.
 use mathlib.Core.Path.{_≡_, refl, sym, ap, _∙_}
-use mathlib.Core.List.{List}
-use Prim.Native.Nat.{ℕ, _+_, _-_, _*_, _≤_}
+use Prim.Native.Nat.{ℕ, _*_, _≤_}
 use native.Mathlib.Omega.{arith}
 use denote.Ref.{now}
 use lib.ListN.{length}
 use Rattle.fips197.specs.Cipher.{eqInvCipher}
 use Rattle.rfc3394.specs.Rfc3394.{high, Registers, unwrapPasses}
-use Rattle.keywrap_aes.specs.Passes.{eightOf}
 use Rattle.keywrap_aes.proofs.passes.Parts.{unpasses-less, count-less}
 use borrow.Author.Needs.{needs}
 use Rattle.keywrap_aes.proofs.passes.unwrap_passes.Statement.{statement}
@@ -25,14 +23,14 @@ loop-holds c = (omega arith, omega arith, omega arith, refl, refl)
 sub-c : tie.Need-sub-c Inv-loop μ-loop
 sub-c c =
     let l = c .before .loop in
-    let h = count-less (c .before .before .before .before .args .n) (l .j) (l .c) (omega arith) (l .inv .2) in
+    let h = count-less (c .before .before .before .args .n) (l .j) (l .c) (omega arith) (l .inv .2) in
     omega (arith, h .0)
 
 loop-again : tie.Need-loop-again Inv-loop μ-loop
 loop-again c =
     let k = c .before .before in
     let l = k .before .before .before .loop in
-    let s = k .before .before .before .before .before .before .args in
+    let s = k .before .before .before .before .before .args in
     let h = count-less (s .n) (l .j) (l .c) (omega arith) (l .inv .2) in (
       omega arith,
       omega arith,
@@ -44,18 +42,15 @@ loop-again c =
 returns : tie.Need-returns Inv-loop μ-loop
 unfolding unwrapPasses
 returns c =
-    let p = c .before .before .before .before in
-    let s = p .before .before .before .args in
-    let e : p .loop .j ≡ 0 = omega arith in
-    let q : _≡_ {A = Registers} (high (p .loop .x), p .loop .b) (unwrapPasses (eqInvCipher (now (s .ks))) (s .n) 6 (eightOf (s .a), now (s .b)))
-    = ap (λ (m : ℕ). unwrapPasses (eqInvCipher (now (s .ks))) (s .n) m (high (p .loop .x), p .loop .b)) (sym e)
-    ∙ p .loop .inv .4
-    ∙ ap (λ (h : List ℕ). unwrapPasses (eqInvCipher (now (s .ks))) (s .n) 6 (h, now (s .b))) (p .before .two-columns .ensures) in
-    (c .eight-bytes .ensures ∙ ap (λ (w : Registers). w .0) q, (ap (λ (w : Registers). w .1) q, ap length (c .eight-bytes .ensures)))
+    let l = c .before .loop in
+    let s = c .before .before .before .args in
+    let e : l .j ≡ 0 = omega arith in
+    let q : _≡_ {A = Registers} (high (l .x), l .b) (unwrapPasses (eqInvCipher (now (s .ks))) (s .n) 6 (high (s .a), now (s .b)))
+    = ap (λ (m : ℕ). unwrapPasses (eqInvCipher (now (s .ks))) (s .n) m (high (l .x), l .b)) (sym e) ∙ l .inv .4 in
+    (ap (λ (w : Registers). w .0) q, ap (λ (w : Registers). w .1) q)
 
 pub unwrap-passes-spec : {M : Type 1} → statement M
 unwrap-passes-spec =
     tie.close
-    (tie.spec Inv-loop μ-loop (λ c κs. search needs) (λ c. search needs) (λ c. search needs) loop-holds
-    (λ c. search needs) sub-c (λ c. search needs) (λ c κs. search needs) (λ c. search needs) loop-again
-    (λ c. search needs) (λ c. search needs) (λ c κs. search needs) (λ c. search needs) returns)
+    (tie.spec Inv-loop μ-loop (λ c. search needs) (λ c. search needs) loop-holds (λ c. search needs) sub-c
+    (λ c. search needs) (λ c κs. search needs) (λ c. search needs) loop-again (λ c. search needs) returns)

@@ -1,13 +1,11 @@
 -- `keywrap_aes::passes::wrap_passes` meets its contract: after j turns A and the blocks are those of j passes, and the count is n * j.
 use mathlib.Core.Path.{_≡_, refl, sym, ap, _∙_}
-use mathlib.Core.List.{List}
 use Prim.Native.Nat.{ℕ, _+_, _-_, _*_, _≤_}
 use native.Mathlib.Omega.{arith}
 use denote.Ref.{now}
 use lib.ListN.{length}
 use Rattle.fips197.specs.Cipher.{cipher}
 use Rattle.rfc3394.specs.Rfc3394.{high, Registers, wrapPasses}
-use Rattle.keywrap_aes.specs.Passes.{eightOf}
 use Rattle.keywrap_aes.proofs.passes.Parts.{passes-more, count-more}
 use borrow.Author.Needs.{needs}
 use Rattle.keywrap_aes.proofs.passes.wrap_passes.Statement.{statement}
@@ -27,7 +25,7 @@ loop-again : tie.Need-loop-again Inv-loop μ-loop
 loop-again c =
     let k = c .before .before in
     let l = k .before .before .before .loop in
-    let s = k .before .before .before .before .before .before .args in (
+    let s = k .before .before .before .before .before .args in (
       omega arith,
       omega arith,
       ap (λ (m : ℕ). m + s .n) (l .inv .2) ∙ sym (count-more (s .n) (l .j)),
@@ -37,18 +35,15 @@ loop-again c =
 
 returns : tie.Need-returns Inv-loop μ-loop
 returns c =
-    let p = c .before .before .before .before in
-    let s = p .before .before .before .args in
-    let e : p .loop .j ≡ 6 = omega arith in
-    let q : _≡_ {A = Registers} (high (p .loop .x), p .loop .b) (wrapPasses (cipher (now (s .ks))) (s .n) 6 (eightOf (s .a), now (s .b)))
-    = p .loop .inv .4
-    ∙ ap (λ (m : ℕ). wrapPasses (cipher (now (s .ks))) (s .n) m (high (p .before .two-columns .result), now (s .b))) e
-    ∙ ap (λ (h : List ℕ). wrapPasses (cipher (now (s .ks))) (s .n) 6 (h, now (s .b))) (p .before .two-columns .ensures) in
-    (c .eight-bytes .ensures ∙ ap (λ (w : Registers). w .0) q, (ap (λ (w : Registers). w .1) q, ap length (c .eight-bytes .ensures)))
+    let l = c .before .loop in
+    let s = c .before .before .before .args in
+    let e : l .j ≡ 6 = omega arith in
+    let q : _≡_ {A = Registers} (high (l .x), l .b) (wrapPasses (cipher (now (s .ks))) (s .n) 6 (high (s .a), now (s .b)))
+    = l .inv .4 ∙ ap (λ (m : ℕ). wrapPasses (cipher (now (s .ks))) (s .n) m (high (s .a), now (s .b))) e in
+    (ap (λ (w : Registers). w .0) q, ap (λ (w : Registers). w .1) q)
 
 pub wrap-passes-spec : {M : Type 1} → statement M
 wrap-passes-spec =
     tie.close
-    (tie.spec Inv-loop μ-loop (λ c κs. search needs) loop-holds (λ c κs. search needs) (λ c. search needs)
-    (λ c. search needs) (λ c. search needs) (λ c. search needs) loop-again (λ c. search needs) (λ c. search needs)
-    (λ c κs. search needs) (λ c. search needs) returns)
+    (tie.spec Inv-loop μ-loop loop-holds (λ c κs. search needs) (λ c. search needs) (λ c. search needs)
+    (λ c. search needs) (λ c. search needs) loop-again (λ c. search needs) returns)
