@@ -187,11 +187,21 @@ fn step_at(area: &[u8], at: usize) -> Step
 }
 
 impl<'a> Reader<'a> {
-    // A reader at an offset of the area.
-    fn new(area: &'a [u8], at: usize) -> Self
-        ensures { λ r. ⌜ (r .area ≡ area .entry) × (r .at ≡ at) ⌝ }
+    // A reader at the area's first byte.
+    fn new(area: &'a [u8]) -> Self
+        ensures { λ r. ⌜ (r .area ≡ area .entry) × (r .at ≡ 0) ⌝ }
     {
-        Reader { area, at }
+        Reader { area, at: 0 }
+    }
+
+    // The reader at an offset of its area.
+    fn moved(self, at: usize) -> Self
+        ensures { λ r. ⌜ (r .area ≡ self .entry .area) × (r .at ≡ at) ⌝ }
+    {
+        Reader {
+            area: self.area,
+            at,
+        }
     }
 
     // What stands at the reader's place.
@@ -206,5 +216,5 @@ impl<'a> Reader<'a> {
 pub(crate) fn read_at(area: &[u8], at: usize) -> Step
     ensures { λ r. ⌜ r ≡ stepAt (now (area .entry)) at ⌝ }
 {
-    Reader::new(area, at).next()
+    Reader::new(area).moved(at).next()
 }
