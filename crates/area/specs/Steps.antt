@@ -11,12 +11,12 @@ use Rattle.area.specs.declared.reader.Step.{Step}
 use Rattle.area.specs.declared.reader.Step.the-variants.{End, Past, Met}
 
 -- an attribute that stands at the start of the bytes from an offset on
-unfoldable pub within : ℕ → List ℕ → Attribute → Step
-within at bytes met = cond (inBounds bytes) (Met met (at + inBytes (wordsOf bytes) .0)) Past
+unfoldable pub metWithin : ℕ → List ℕ → Attribute → Step
+metWithin at bytes met = cond (inBounds bytes) (Met met (at + inBytes (wordsOf bytes) .0)) Past
 
 -- the attribute that stands there
 unfoldable pub metAt : ℕ → List ℕ → Step
-metAt at bytes = within at bytes (attribute bytes)
+metAt at bytes = metWithin at bytes (attribute bytes)
 
 -- the same of an area, which ends at its length
 unfoldable pub stepAt : List ℕ → ℕ → Step
