@@ -4,9 +4,9 @@ ghost use mathlib.Core.Path.{_≡_};
 ghost use Prim.Native.Nat.{_+_, _-_, _^_, _≤_, _<_};
 ghost use lib.ListN.{length, take, drop};
 ghost use lib.Dec.{leb};
-ghost use Rattle.area_format.specs.Area.{wordsOf, numberIn, inBytes, inBounds, kdfInput};
+ghost use Rattle.area_format.specs.Area.{wordsOf, numberOf, inBytes, inBounds, kdfInput};
 ghost use Rattle.area_format.specs.Area;
-ghost use Rattle.area.specs.Steps.{metWithin, metAt, stepAt};
+ghost use Rattle.area.specs.Internal.{metWithin, metAt, stepAt};
 use area_format::Attribute;
 use area_format::Bytes;
 use area_format::Fault;
@@ -49,7 +49,7 @@ fn length_in(bytes: &[u8]) -> Words
 // The number in the two bytes after an attribute's length.
 fn number_in(bytes: &[u8]) -> u16
     requires { ⌜ 4 ≤ length (now bytes) ⌝ }
-    ensures { λ r. ⌜ r ≡ numberIn (now (bytes .entry)) ⌝ }
+    ensures { λ r. ⌜ r ≡ numberOf (now (bytes .entry)) ⌝ }
 {
     from_be16(bytes[2], bytes[3])
 }

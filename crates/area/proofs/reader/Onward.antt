@@ -14,7 +14,7 @@ use Rattle.area_format.specs.declared.Attribute.the-variants.{Faulty}
 use Rattle.area_format.specs.declared.Fault.the-variants.{AttributeBounds}
 use Rattle.area.proofs.reader.Attributes.{too-short}
 use Rattle.area.proofs.reader.Bounds.{passed, not-empty, not-past}
-use Rattle.area.specs.Steps.{metWithin, metAt, stepAt}
+use Rattle.area.specs.Internal.{metWithin, metAt, stepAt}
 use Rattle.area.specs.declared.reader.Step.the-variants.{End, Past, Met}
 
 -- a step on to n, past the attribute a, leaves the attributes after it

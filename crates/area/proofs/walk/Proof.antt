@@ -1,14 +1,14 @@
 -- `area::walk` meets its contract. The loop's invariant: reading the area is reading on from the offset, past what was met so far (`ReadTo`); the
 -- measure is what is left of the area. What `gather` made of an attribute says what is left to be read after it.
 use borrow.Author.Needs.{needs}
-use Prim.Native.Nat.{_+_, _-_, _≤_}
+use Prim.Native.Nat.{_-_, _≤_}
 use mathlib.Core.Path.{_≡_, refl, sym, _∙_}
-use mathlib.Core.List.{List, [], _∷_}
+use mathlib.Core.List.{List, []}
 use native.Mathlib.Omega.{arith}
 use denote.Ref.{now}
-use lib.ListN.{length, take, drop}
+use lib.ListN.{length, drop}
 use Rattle.refusal.specs.Checks.{located}
-use Rattle.area_format.specs.Area.{Standing, standing, refusal, readOn, attributes, attributesFrom}
+use Rattle.area_format.specs.Area.{Standing, refusal, readOn, attributes, attributesFrom}
 use Rattle.area_format.specs.declared.Name.the-variants.{Missing}
 use Rattle.area.specs.Internal.{readAfter}
 use Rattle.area.proofs.reader.Onward.{Met-next, next}

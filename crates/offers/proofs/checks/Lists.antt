@@ -1,6 +1,6 @@
 -- Laws of the scans over a list: for each way on in a loop whose invariant says that what is left of the list, from index i on, decides, what the
 -- loop answers or goes on with.
-use Prim.Native.Nat.{ℕ, suc, _+_, _-_, _≤_, _<_}
+use Prim.Native.Nat.{ℕ, _+_, _-_, _≤_, _<_}
 use mathlib.Core.Path.{_≡_, refl, sym, _∙_}
 use mathlib.Core.Bool.{true, false}
 use mathlib.Core.List.{List, [], _∷_}

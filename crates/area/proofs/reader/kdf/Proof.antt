@@ -8,7 +8,7 @@ use Rattle.area_format.specs.declared.Attribute.the-variants.{Faulty}
 use Rattle.area_format.specs.declared.Bytes.{Bytes}
 use Rattle.area_format.specs.declared.Fault.the-variants.{KdfLength}
 use Rattle.area_format.specs.declared.Words.{Words}
-use Rattle.area.specs.Steps.{metWithin}
+use Rattle.area.specs.Internal.{metWithin}
 use Rattle.area.proofs.reader.Attributes.{kdf-read, kdf-refused}
 use Rattle.area.proofs.reader.Bounds.{ends-within}
 use Rattle.area.proofs.reader.Onward.{is-within}
