@@ -5,12 +5,13 @@ use mathlib.Core.List.{List, [], _∷_}
 use lib.ListN.{length, take, drop}
 use lib.Dec.{leb, eqb}
 use Rattle.area_format.specs.declared.Attribute.{Attribute}
+use Rattle.area_format.specs.declared.Name.{Name}
 use Rattle.area_format.specs.declared.Way.{Way}
 use Rattle.area_format.specs.declared.Way.the-variants.{Strict, Lenient}
 use Rattle.area_format.specs.Area.{wordsOf, inBytes, inBounds, attribute, faultAt, Reading, whole, refusal, Standing, readOn}
 use Rattle.area.specs.declared.Gathered.{Gathered}
 use Rattle.area.specs.declared.Gathered.the-variants as gathered
-use Rattle.area.specs.declared.Gathered.the-variants.{More}
+use Rattle.area.specs.declared.Gathered.the-variants.{Offers, Named}
 use Rattle.area.specs.declared.Walked.{Walked}
 use Rattle.area.specs.declared.Walked.the-variants.{Whole, Stopped}
 use Rattle.area.specs.declared.reader.Step.{Step}
@@ -41,13 +42,15 @@ abbrev pub walkedCount : Walked → ℕ
 walkedCount (Whole count at len) = count
 walkedCount (Stopped why at) = 0
 
--- what is left to be read after an attribute
-abbrev pub readAfter : Gathered → ℕ → List ℕ → List Standing → Reading
-readAfter (More count name) at kept later = readOn (take count kept) name later
-readAfter (gathered.Stopped why) at kept later = refusal (faultAt at why)
+-- what is left to be read after an attribute, past the offers and the name met before it
+abbrev pub readAfter : Gathered → (at count : ℕ) → Name → (kept : List ℕ) → List Standing → Reading
+readAfter (Offers more) at count name kept later = readOn (take more kept) name later
+readAfter (Named found) at count name kept later = readOn (take count kept) found later
+readAfter (gathered.Stopped why) at count name kept later = refusal (faultAt at why)
 
 abbrev pub gatheredCount : Gathered → ℕ
-gatheredCount (More count name) = count
+gatheredCount (Offers more) = more
+gatheredCount (Named found) = 0
 gatheredCount (gathered.Stopped why) = 0
 
 -- ---- the name

@@ -32,9 +32,13 @@ enum Walked {
     Stopped { why: Fault, at: usize },
 }
 
-// What an attribute makes of what was met before it: the count of the offers kept and the name, or the fault for which the walk stops.
+// What an attribute makes of what was met before it.
 enum Gathered {
-    More { count: u32, name: Name },
+    // so many offers are kept
+    Offers(u32),
+    // the name is met
+    Named(Name),
+    // the walk stops
     Stopped(Fault),
 }
 
@@ -102,24 +106,23 @@ fn gather(count: u32, name: Name, at: usize, met: Attribute, kept: &mut [u16]) -
     requires { ⌜ 17 ≤ length (now kept) ⌝ }
     requires { ⌜ at + 4 < 2 ^ 64 ⌝ }
     ensures count { λ r. ⌜ gatheredCount r ≤ 17 ⌝ }
-    ensures read { λ r. ⌜ ((later : List Standing) → readOn (take count (now (kept .entry))) name (standing at met ∷ later) ≡ readAfter r at (now (kept .exit)) later) ⌝ }
+    ensures read { λ r. ⌜ ((later : List Standing) → readOn (take count (now (kept .entry))) name (standing at met ∷ later) ≡ readAfter r at count name (now (kept .exit)) later) ⌝ }
 {
     match met {
         Attribute::Faulty(why) => Gathered::Stopped(why),
-        Attribute::Other => Gathered::More { count, name },
+        Attribute::Other => Gathered::Offers(count),
         Attribute::Offer(value) => {
             if count == 17 {
                 return Gathered::Stopped(Fault::OfferCount);
             }
             kept[count as usize] = value;
             let more = count + 1;
-            Gathered::More { count: more, name }
+            Gathered::Offers(more)
         }
         Attribute::Named(len) => match name {
             Name::Missing => {
                 let start = at + 4;
-                let found = Name::Found { at: start, len };
-                Gathered::More { count, name: found }
+                Gathered::Named(Name::Found { at: start, len })
             }
             Name::Found { at: _, len: _ } => Gathered::Stopped(Fault::NetworkName),
         },
@@ -138,18 +141,18 @@ fn walk(area: &[u8], kept: &mut [u16]) -> Walked
     loop {
         match read_at(area, at) {
             Step::End => return ended(count, name, at),
-            Step::Past => {
-                let why = Fault::AttributeBounds;
-                return Walked::Stopped { why, at };
-            }
+            Step::Past => return Walked::Stopped {
+                why: Fault::AttributeBounds,
+                at,
+            },
             Step::Met(met, next) => match gather(count, name, at, met, kept) {
                 Gathered::Stopped(why) => return Walked::Stopped { why, at },
-                Gathered::More {
-                    count: more,
-                    name: known,
-                } => {
+                Gathered::Offers(more) => {
                     count = more;
-                    name = known;
+                    at = next;
+                }
+                Gathered::Named(found) => {
+                    name = found;
                     at = next;
                 }
             },

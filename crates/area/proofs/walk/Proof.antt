@@ -33,8 +33,9 @@ later k = attributesFrom 0 (k .met .given .0 .1 .0) (drop (k .met .given .0 .1 .
 
 -- what is left to be read after what was gathered
 on : (g : tie.After-gather Inv-loop μ-loop)
-    → readOn [] Missing (attributes (now (g .before .before .before .before .before .before .before .before .before .args .area)))
-    ≡ readAfter (g .gather .result) (g .before .before .before .before .before .before .loop .at) (g .gather .last .1 .1 .1 .1 .0) (later (g .before .before .before))
+    → let l = g .before .before .before .before .before .before .loop in
+    readOn [] Missing (attributes (now (g .before .before .before .before .before .before .before .before .before .args .area)))
+    ≡ readAfter (g .gather .result) (l .at) (l .count) (l .name) (g .gather .last .1 .1 .1 .1 .0) (later (g .before .before .before))
 on g =
     let k = g .before .before .before in
     let l = k .before .before .before .loop in
@@ -82,6 +83,15 @@ loop-again c =
     let g = c .before .before .before .before .before in
     (met (g .before .before .before) .within, rw (c .before .more .given .1) at (g .gather .ensures .0), same g, rw (c .before .more .given .1) at (on g))
 
+loop-less-2 : tie.Need-loop-less-2 Inv-loop μ-loop
+loop-less-2 c = let k = c .before .before .before .before .before .before .before .before in omega (arith, met k .ahead, met k .within)
+
+loop-again-2 : tie.Need-loop-again-2 Inv-loop μ-loop
+loop-again-2 c =
+    let g = c .before .before .before .before .before in
+    let k = g .before .before .before in
+    (met k .within, k .before .before .before .loop .inv .1, same g, rw (c .before .found .given .1) at (on g))
+
 same-length : tie.Need-same-length Inv-loop μ-loop
 same-length c = c .before .before .before .before .loop .inv .2
 
@@ -96,4 +106,4 @@ walk-spec =
     tie.close
     (tie.spec Inv-loop μ-loop loop-holds (λ c κs. search needs) (λ c. search needs) (λ c κs. search needs) same-length
     returns (λ c. search needs) same-length-2 returns-2 (λ c. search needs) gather-requires (λ c. search needs) same-length-3
-    returns-3 (λ c. search needs) loop-less loop-again)
+    returns-3 (λ c. search needs) loop-less loop-again (λ c. search needs) loop-less-2 loop-again-2)
