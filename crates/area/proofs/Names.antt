@@ -8,7 +8,8 @@ use borrow.Author.Tests.{eqb-true}
 use lib.ListN.{length, getD}
 use lib.Dec.{ltb, eqb}
 use Rattle.refusal.specs.Checks.{bare}
-use Rattle.area_format.specs.Area.{typeOf, wordsOf, numberOf, inBounds, kdf, zeros, wordsFor, padding, kdfInput, attribute, Standing, standing, attributesFrom, attributes, whole, refusal, ended, readOn}
+use Rattle.area_format.specs.Area.{typeOf, wordsOf, numberOf, inBounds, kdf, zeros, wordsFor, padding, kdfInput}
+use Rattle.area_format.specs.Area.{attribute, Standing, standing, attributesFrom, attributes, whole, refusal, ended, readOn}
 use Rattle.area_format.specs.declared.Attribute.{Attribute}
 use Rattle.area_format.specs.declared.Attribute.the-variants.{Offer, Named, Other, Faulty}
 use Rattle.area_format.specs.declared.Bytes.{Bytes}

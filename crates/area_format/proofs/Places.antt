@@ -12,7 +12,8 @@ use Rattle.area_format.specs.declared.Attribute.the-variants.{Offer, Nam
 use Rattle.area_format.specs.declared.Fault.the-variants.{AttributeBounds, KdfLength, KdfInput, KdfInputPadding, NetworkName, OfferCount}
 use Rattle.area_format.specs.declared.Name.{Name}
 use Rattle.area_format.specs.declared.Name.the-variants.{Missing, Found}
-use Rattle.area_format.specs.Area.{wordsOf, numberOf, typeOf, wordsFor, padding, zeros, inBounds, kdf, kdfInput, attribute, Standing, standing, attributesFrom, attributes, Reading, whole, refusal, readOn, guarded, agrees, judged, walked, reading, refused, areaAnswerTo, areaAnswer}
+use Rattle.area_format.specs.Area.{wordsOf, numberOf, typeOf, wordsFor, padding, zeros, inBounds, kdf, kdfInput, attribute, Standing, standing, attributesFrom}
+use Rattle.area_format.specs.Area.{attributes, Reading, whole, refusal, readOn, guarded, agrees, judged, walked, reading, refused, areaAnswerTo, areaAnswer}
 use Rattle.area_format.specs.declared.Way.{Way}
 use Rattle.area_format.specs.declared.Way.the-variants.{Strict, Lenient}
 use Rattle.area_format.specs.Statements.{BoundsPlace}

@@ -13,7 +13,8 @@ use Rattle.area_format.specs.declared.Fault.the-variants.{AttributeBound
 use Rattle.area_format.specs.declared.Name.{Name}
 use Rattle.area_format.specs.declared.Name.the-variants.{Missing, Found}
 use Rattle.area_format.specs.declared.Way.the-variants.{Strict}
-use Rattle.area_format.specs.Area.{Standing, standing, attributes, Reading, whole, refusal, faultAt, readOn, guarded, agrees, judged, walked, reading, answered, refused, areaAnswerTo, areaAnswer, areaBuffer}
+use Rattle.area_format.specs.Area.{Standing, standing, attributes, Reading, whole, refusal, faultAt, readOn, guarded}
+use Rattle.area_format.specs.Area.{agrees, judged, walked, reading, answered, refused, areaAnswerTo, areaAnswer, areaBuffer}
 use Rattle.area_format.proofs.Ending.{not-ended}
 use Rattle.area_format.specs.Statements.{LenientAsBefore, StrictAgrees, StrictRefuses}
 

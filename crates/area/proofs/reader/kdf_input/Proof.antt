@@ -18,11 +18,12 @@ name : (c : tie.After-number-in) → c .number-in .result ≡ numberOf (now (c .
 name c = c .number-in .ensures
 
 -- where both tests passed, the length is the one that belongs to the name
-agrees : (c : tie.Else2) → wordsOf (now (c .before .before .before .before .before .before .before .args .bytes)) .0 ≡ wordsFor (numberOf (now (c .before .before .before .before .before .before .before .args .bytes)))
+agrees : (c : tie.Else2) → let a = c .before .before .before .before .before .before .before .args in wordsOf (now (a .bytes)) .0 ≡ wordsFor (numberOf (now (a .bytes)))
 agrees c = let k = c .before .before .before in omega (arith, size k, name k)
 
 -- what was looked at is the padding
-padded : (c : tie.After-zeros) → zeros (padding (now (c .before .before .before .before .before .before .before .before .args .bytes)) (numberOf (now (c .before .before .before .before .before .before .before .before .args .bytes)))) ≡ c .zeros .result
+padded : (c : tie.After-zeros)
+    → let a = c .before .before .before .before .before .before .before .before .args in zeros (padding (now (a .bytes)) (numberOf (now (a .bytes)))) ≡ c .zeros .result
 padded c = let k = c .before .before .before .before in rw (← size k, ← name k) (sym (c .zeros .ensures))
 
 returns : tie.Need-returns
