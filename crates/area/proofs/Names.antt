@@ -8,7 +8,8 @@ use borrow.Author.Tests.{eqb-true}
 use lib.ListN.{length, getD}
 use lib.Dec.{ltb, eqb}
 use Rattle.refusal.specs.Checks.{bare}
-use Rattle.area_format.specs.Area.{typeOf, wordsOf, numberIn, inBytes, inBounds, kdf, zeros, wordsFor, padding, kdfInput, attribute, Standing, standing, attributesFrom, attributes, whole, refusal, ended, readOn}
+use Rattle.area_format.specs.Area.{typeOf, wordsOf, numberOf, inBounds, kdf, zeros, wordsFor, padding, kdfInput}
+use Rattle.area_format.specs.Area.{attribute, Standing, standing, attributesFrom, attributes, whole, refusal, ended, readOn}
 use Rattle.area_format.specs.declared.Attribute.{Attribute}
 use Rattle.area_format.specs.declared.Attribute.the-variants.{Offer, Named, Other, Faulty}
 use Rattle.area_format.specs.declared.Bytes.{Bytes}
@@ -21,10 +22,10 @@ use Rattle.area.proofs.reader.Bounds.{not-past}
 named-within : (bytes : List ℕ) (l : Bytes) → 4 * getD bytes 1 0 ≤ length bytes → attribute bytes ≡ Named l → 4 + l .0 ≤ length bytes
 unfolding attribute kdf kdfInput
 named-within bytes l h e =
-    go (eqb (typeOf bytes) 24) (eqb (typeOf bytes) 23) (eqb (wordsOf bytes .0) 1) (eqb (wordsOf bytes .0) (wordsFor (numberIn bytes))) refl (zeros (padding bytes (numberIn bytes))) e
+    go (eqb (typeOf bytes) 24) (eqb (typeOf bytes) 23) (eqb (wordsOf bytes .0) 1) (eqb (wordsOf bytes .0) (wordsFor (numberOf bytes))) refl (zeros (padding bytes (numberOf bytes))) e
   where
-    go : (t₁ t₂ t₃ t₄ : Bool) → eqb (wordsOf bytes .0) (wordsFor (numberIn bytes)) ≡ t₄ → (t₅ : Bool)
-        → cond t₁ (cond t₃ (Offer (numberIn bytes)) (Faulty KdfLength)) (cond t₂ (cond t₄ (cond t₅ (Named (record { 0 = numberIn bytes })) (Faulty KdfInputPadding)) (Faulty KdfInput)) Other) ≡ Named l
+    go : (t₁ t₂ t₃ t₄ : Bool) → eqb (wordsOf bytes .0) (wordsFor (numberOf bytes)) ≡ t₄ → (t₅ : Bool)
+        → cond t₁ (cond t₃ (Offer (numberOf bytes)) (Faulty KdfLength)) (cond t₂ (cond t₄ (cond t₅ (Named (record { 0 = numberOf bytes })) (Faulty KdfInputPadding)) (Faulty KdfInput)) Other) ≡ Named l
         → 4 + l .0 ≤ length bytes
     go true t₂ true t₄ r t₅ e = let z : _≡_ {A = ℕ} 0 1 = cc in omega arith
     go true t₂ false t₄ r t₅ e = let z : _≡_ {A = ℕ} 0 1 = cc in omega arith
@@ -32,9 +33,9 @@ named-within bytes l h e =
     go false true t₃ false r t₅ e = let z : _≡_ {A = ℕ} 0 1 = cc in omega arith
     go false true t₃ true r false e = let z : _≡_ {A = ℕ} 0 1 = cc in omega arith
     go false true t₃ true r true e =
-        let w : wordsOf bytes .0 ≡ wordsFor (numberIn bytes) = eqb-true _ _ r in
-        let q : _≡_ {A = Bytes} (record { 0 = numberIn bytes }) l = cc in
-        let n : numberIn bytes ≡ l .0 = ap (λ (b : Bytes). b .0) q in
+        let w : wordsOf bytes .0 ≡ wordsFor (numberOf bytes) = eqb-true _ _ r in
+        let q : _≡_ {A = Bytes} (record { 0 = numberOf bytes }) l = cc in
+        let n : numberOf bytes ≡ l .0 = ap (λ (b : Bytes). b .0) q in
         omega arith
 
 -- a name that was met stands within so many bytes

@@ -8,7 +8,7 @@ use Rattle.area_format.specs.declared.Attribute.{Attribute}
 use Rattle.area_format.specs.declared.Fault.the-variants.{AttributeBounds}
 use Rattle.area_format.specs.declared.Name.{Name}
 use Rattle.area_format.specs.declared.Name.the-variants.{Missing}
-use Rattle.area.specs.Steps.{stepAt}
+use Rattle.area.specs.Internal.{stepAt}
 use Rattle.area.specs.declared.reader.Step.the-variants.{End, Past, Met}
 use Rattle.area.proofs.reader.Onward.{next, at-end, at-past}
 

@@ -1,4 +1,2 @@
-pub mod Steps
-pub mod NetworkInternal
 pub mod Area
 pub mod Internal

@@ -1,16 +1,16 @@
 // Reads the attribute area that carries the offers (document 01, "Attribute area"; RFC 5448 sections 3.1 and 3.2). The walk goes
 // through the attributes once and keeps the offers aside, so that only an area that is read whole alters the buffer lent for them.
 ghost use mathlib.Core.Path.{_≡_};
-ghost use mathlib.Core.List.{List, []};
-ghost use Prim.Native.Nat.{ℕ, _+_, _≤_};
+ghost use mathlib.Core.List.{List, [], _∷_};
+ghost use Prim.Native.Nat.{ℕ, _+_, _^_, _≤_, _<_};
 ghost use lib.ListN.{length, take, drop};
 ghost use Rattle.refusal.specs.Answers.{reasonOf};
-ghost use Rattle.area_format.specs.Area.{faultAt, readOn, attributes, areaAnswer, areaBuffer};
+ghost use Rattle.area_format.specs.Area.{Standing, standing, faultAt, readOn, attributes, areaAnswer, areaBuffer};
 ghost use Rattle.area_format.specs.Area;
 ghost use Rattle.area_format.specs.declared.Name.the-variants.{Missing};
 ghost use Rattle.area_format.specs.Names.{sameFields};
 ghost use Rattle.area.specs.Area.{areaAnswerOf};
-ghost use Rattle.area.specs.Internal.{walkedCount, walkedAs, allowed};
+ghost use Rattle.area.specs.Internal.{walkedCount, walkedAs, gatheredCount, readAfter, allowed};
 
 mod network; // network names compared by their fields
 mod reader; // the attributes of an area, read one at a time
@@ -30,6 +30,16 @@ use slices::copy_values;
 enum Walked {
     Whole { count: usize, at: usize, len: Bytes },
     Stopped { why: Fault, at: usize },
+}
+
+// What an attribute makes of what was met before it.
+enum Gathered {
+    // so many offers are kept
+    Offers(u32),
+    // the name is met
+    Named(Name),
+    // the walk stops
+    Stopped(Fault),
 }
 
 // What an area that is read whole holds: the count of its offers, the name's offset from the area's first byte, its length in bytes,
@@ -89,8 +99,37 @@ fn ended(count: u32, name: Name, at: usize) -> Walked
     }
 }
 
-// The walk through the attributes of the area, left to right. The offers are kept in `kept`: their count and the name are what was met so far. An
-// offer is kept, unless it is the eighteenth, and a name, unless it is the second.
+// What the walk has gathered after an attribute: an offer is kept at the end of those in `kept`, unless it is the eighteenth; a name is the area's, unless it is
+// the second.
+fn gather(count: u32, name: Name, at: usize, met: Attribute, kept: &mut [u16]) -> Gathered
+    requires { ⌜ count ≤ 17 ⌝ }
+    requires { ⌜ 17 ≤ length (now kept) ⌝ }
+    requires { ⌜ at + 4 < 2 ^ 64 ⌝ }
+    ensures count { λ r. ⌜ gatheredCount r ≤ 17 ⌝ }
+    ensures read { λ r. ⌜ ((later : List Standing) → readOn (take count (now (kept .entry))) name (standing at met ∷ later) ≡ readAfter r at count name (now (kept .exit)) later) ⌝ }
+{
+    match met {
+        Attribute::Faulty(why) => Gathered::Stopped(why),
+        Attribute::Other => Gathered::Offers(count),
+        Attribute::Offer(value) => {
+            if count == 17 {
+                return Gathered::Stopped(Fault::OfferCount);
+            }
+            kept[count as usize] = value;
+            let more = count + 1;
+            Gathered::Offers(more)
+        }
+        Attribute::Named(len) => match name {
+            Name::Missing => {
+                let start = at + 4;
+                Gathered::Named(Name::Found { at: start, len })
+            }
+            Name::Found { at: _, len: _ } => Gathered::Stopped(Fault::NetworkName),
+        },
+    }
+}
+
+// The walk through the attributes of the area, left to right. The offers are kept in `kept`: their count and the name are what was met so far.
 fn walk(area: &[u8], kept: &mut [u16]) -> Walked
     requires { ⌜ 17 ≤ length (now kept) ⌝ }
     ensures count { λ r. ⌜ walkedCount r ≤ 17 ⌝ }
@@ -102,39 +141,20 @@ fn walk(area: &[u8], kept: &mut [u16]) -> Walked
     loop {
         match read_at(area, at) {
             Step::End => return ended(count, name, at),
-            Step::Past => {
-                let why = Fault::AttributeBounds;
-                return Walked::Stopped { why, at };
-            }
-            Step::Met(met, next) => match met {
-                Attribute::Faulty(why) => return Walked::Stopped { why, at },
-                Attribute::Other => {
+            Step::Past => return Walked::Stopped {
+                why: Fault::AttributeBounds,
+                at,
+            },
+            Step::Met(met, next) => match gather(count, name, at, met, kept) {
+                Gathered::Stopped(why) => return Walked::Stopped { why, at },
+                Gathered::Offers(more) => {
+                    count = more;
                     at = next;
                 }
-                Attribute::Offer(value) => {
-                    if count == 17 {
-                        return Walked::Stopped {
-                            why: Fault::OfferCount,
-                            at,
-                        };
-                    }
-                    kept[count as usize] = value;
-                    count += 1;
+                Gathered::Named(found) => {
+                    name = found;
                     at = next;
                 }
-                Attribute::Named(len) => match name {
-                    Name::Missing => {
-                        let start = at + 4;
-                        name = Name::Found { at: start, len };
-                        at = next;
-                    }
-                    Name::Found { at: _, len: _ } => {
-                        return Walked::Stopped {
-                            why: Fault::NetworkName,
-                            at,
-                        };
-                    }
-                },
             },
         }
     }

@@ -5,7 +5,7 @@ ghost use Prim.Native.Nat.{_≤_};
 ghost use lib.ListN.{length, take, drop};
 ghost use Rattle.slices.specs.Same.{sameList};
 ghost use Rattle.area_format.specs.Names.{sameFields};
-ghost use Rattle.area.specs.NetworkInternal.{ends};
+ghost use Rattle.area.specs.Internal.{ends};
 use slices::least;
 use slices::same_bytes;
 

@@ -4,9 +4,9 @@ ghost use mathlib.Core.Path.{_≡_};
 ghost use Prim.Native.Nat.{_+_, _-_, _^_, _≤_, _<_};
 ghost use lib.ListN.{length, take, drop};
 ghost use lib.Dec.{leb};
-ghost use Rattle.area_format.specs.Area.{wordsOf, numberIn, inBytes, inBounds, kdfInput};
+ghost use Rattle.area_format.specs.Area.{wordsOf, numberOf, inBytes, inBounds, kdfInput};
 ghost use Rattle.area_format.specs.Area;
-ghost use Rattle.area.specs.Steps.{within, metAt, stepAt};
+ghost use Rattle.area.specs.Internal.{metWithin, metAt, stepAt};
 use area_format::Attribute;
 use area_format::Bytes;
 use area_format::Fault;
@@ -19,25 +19,28 @@ struct Reader<'a> {
     at: usize,
 }
 
-// What stands at a reader's place: the area's end, an attribute that goes past it, or an attribute and the offset after it.
+// What stands at a reader's place.
 pub enum Step {
+    // the area's end
     End,
+    // an attribute that is not within the area: it has no length byte, is of length 0, or goes past the end
     Past,
+    // an attribute, and the offset after it
     Met(Attribute, usize),
 }
 
 // The one conversion between the two counts.
-fn in_bytes(length: Words) -> Bytes
-    requires { ⌜ length .0 ≤ 255 ⌝ }
-    ensures { λ r. ⌜ r ≡ inBytes length ⌝ }
+fn in_bytes(words: Words) -> Bytes
+    requires { ⌜ words .0 ≤ 255 ⌝ }
+    ensures { λ r. ⌜ r ≡ inBytes words ⌝ }
 {
-    Bytes(4 * length.0)
+    Bytes(4 * words.0)
 }
 
 // The length of the attribute at the start of `bytes`.
 fn length_in(bytes: &[u8]) -> Words
     requires { ⌜ 2 ≤ length (now bytes) ⌝ }
-    ensures length { λ r. ⌜ r ≡ wordsOf (now (bytes .entry)) ⌝ }
+    ensures words { λ r. ⌜ r ≡ wordsOf (now (bytes .entry)) ⌝ }
     ensures small { λ r. ⌜ r .0 ≤ 255 ⌝ }
 {
     Words(bytes[1] as usize)
@@ -46,7 +49,7 @@ fn length_in(bytes: &[u8]) -> Words
 // The number in the two bytes after an attribute's length.
 fn number_in(bytes: &[u8]) -> u16
     requires { ⌜ 4 ≤ length (now bytes) ⌝ }
-    ensures { λ r. ⌜ r ≡ numberIn (now (bytes .entry)) ⌝ }
+    ensures { λ r. ⌜ r ≡ numberOf (now (bytes .entry)) ⌝ }
 {
     from_be16(bytes[2], bytes[3])
 }
@@ -102,11 +105,11 @@ fn kdf_input(bytes: &[u8]) -> Attribute
     }
 }
 
-// What stands at an offset of the area where `bytes` are those from there to its end and have this attribute at their start.
-fn past(bytes: &[u8], at: usize, met: Attribute) -> Step
+// The step at an attribute: it is met where it ends within the area. `bytes` are the area's from the attribute's offset on.
+fn met_within(bytes: &[u8], at: usize, met: Attribute) -> Step
     requires { ⌜ 4 ≤ length (now bytes) ⌝ }
     requires { ⌜ at + length (now bytes) < 2 ^ 64 ⌝ }
-    ensures { λ r. ⌜ r ≡ within at (now (bytes .entry)) met ⌝ }
+    ensures { λ r. ⌜ r ≡ metWithin at (now (bytes .entry)) met ⌝ }
 {
     let words = length_in(bytes);
     if words.0 == 0 {
@@ -120,26 +123,26 @@ fn past(bytes: &[u8], at: usize, met: Attribute) -> Step
     Step::Met(met, next)
 }
 
-// The same of an AT_KDF. One of one word takes the four bytes that are there.
+// The step at an AT_KDF. One of one word takes the four bytes that are there.
 fn kdf(bytes: &[u8], at: usize) -> Step
     requires { ⌜ 4 ≤ length (now bytes) ⌝ }
     requires { ⌜ at + length (now bytes) < 2 ^ 64 ⌝ }
-    ensures { λ r. ⌜ r ≡ within at (now (bytes .entry)) (Area.kdf (now (bytes .entry))) ⌝ }
+    ensures { λ r. ⌜ r ≡ metWithin at (now (bytes .entry)) (Area.kdf (now (bytes .entry))) ⌝ }
 {
     let words = length_in(bytes);
     if words.0 == 1 {
         let next = at + in_bytes(words).0;
         Step::Met(Attribute::Offer(number_in(bytes)), next)
     } else {
-        past(bytes, at, Attribute::Faulty(Fault::KdfLength))
+        met_within(bytes, at, Attribute::Faulty(Fault::KdfLength))
     }
 }
 
-// The same of an AT_KDF_INPUT.
+// The step at an AT_KDF_INPUT.
 fn named(bytes: &[u8], at: usize) -> Step
     requires { ⌜ 4 ≤ length (now bytes) ⌝ }
     requires { ⌜ at + length (now bytes) < 2 ^ 64 ⌝ }
-    ensures { λ r. ⌜ r ≡ within at (now (bytes .entry)) (kdfInput (now (bytes .entry))) ⌝ }
+    ensures { λ r. ⌜ r ≡ metWithin at (now (bytes .entry)) (kdfInput (now (bytes .entry))) ⌝ }
 {
     if in_bounds(bytes) {
         let next = at + in_bytes(length_in(bytes)).0;
@@ -149,7 +152,7 @@ fn named(bytes: &[u8], at: usize) -> Step
     }
 }
 
-// What stands at an offset of the area where `bytes` are those from there to its end, by the type.
+// The step at an attribute, by its type.
 fn met(bytes: &[u8], at: usize) -> Step
     requires { ⌜ 4 ≤ length (now bytes) ⌝ }
     requires { ⌜ at + length (now bytes) < 2 ^ 64 ⌝ }
@@ -158,7 +161,7 @@ fn met(bytes: &[u8], at: usize) -> Step
     match bytes[0] {
         24 => kdf(bytes, at),
         23 => named(bytes, at),
-        _ => past(bytes, at, Attribute::Other),
+        _ => met_within(bytes, at, Attribute::Other),
     }
 }
 
@@ -187,11 +190,21 @@ fn step_at(area: &[u8], at: usize) -> Step
 }
 
 impl<'a> Reader<'a> {
-    // A reader at an offset of the area.
-    fn new(area: &'a [u8], at: usize) -> Self
-        ensures { λ r. ⌜ (r .area ≡ area .entry) × (r .at ≡ at) ⌝ }
+    // A reader at the area's first byte.
+    fn new(area: &'a [u8]) -> Self
+        ensures { λ r. ⌜ (r .area ≡ area .entry) × (r .at ≡ 0) ⌝ }
     {
-        Reader { area, at }
+        Reader { area, at: 0 }
+    }
+
+    // The reader at an offset of its area.
+    fn moved(self, at: usize) -> Self
+        ensures { λ r. ⌜ (r .area ≡ self .entry .area) × (r .at ≡ at) ⌝ }
+    {
+        Reader {
+            area: self.area,
+            at,
+        }
     }
 
     // What stands at the reader's place.
@@ -206,5 +219,5 @@ impl<'a> Reader<'a> {
 pub(crate) fn read_at(area: &[u8], at: usize) -> Step
     ensures { λ r. ⌜ r ≡ stepAt (now (area .entry)) at ⌝ }
 {
-    Reader::new(area, at).next()
+    Reader::new(area).moved(at).next()
 }

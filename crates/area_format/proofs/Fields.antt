@@ -1,13 +1,12 @@
 -- Two names agree by their fields exactly if they are equal, or one is the other with a colon and more after it. `frontAgrees` compares byte by byte.
-use Prim.Native.Nat.{ℕ, zero, suc, _≤_}
+use Prim.Native.Nat.{ℕ}
 use mathlib.Core.Path.{_≡_, refl, sym, ap, ap₂, _∙_}
-use mathlib.Core.Bool.{Bool, true, false, cond, _&&_}
-use mathlib.Core.Logic.{_↔_, _⊎_, inl, inr, ⊎-elim}
+use mathlib.Core.Bool.{Bool, true, false, cond, _&&_, and-assoc}
+use mathlib.Core.Logic.{_⊎_, inl, inr, ⊎-elim}
 use mathlib.Core.List.{List, [], _∷_, _++_}
 use native.Mathlib.Omega.{arith}
 use borrow.Author.Tests.{eqb-true, eqb-false, eq-eqb, ne-eqb}
 use lib.Dec.{eqb}
-use lib.ListN.{length, take, drop}
 use Rattle.slices.specs.Same.{sameList}
 use Rattle.slices.proofs.Truth.{and-left, and-right}
 use Rattle.area_format.specs.Names.{onto, fields, pairsAgree, sameFields}
@@ -19,10 +18,6 @@ frontAgrees [] [] = true
 frontAgrees [] (y ∷ t) = eqb y 58
 frontAgrees (x ∷ s) [] = eqb x 58
 frontAgrees (x ∷ s) (y ∷ t) = eqb x y && frontAgrees s t
-
-and-assoc : (p q r : Bool) → ((p && q) && r) ≡ (p && (q && r))
-and-assoc true q r = refl
-and-assoc false q r = refl
 
 -- a name has a first field
 first : (s : List ℕ) → (f : List ℕ) × (fs : List (List ℕ)) × (fields s ≡ f ∷ fs)
@@ -148,31 +143,3 @@ prefix-rule a b = (λ e. front-rule a b (sym (by-front a b) ∙ e), back)
     back (inl e) = by-front a b ∙ rw e (front-self b)
     back (inr (inl f)) = by-front a b ∙ rw (f .1) (front-longer a (f .0))
     back (inr (inr f)) = by-front a b ∙ front-symmetric a b ∙ rw (f .1) (front-longer b (f .0))
-
--- whether a field ends there: at the end, or at a colon
-abbrev pub ends : List ℕ → Bool
-ends [] = true
-ends (x ∷ s) = eqb x 58
-
--- of the longer only as many bytes are compared as the shorter has
-pub shorter : (a b : List ℕ) → length a ≤ length b → sameFields a b ≡ (ends (drop (length a) b) && sameList a (take (length a) b))
-unfolding sameList frontAgrees
-shorter a b h = by-front a b ∙ go a b h
-  where
-    swap : (p q r : Bool) → (p && (q && r)) ≡ (q && (p && r))
-    swap true true r = refl
-    swap true false r = refl
-    swap false true r = refl
-    swap false false r = refl
-
-    end : (p : Bool) → p ≡ (p && true)
-    end true = refl
-    end false = refl
-
-    go : (a b : List ℕ) → length a ≤ length b → frontAgrees a b ≡ (ends (drop (length a) b) && sameList a (take (length a) b))
-    go [] [] h = refl
-    go [] (y ∷ t) h = end (eqb y 58)
-    go (x ∷ s) [] h = let none : ⊥ = omega arith in elim none [ ]
-    go (x ∷ s) (y ∷ t) h =
-        let l : length s ≤ length t = omega arith in
-        ap (λ (r : Bool). eqb x y && r) (go s t l) ∙ swap (eqb x y) (ends (drop (length s) t)) (sameList s (take (length s) t))

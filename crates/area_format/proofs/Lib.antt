@@ -1,4 +1,5 @@
 pub mod Cases
+mod Ending
 pub mod Fields
 pub mod Places
 pub mod Ways

@@ -6,16 +6,18 @@ use mathlib.Core.List.{List, [], _∷_, _++_}
 use native.Mathlib.Omega.{arith}
 use lib.Dec.{leb, ltb, eqb}
 use lib.ListN.{length, getD, drop}
-use Rattle.refusal.specs.Checks.{Reason, bare, located, unless}
+use Rattle.refusal.specs.Checks.{bare, located, unless}
 use Rattle.area_format.specs.declared.Attribute.{Attribute}
 use Rattle.area_format.specs.declared.Attribute.the-variants.{Offer, Named, Other, Faulty}
 use Rattle.area_format.specs.declared.Fault.the-variants.{AttributeBounds, KdfLength, KdfInput, KdfInputPadding, NetworkName, OfferCount}
 use Rattle.area_format.specs.declared.Name.{Name}
 use Rattle.area_format.specs.declared.Name.the-variants.{Missing, Found}
-use Rattle.area_format.specs.Area.{wordsOf, numberIn, typeOf, wordsFor, padding, zeros, inBounds, kdf, kdfInput, attribute, Standing, standing, attributesFrom, attributes, Reading, whole, refusal, ended, readOn, guarded, agrees, judged, walked, reading, refused, answerTo, areaAnswer}
+use Rattle.area_format.specs.Area.{wordsOf, numberOf, typeOf, wordsFor, padding, zeros, inBounds, kdf, kdfInput, attribute, Standing, standing, attributesFrom}
+use Rattle.area_format.specs.Area.{attributes, Reading, whole, refusal, readOn, guarded, agrees, judged, walked, reading, refused, areaAnswerTo, areaAnswer}
 use Rattle.area_format.specs.declared.Way.{Way}
 use Rattle.area_format.specs.declared.Way.the-variants.{Strict, Lenient}
 use Rattle.area_format.specs.Statements.{BoundsPlace}
+use Rattle.area_format.proofs.Ending.{not-ended}
 
 -- one of two that are not so is not so
 cond-not : {a b c : Attribute} (t : Bool) → (a ≡ c → ⊥) → (b ≡ c → ⊥) → cond t a b ≡ c → ⊥
@@ -29,8 +31,8 @@ never bytes =
     cond-not (eqb (typeOf bytes) 24)
     (cond-not (eqb (wordsOf bytes .0) 1) (λ e. let z : _≡_ {A = ℕ} 0 1 = cc in omega arith) (λ e. let z : _≡_ {A = ℕ} 0 1 = cc in omega arith))
     (cond-not (eqb (typeOf bytes) 23)
-    (cond-not (eqb (wordsOf bytes .0) (wordsFor (numberIn bytes)))
-    (cond-not (zeros (padding bytes (numberIn bytes))) (λ e. let z : _≡_ {A = ℕ} 0 1 = cc in omega arith) (λ e. let z : _≡_ {A = ℕ} 0 1 = cc in omega arith))
+    (cond-not (eqb (wordsOf bytes .0) (wordsFor (numberOf bytes)))
+    (cond-not (zeros (padding bytes (numberOf bytes))) (λ e. let z : _≡_ {A = ℕ} 0 1 = cc in omega arith) (λ e. let z : _≡_ {A = ℕ} 0 1 = cc in omega arith))
     (λ e. let z : _≡_ {A = ℕ} 0 1 = cc in omega arith))
     (λ e. let z : _≡_ {A = ℕ} 0 1 = cc in omega arith))
 
@@ -53,15 +55,6 @@ later-16 at (Offer v) later offers name {i} not e = go (ltb (length offers) 17) 
 later-16 at (Named len) later offers Missing not e = (offers, Found (at + 4) len, e)
 later-16 at (Named len) later offers (Found i₁ n₁) not e = let z : _≡_ {A = ℕ} 0 1 = cc in let none : ⊥ = omega arith in elim none [ ]
 
--- at the end it is not met
-not-ended : (offers : List ℕ) (name : Name) {i : ℕ} → ended offers name ≡ refusal (located 16 i) → ⊥
-not-ended offers Missing e = let z : _≡_ {A = ℕ} 0 1 = cc in omega arith
-not-ended offers (Found at len) {i} e = go (eqb (length offers) 0) e
-  where
-    go : (t : Bool) → cond t (refusal (bare 10)) (whole offers at (len .0)) ≡ refusal (located 16 i) → ⊥
-    go true e = let z : _≡_ {A = ℕ} 0 1 = cc in omega arith
-    go false e = let z : _≡_ {A = ℕ} 0 1 = cc in omega arith
-
 -- the bytes that stand at an offset, and their attributes, of which the last is outside the area, at the offset i
 record Outside (at i : ℕ) (bytes : List ℕ) (all : List Standing) : Type 0 where
   past : ℕ
@@ -73,7 +66,8 @@ record Outside (at i : ℕ) (bytes : List ℕ) (all : List Standing) : Type 0 wh
 
 met-16 : (left at : ℕ) (bytes offers : List ℕ) (name : Name) {i : ℕ} → readOn offers name (attributesFrom left at bytes) ≡ refusal (located 16 i) → Outside at i bytes (attributesFrom left at bytes)
 unfolding attributesFrom readOn
-met-16 left at [] offers name e = elim (not-ended offers name e) [ ]
+met-16 left at [] offers name e =
+    elim (not-ended offers name (λ f. let z : _≡_ {A = ℕ} 19 16 = cc in omega arith) (λ f. let z : _≡_ {A = ℕ} 10 16 = cc in omega arith) e) [ ]
 met-16 (suc left) at (x ∷ rest) offers name {i} e =
     let o = met-16 left (suc at) rest offers name e in
     let p : i ≡ suc at + o .past = o .place in
@@ -100,11 +94,11 @@ read-16 : (way : Way) (area own : List ℕ) (room i : ℕ) → areaAnswer way ar
 unfolding areaAnswer reading walked unless
 read-16 way area own room i e = go (leb 17 room) (readOn [] Missing (attributes area)) way e
   where
-    judge : (t : Bool) (offers : List ℕ) (at len : ℕ) → answerTo area own (cond t (whole offers at len) (refusal (bare 30))) ≡ refused (located 16 i) → ⊥
+    judge : (t : Bool) (offers : List ℕ) (at len : ℕ) → areaAnswerTo area own (cond t (whole offers at len) (refusal (bare 30))) ≡ refused (located 16 i) → ⊥
     judge true offers at len e = let z : _≡_ {A = ℕ} 0 1 = cc in omega arith
     judge false offers at len e = let z : _≡_ {A = ℕ} 0 1 = cc in omega arith
 
-    go : (t : Bool) (r : Reading) (way : Way) → answerTo area own (judged way area own (guarded (unless t (bare 6)) r)) ≡ refused (located 16 i) → r ≡ refusal (located 16 i)
+    go : (t : Bool) (r : Reading) (way : Way) → areaAnswerTo area own (judged way area own (guarded (unless t (bare 6)) r)) ≡ refused (located 16 i) → r ≡ refusal (located 16 i)
     go true (whole offers at len) Lenient e = let z : _≡_ {A = ℕ} 0 1 = cc in let none : ⊥ = omega arith in elim none [ ]
     go true (whole offers at len) Strict e = elim (judge (agrees area own at len) offers at len e) [ ]
     go true (refusal x) Lenient e = cc

@@ -27,8 +27,8 @@ typeOf bytes = getD bytes 0 0
 abbrev pub wordsOf : List ℕ → Words
 wordsOf bytes = record { 0 = getD bytes 1 0 }
 
-abbrev pub numberIn : List ℕ → ℕ
-numberIn bytes = be16At bytes 2
+abbrev pub numberOf : List ℕ → ℕ
+numberOf bytes = be16At bytes 2
 
 -- the bytes that so many words take
 abbrev pub inBytes : Words → Bytes
@@ -40,7 +40,7 @@ inBounds bytes = leb 2 (length bytes) && (leb 1 (wordsOf bytes .0) && leb (inByt
 
 -- AT_KDF: type, 1, value in two bytes (17: its length is not 1)
 unfoldable pub kdf : List ℕ → Attribute
-kdf bytes = cond (eqb (wordsOf bytes .0) 1) (Offer (numberIn bytes)) (Faulty KdfLength)
+kdf bytes = cond (eqb (wordsOf bytes .0) 1) (Offer (numberOf bytes)) (Faulty KdfLength)
 
 -- whether all are zero
 unfoldable pub zeros : List ℕ → Bool
@@ -59,8 +59,8 @@ padding bytes n = take (inBytes (wordsOf bytes) .0 - (4 + n)) (drop (4 + n) byte
 -- 29: its padding is not zero)
 unfoldable pub kdfInput : List ℕ → Attribute
 kdfInput bytes =
-    cond (eqb (wordsOf bytes .0) (wordsFor (numberIn bytes)))
-    (cond (zeros (padding bytes (numberIn bytes))) (Named (record { 0 = numberIn bytes })) (Faulty KdfInputPadding))
+    cond (eqb (wordsOf bytes .0) (wordsFor (numberOf bytes)))
+    (cond (zeros (padding bytes (numberOf bytes))) (Named (record { 0 = numberOf bytes })) (Faulty KdfInputPadding))
     (Faulty KdfInput)
 
 -- an attribute by its type: AT_KDF is 24, AT_KDF_INPUT 23, and others are stepped over
@@ -143,17 +143,17 @@ pub data AreaAnswer : Type 0 where
   refused : Reason → AreaAnswer
 
 -- what the call answers to a reading, the peer's own name being lent
-abbrev pub answerTo : List ℕ → List ℕ → Reading → AreaAnswer
-answerTo area own (whole offers at len) = answered (length offers) at len (agrees area own at len)
-answerTo area own (refusal x) = refused x
+abbrev pub areaAnswerTo : List ℕ → List ℕ → Reading → AreaAnswer
+areaAnswerTo area own (whole offers at len) = answered (length offers) at len (agrees area own at len)
+areaAnswerTo area own (refusal x) = refused x
 
 -- the buffer after a reading: the offers, and after them what stood there; on a refusal all that stood there
-abbrev pub bufferTo : Reading → List ℕ → List ℕ
-bufferTo (whole offers at len) out = offers ++ drop (length offers) out
-bufferTo (refusal x) out = out
+abbrev pub areaBufferTo : Reading → List ℕ → List ℕ
+areaBufferTo (whole offers at len) out = offers ++ drop (length offers) out
+areaBufferTo (refusal x) out = out
 
 unfoldable pub areaAnswer : Way → List ℕ → List ℕ → ℕ → AreaAnswer
-areaAnswer way area own room = answerTo area own (reading way area own room)
+areaAnswer way area own room = areaAnswerTo area own (reading way area own room)
 
 unfoldable pub areaBuffer : Way → List ℕ → List ℕ → List ℕ → List ℕ
-areaBuffer way area own out = bufferTo (reading way area own (length out)) out
+areaBuffer way area own out = areaBufferTo (reading way area own (length out)) out

@@ -1,7 +1,7 @@
 -- Network names and their fields (RFC 5448, section 3.1; document 02, request 4). RFC 5448: the names are split at colons, the extra fields of the
 -- longer are dropped, and the rest is compared for equality.
 use Prim.Native.Nat.{ℕ}
-use mathlib.Core.Bool.{Bool, true, false, cond, _&&_}
+use mathlib.Core.Bool.{Bool, true, cond, _&&_}
 use mathlib.Core.List.{List, [], _∷_}
 use lib.Dec.{eqb}
 use Rattle.slices.specs.Same.{sameList}

@@ -11,7 +11,7 @@ use Rattle.area_format.specs.declared.Fault.the-variants.{AttributeBound
 use Rattle.area_format.specs.declared.Way.{Way}
 use Rattle.area_format.specs.declared.Way.the-variants.{Strict, Lenient}
 use Rattle.area_format.specs.Names.{sameFields}
-use Rattle.area_format.specs.Area.{inBounds, Standing, standing, attributes, walked, answered, refused, answerTo, bufferTo, areaAnswer, areaBuffer}
+use Rattle.area_format.specs.Area.{inBounds, Standing, standing, attributes, walked, answered, refused, areaAnswerTo, areaBufferTo, areaAnswer, areaBuffer}
 
 -- Document 02, request 1. An area that is refused by 16 at an offset, in whichever way it is read: the offset is within the area, the last of its attributes begins there, and that
 -- attribute is not within the area.
@@ -38,8 +38,8 @@ FieldsSymmetric = (a b : List ℕ) → sameFields a b ≡ sameFields b a
 abbrev pub LenientAsBefore : Type 0
 LenientAsBefore =
     (area own out : List ℕ) (room : ℕ)
-    → (areaAnswer Lenient area own room ≡ answerTo area own (walked area room))
-    × (areaBuffer Lenient area own out ≡ bufferTo (walked area (length out)) out)
+    → (areaAnswer Lenient area own room ≡ areaAnswerTo area own (walked area room))
+    × (areaBuffer Lenient area own out ≡ areaBufferTo (walked area (length out)) out)
 
 -- what the strict way accepts has a name that agrees
 abbrev pub StrictAgrees : Type 0

@@ -1,7 +1,7 @@
 // The exported functions: the attribute area.
 ghost use mathlib.Core.Path.{_≡_};
 ghost use lib.ListN.{length};
-ghost use Rattle.area.specs.Area.{areaAnswer, areaBuffer};
+ghost use Rattle.area_format.specs.Area.{areaAnswer, areaBuffer};
 ghost use Rattle.area_format.specs.declared.Way.the-variants.{Strict, Lenient};
 ghost use Rattle.outcome.specs.Areas.{areaOutcome};
 use area_format::Way;

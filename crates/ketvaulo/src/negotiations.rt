@@ -1,7 +1,7 @@
 // The exported functions: AT_KDF offers.
 ghost use mathlib.Core.Path.{_≡_};
 ghost use Rattle.outcome.specs.Outcomes.{outcomeOf};
-ghost use Rattle.offers.specs.Answers.{firstRound, serverAnswer, serverBuffer, renewedAnswer};
+ghost use Rattle.offer_rules.specs.Answers.{firstRound, serverAnswer, serverBuffer, renewedAnswer};
 ghost use Rattle.outcome.specs.Negotiations.{firstRoundOutcome, renewedOutcome};
 use outcome::Outcome;
 use outcome::negotiations::FirstRoundOutcome;

@@ -5,7 +5,7 @@ use mathlib.Core.List.{List}
 use native.Mathlib.Omega.{arith}
 use borrow.Author.Tests.{leb-true}
 use lib.ListN.{length, getD}
-use Rattle.refusal.specs.Checks.{Reason, Check, pass, refuse, _andThen_}
+use Rattle.refusal.specs.Checks.{Reason, pass, refuse, _andThen_}
 use Rattle.refusal.specs.Answers.{returned}
 use Rattle.refusal.proofs.Passing.{first-refuses, second-decides, last-passed, test-passed}
 use Rattle.offer_rules.specs.Rfc5448.{firstSupported, check10, check11, check12, chooseCheck, answerCheck}

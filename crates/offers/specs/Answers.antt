@@ -1,7 +1,6 @@
--- What the answers of the calls stand for, and the definitions that their contracts speak of, passed on from `offer_rules`.
+-- What the answers of the peer's calls stand for (offer_rules/specs/Answers.antt).
 use Rattle.refusal.specs.Answers.{reasonOf}
-unfoldable pub use Rattle.offer_rules.specs.Answers.{firstRound, serverAnswer, serverBuffer, renewedAnswer}
-pub use Rattle.offer_rules.specs.Answers.{FirstAnswer, carryOn, ask, RenewedAnswer, accepted}
+use Rattle.offer_rules.specs.Answers.{FirstAnswer, carryOn, ask, RenewedAnswer, accepted}
 use Rattle.offers.specs.declared.peer.FirstRound.{FirstRound}
 use Rattle.offers.specs.declared.peer.FirstRound.the-variants as first
 use Rattle.offers.specs.declared.peer.Renewed.{Renewed}

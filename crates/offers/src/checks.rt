@@ -1,7 +1,8 @@
 // The tests that several calls on offers make: 10, 11, 13 and 14 (RFC 5448 section 3.2; document 01, "Offers"). A list of offers is in the server's order of preference.
-// Lists of any length may be lent, and none is copied. The test for repeated values takes time that grows with the square of the list, so it is made
-// only on a list that 10 passes.
+// Lists of any length may be lent, and none is copied. Every test after 10 goes through the list, so it is made only on a list that 10 passes.
 ghost use mathlib.Core.Path.{_≡_};
+ghost use Prim.Native.Nat.{_≤_};
+ghost use lib.ListN.{length};
 ghost use Rattle.refusal.specs.Checks.{_andThen_};
 ghost use Rattle.refusal.specs.Answers.{checkedAs};
 ghost use Rattle.offer_rules.specs.Rfc5448.{stands, repeats, isFirst, check10, check11, check13, check14};
@@ -42,11 +43,9 @@ fn repeated(list: &[u16]) -> bool
 
 // Whether the value is the first of the list.
 fn is_first(value: u16, list: &[u16]) -> bool
+    requires { ⌜ 1 ≤ length (now list) ⌝ }
     ensures { λ r. ⌜ r ≡ isFirst value (now (list .entry)) ⌝ }
 {
-    if list.len() == 0 {
-        return false;
-    }
     list[0] == value
 }
 
@@ -64,10 +63,11 @@ pub(crate) fn check_offers(offers: &[u16]) -> Checked
 pub(crate) fn check_reply(offers: &[u16], reply: u16) -> Checked
     ensures { λ r. ⌜ checkedAs r ≡ (check10 (now (offers .entry)) andThen check11 (now (offers .entry)) andThen check13 (now (offers .entry)) reply andThen check14 (now (offers .entry)) reply) ⌝ }
 {
-    let c11 = check_offers(offers);
-    let c13 = then_check(c11, unless(!is_first(reply, offers), Refusal::ReplyIsFirst));
-    then_check(
-        c13,
-        unless(contains(offers, reply), Refusal::ReplyNotOffered),
-    )
+    match check_offers(offers) {
+        Checked::Failed(why) => Checked::Failed(why),
+        Checked::Passed => then_check(
+            unless(!is_first(reply, offers), Refusal::ReplyIsFirst),
+            unless(contains(offers, reply), Refusal::ReplyNotOffered),
+        ),
+    }
 }

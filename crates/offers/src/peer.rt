@@ -14,8 +14,6 @@ use crate::checks::check_reply;
 use crate::checks::contains;
 use refusal::Checked;
 use refusal::Refusal;
-use refusal::then_check;
-use refusal::unless;
 use slices::same_values;
 
 // The first round's answer. Carry On and Ask are document 01's terms: the first offer is taken into use with no further negotiation,
@@ -88,12 +86,14 @@ fn is_renewal(original: &[u16], choice: u16, renewed: &[u16]) -> bool
 pub fn recheck(original: &[u16], choice: u16, renewed: &[u16]) -> Renewed
     ensures { λ r. ⌜ renewedOf r ≡ renewedAnswer (now (original .entry)) choice (now (renewed .entry)) ⌝ }
 {
-    let unaltered = is_renewal(original, choice, renewed);
-    match then_check(
-        check_reply(original, choice),
-        unless(unaltered, Refusal::RenewedList),
-    ) {
+    match check_reply(original, choice) {
         Checked::Failed(why) => Renewed::Refused(why),
-        Checked::Passed => Renewed::Accepted(choice),
+        Checked::Passed => {
+            if is_renewal(original, choice, renewed) {
+                Renewed::Accepted(choice)
+            } else {
+                Renewed::Refused(Refusal::RenewedList)
+            }
+        }
     }
 }

@@ -6,7 +6,7 @@ use native.Mathlib.Nat.{mod-eq-of-lt}
 use native.Mathlib.Omega.{arith}
 use lib.ListN.{length}
 use Rattle.area_format.specs.declared.Way.{Way}
-use Rattle.area_format.specs.Area.{Reading, whole, refusal, reading, AreaAnswer, answerTo, areaAnswer}
+use Rattle.area_format.specs.Area.{Reading, whole, refusal, reading, AreaAnswer, areaAnswerTo, areaAnswer}
 use Rattle.area.specs.declared.AreaRead.{AreaRead}
 use Rattle.area.specs.Area.{areaAnswerOf}
 use Rattle.area.proofs.Counts.{Few, few}
@@ -14,7 +14,7 @@ use Rattle.outcome.specs.Areas.{areaOutcome}
 use Rattle.outcome.specs.Internal.{countLow}
 use Rattle.outcome.specs.declared.areas.AreaOutcome.{AreaOutcome}
 
-all-counted : (area own : List ℕ) (r : Reading) → Few r → countLow (answerTo area own r) ≡ answerTo area own r
+all-counted : (area own : List ℕ) (r : Reading) → Few r → countLow (areaAnswerTo area own r) ≡ areaAnswerTo area own r
 all-counted area own (whole offers at len) h = let small : length offers < 2 ^ 32 = omega arith in rw (mod-eq-of-lt small)
 all-counted area own (refusal x) h = refl
 

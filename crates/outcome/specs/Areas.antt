@@ -1,7 +1,7 @@
 -- What reading an area returns to C, by what it answers: kv_area of include/ketvaulo.h.
 use Prim.Native.Nat.{ℕ}
 use mathlib.Core.Bool.{Bool, true, false}
-use Rattle.area.specs.Area.{AreaAnswer, answered}
+use Rattle.area_format.specs.Area.{AreaAnswer, answered}
 use Rattle.outcome.specs.Outcomes.{numberIn, placeIn}
 use Rattle.outcome.specs.declared.areas.AreaOutcome.{AreaOutcome}
 

@@ -7,7 +7,7 @@ use native.Mathlib.Omega.{arith}
 use borrow.Author.Tests.{le-leb, lt-leb, leb-true, eq-eqb, ne-eqb}
 use lib.ListN.{length}
 use lib.Dec.{leb, eqb}
-use Rattle.area_format.specs.Area.{typeOf, wordsOf, numberIn, inBytes, inBounds, kdf, zeros, wordsFor, padding, kdfInput, attribute}
+use Rattle.area_format.specs.Area.{typeOf, wordsOf, numberOf, inBytes, inBounds, kdf, zeros, wordsFor, padding, kdfInput, attribute}
 use Rattle.area_format.specs.declared.Attribute.the-variants.{Offer, Named, Other, Faulty}
 use Rattle.area_format.specs.declared.Fault.the-variants.{KdfLength, KdfInput, KdfInputPadding}
 
@@ -31,7 +31,7 @@ long-enough bytes h =
     rw l
 
 -- AT_KDF
-pub kdf-read : (bytes : List ℕ) → wordsOf bytes .0 ≡ 1 → Offer (numberIn bytes) ≡ kdf bytes
+pub kdf-read : (bytes : List ℕ) → wordsOf bytes .0 ≡ 1 → Offer (numberOf bytes) ≡ kdf bytes
 unfolding kdf
 kdf-read bytes h = rw (eq-eqb (wordsOf bytes .0) 1 h)
 
@@ -40,19 +40,19 @@ unfolding kdf
 kdf-refused bytes h = rw (ne-eqb (wordsOf bytes .0) 1 h)
 
 -- AT_KDF_INPUT
-pub length-disagrees : (bytes : List ℕ) → (wordsOf bytes .0 ≡ wordsFor (numberIn bytes) → ⊥) → Faulty KdfInput ≡ kdfInput bytes
+pub length-disagrees : (bytes : List ℕ) → (wordsOf bytes .0 ≡ wordsFor (numberOf bytes) → ⊥) → Faulty KdfInput ≡ kdfInput bytes
 unfolding kdfInput
-length-disagrees bytes h = rw (ne-eqb (wordsOf bytes .0) (wordsFor (numberIn bytes)) h)
+length-disagrees bytes h = rw (ne-eqb (wordsOf bytes .0) (wordsFor (numberOf bytes)) h)
 
-pub input-read : (bytes : List ℕ) → wordsOf bytes .0 ≡ wordsFor (numberIn bytes) → zeros (padding bytes (numberIn bytes)) ≡ true
-    → Named (record { 0 = numberIn bytes }) ≡ kdfInput bytes
+pub input-read : (bytes : List ℕ) → wordsOf bytes .0 ≡ wordsFor (numberOf bytes) → zeros (padding bytes (numberOf bytes)) ≡ true
+    → Named (record { 0 = numberOf bytes }) ≡ kdfInput bytes
 unfolding kdfInput
-input-read bytes h z = rw (eq-eqb (wordsOf bytes .0) (wordsFor (numberIn bytes)) h, z)
+input-read bytes h z = rw (eq-eqb (wordsOf bytes .0) (wordsFor (numberOf bytes)) h, z)
 
-pub padding-refused : (bytes : List ℕ) → wordsOf bytes .0 ≡ wordsFor (numberIn bytes) → zeros (padding bytes (numberIn bytes)) ≡ false
+pub padding-refused : (bytes : List ℕ) → wordsOf bytes .0 ≡ wordsFor (numberOf bytes) → zeros (padding bytes (numberOf bytes)) ≡ false
     → Faulty KdfInputPadding ≡ kdfInput bytes
 unfolding kdfInput
-padding-refused bytes h z = rw (eq-eqb (wordsOf bytes .0) (wordsFor (numberIn bytes)) h, z)
+padding-refused bytes h z = rw (eq-eqb (wordsOf bytes .0) (wordsFor (numberOf bytes)) h, z)
 
 -- the type
 pub type-24 : (bytes : List ℕ) → typeOf bytes ≡ 24 → kdf bytes ≡ attribute bytes

@@ -14,7 +14,7 @@ use Rattle.area_format.specs.declared.Attribute.the-variants.{Faulty}
 use Rattle.area_format.specs.declared.Fault.the-variants.{AttributeBounds}
 use Rattle.area.proofs.reader.Attributes.{too-short}
 use Rattle.area.proofs.reader.Bounds.{passed, not-empty, not-past}
-use Rattle.area.specs.Steps.{within, metAt, stepAt}
+use Rattle.area.specs.Internal.{metWithin, metAt, stepAt}
 use Rattle.area.specs.declared.reader.Step.the-variants.{End, Past, Met}
 
 -- a step on to n, past the attribute a, leaves the attributes after it
@@ -47,7 +47,7 @@ onward-in at x rest h =
     record { ahead = omega arith; within = omega arith; on = rw h (ap (λ (l : List Standing). standing at (attribute (x ∷ rest)) ∷ l) (past (4 * getD (x ∷ rest) 1 0) at x rest (omega arith))) }
 
 onward : (at : ℕ) (bytes : List ℕ) (a : Attribute) (n : ℕ) → 0 < length bytes → metAt at bytes ≡ Met a n → Onward at bytes a n
-unfolding metAt within
+unfolding metAt metWithin
 onward at [] a n k e = let none : ⊥ = omega arith in elim none [ ]
 onward at (x ∷ rest) a n k e = go (inBounds (x ∷ rest)) refl e
   where
@@ -57,7 +57,7 @@ onward at (x ∷ rest) a n k e = go (inBounds (x ∷ rest)) refl e
 
 -- where an attribute is not within the area, it is the last
 last : (at : ℕ) (bytes : List ℕ) → 0 < length bytes → metAt at bytes ≡ Past → attributesFrom 0 at bytes ≡ standing at (Faulty AttributeBounds) ∷ []
-unfolding metAt within attributesFrom
+unfolding metAt metWithin attributesFrom
 last at [] k e = let none : ⊥ = omega arith in elim none [ ]
 last at (x ∷ rest) k e = go (inBounds (x ∷ rest)) refl e
   where
@@ -89,7 +89,7 @@ next area at a n e = go (leb (length area) at) refl e
 
 -- at the end nothing is met
 pub at-end : (area : List ℕ) (at : ℕ) → stepAt area at ≡ End → attributesFrom 0 at (drop at area) ≡ []
-unfolding stepAt metAt within attributesFrom
+unfolding stepAt metAt metWithin attributesFrom
 at-end area at e = go (leb (length area) at) refl (inBounds (drop at area)) e
   where
     go : (t : Bool) → leb (length area) at ≡ t → (s : Bool)
@@ -112,17 +112,17 @@ at-past area at e = go (leb (length area) at) refl e
         last at (drop at area) (omega arith) e
 
 -- the cases
-pub is-within : (at : ℕ) (bytes : List ℕ) (a : Attribute) → inBounds bytes ≡ true → Met a (at + inBytes (wordsOf bytes) .0) ≡ within at bytes a
-unfolding within
+pub is-within : (at : ℕ) (bytes : List ℕ) (a : Attribute) → inBounds bytes ≡ true → Met a (at + inBytes (wordsOf bytes) .0) ≡ metWithin at bytes a
+unfolding metWithin
 is-within at bytes a h = rw h
 
-pub is-past : (at : ℕ) (bytes : List ℕ) (a : Attribute) → inBounds bytes ≡ false → Past ≡ within at bytes a
-unfolding within
+pub is-past : (at : ℕ) (bytes : List ℕ) (a : Attribute) → inBounds bytes ≡ false → Past ≡ metWithin at bytes a
+unfolding metWithin
 is-past at bytes a h = rw h
 
-pub by-type : (at : ℕ) (bytes : List ℕ) {a : Attribute} → a ≡ attribute bytes → within at bytes a ≡ metAt at bytes
+pub by-type : (at : ℕ) (bytes : List ℕ) {a : Attribute} → a ≡ attribute bytes → metWithin at bytes a ≡ metAt at bytes
 unfolding metAt
-by-type at bytes e = ap (within at bytes) e
+by-type at bytes e = ap (metWithin at bytes) e
 
 pub step-end : (area : List ℕ) (at : ℕ) → length area ≤ at → End ≡ stepAt area at
 unfolding stepAt

@@ -4,7 +4,7 @@ use mathlib.Core.Path.{_≡_, sym, _∙_}
 use mathlib.Core.Bool.{_&&_}
 use denote.Ref.{now}
 use lib.ListN.{drop}
-use Rattle.area.specs.NetworkInternal.{ends}
+use Rattle.area.specs.Internal.{ends}
 use Rattle.area.proofs.network.Fronts.{agreed}
 use borrow.Author.Needs.{needs}
 use Rattle.area.proofs.network.same_fields.Statement.{statement}

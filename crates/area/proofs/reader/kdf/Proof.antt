@@ -8,7 +8,7 @@ use Rattle.area_format.specs.declared.Attribute.the-variants.{Faulty}
 use Rattle.area_format.specs.declared.Bytes.{Bytes}
 use Rattle.area_format.specs.declared.Fault.the-variants.{KdfLength}
 use Rattle.area_format.specs.declared.Words.{Words}
-use Rattle.area.specs.Steps.{within}
+use Rattle.area.specs.Internal.{metWithin}
 use Rattle.area.proofs.reader.Attributes.{kdf-read, kdf-refused}
 use Rattle.area.proofs.reader.Bounds.{ends-within}
 use Rattle.area.proofs.reader.Onward.{is-within}
@@ -40,8 +40,8 @@ returns-2 : tie.Need-returns-2
 returns-2 c =
     let k = c .before .before .before in
     let a = k .before .before .args in
-    let stepped : c .past .result ≡ within (a .at) (now (a .bytes)) (Faulty KdfLength) = c .past .ensures in
-    stepped ∙ ap (within (a .at) (now (a .bytes))) (kdf-refused (now (a .bytes)) (λ e. c .before .if1 .left (words k ∙ e)))
+    let stepped : c .met-within .result ≡ metWithin (a .at) (now (a .bytes)) (Faulty KdfLength) = c .met-within .ensures in
+    stepped ∙ ap (metWithin (a .at) (now (a .bytes))) (kdf-refused (now (a .bytes)) (λ e. c .before .if1 .left (words k ∙ e)))
 
 pub kdf-spec : {M : Type 1} → statement M
 kdf-spec =

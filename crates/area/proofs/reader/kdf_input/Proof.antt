@@ -4,7 +4,7 @@ use mathlib.Core.Path.{_≡_, sym, ap, _∙_}
 use native.Mathlib.Omega.{arith}
 use borrow.Author.Needs.{needs}
 use denote.Ref.{now}
-use Rattle.area_format.specs.Area.{wordsOf, numberIn, inBytes, zeros, wordsFor, padding}
+use Rattle.area_format.specs.Area.{wordsOf, numberOf, inBytes, zeros, wordsFor, padding}
 use Rattle.area_format.specs.declared.Bytes.{Bytes}
 use Rattle.area.proofs.reader.Attributes.{length-disagrees, input-read, padding-refused}
 use Rattle.area.proofs.reader.kdf_input.Statement.{statement}
@@ -14,15 +14,16 @@ use Rattle.area.proofs.reader.kdf_input.Tie as tie
 size : (c : tie.After-number-in) → c .before .in-bytes .result .0 ≡ inBytes (wordsOf (now (c .before .before .before .before .args .bytes))) .0
 size c = ap (λ (b : Bytes). b .0) (c .before .in-bytes .ensures ∙ ap inBytes (c .before .before .length-in .ensures .0))
 
-name : (c : tie.After-number-in) → c .number-in .result ≡ numberIn (now (c .before .before .before .before .args .bytes))
+name : (c : tie.After-number-in) → c .number-in .result ≡ numberOf (now (c .before .before .before .before .args .bytes))
 name c = c .number-in .ensures
 
 -- where both tests passed, the length is the one that belongs to the name
-agrees : (c : tie.Else2) → wordsOf (now (c .before .before .before .before .before .before .before .args .bytes)) .0 ≡ wordsFor (numberIn (now (c .before .before .before .before .before .before .before .args .bytes)))
+agrees : (c : tie.Else2) → let a = c .before .before .before .before .before .before .before .args in wordsOf (now (a .bytes)) .0 ≡ wordsFor (numberOf (now (a .bytes)))
 agrees c = let k = c .before .before .before in omega (arith, size k, name k)
 
 -- what was looked at is the padding
-padded : (c : tie.After-zeros) → zeros (padding (now (c .before .before .before .before .before .before .before .before .args .bytes)) (numberIn (now (c .before .before .before .before .before .before .before .before .args .bytes)))) ≡ c .zeros .result
+padded : (c : tie.After-zeros)
+    → let a = c .before .before .before .before .before .before .before .before .args in zeros (padding (now (a .bytes)) (numberOf (now (a .bytes)))) ≡ c .zeros .result
 padded c = let k = c .before .before .before .before in rw (← size k, ← name k) (sym (c .zeros .ensures))
 
 returns : tie.Need-returns

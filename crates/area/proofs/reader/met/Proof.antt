@@ -14,7 +14,9 @@ returns-2 : tie.Need-returns-2
 returns-2 c = let a = c .before .before .before .before .args in c .named .ensures ∙ by-type (a .at) (now (a .bytes)) (type-23 (now (a .bytes)) (c .before .match .keys2))
 
 returns-3 : tie.Need-returns-3
-returns-3 c = let a = c .before .before .before .before .args in c .past .ensures ∙ by-type (a .at) (now (a .bytes)) (type-other (now (a .bytes)) (c .before .match .rest .0 .1) (c .before .match .rest .1))
+returns-3 c =
+    let a = c .before .before .before .before .args in
+    c .met-within .ensures ∙ by-type (a .at) (now (a .bytes)) (type-other (now (a .bytes)) (c .before .match .rest .0 .1) (c .before .match .rest .1))
 
 pub met-spec : {M : Type 1} → statement M
 met-spec =

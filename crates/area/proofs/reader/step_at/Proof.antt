@@ -6,7 +6,7 @@ use borrow.Author.Tests.{leb-true, leb-false}
 use denote.Ref.{now}
 use lib.ListN.{length, drop, length-drop}
 use Rattle.slices.proofs.Lists.{rest-drop}
-use Rattle.area.specs.Steps.{metAt}
+use Rattle.area.specs.Internal.{metAt}
 use Rattle.area.proofs.reader.Onward.{step-end, step-met, step-past}
 use borrow.Author.Needs.{needs}
 use Rattle.area.proofs.reader.step_at.Statement.{statement}

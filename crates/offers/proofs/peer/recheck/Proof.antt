@@ -1,27 +1,34 @@
-use mathlib.Core.Path.{_≡_, refl}
+-- `offers::peer::recheck` meets its contract: where the tests of the reply pass, the comparison of the lists decides.
+use mathlib.Core.Path.{sym, ap, _∙_}
 use borrow.Author.Needs.{needs}
 use denote.Ref.{now}
 use Rattle.refusal.specs.Answers.{checkedAs}
-use Rattle.offer_rules.specs.Rfc5448.{renewedCheck}
-use Rattle.offer_rules.specs.Answers.{renewedAnswer}
+use Rattle.refusal.proofs.Answering.{passed}
+use Rattle.offers.proofs.peer.Lists.{reply-refused, renewed-so, altered}
 use Rattle.offers.proofs.peer.recheck.Statement.{statement}
 use Rattle.offers.proofs.peer.recheck.Tie as tie
 
--- what the tests came to
-checked : (c : tie.After-then-check) → let a = c .before .before .before .before .before .before .args in checkedAs (c .then-check .result) ≡ renewedCheck (now (a .original)) (a .choice) (now (a .renewed))
-unfolding renewedCheck
-checked c = rw (c .then-check .ensures, c .before .before .check-reply .ensures, c .before .unless .ensures, c .before .before .before .is-renewal .ensures) refl
-
 returns : tie.Need-returns
-unfolding renewedAnswer
-returns c = rw (← checked (c .before .before .before), c .before .why .given .1) refl
+returns c =
+    let p = c .before .before .before in
+    let a = p .before .before .before .args in
+    reply-refused (now (a .original)) (a .choice) (now (a .renewed)) (sym (p .check-reply .ensures) ∙ ap checkedAs (c .before .why .given .1))
 
 returns-2 : tie.Need-returns-2
-unfolding renewedAnswer
-returns-2 c = rw (← checked (c .before .before), c .enum-told .given .1) refl
+returns-2 c =
+    let t = c .before .before in
+    let p = t .before .before in
+    let a = p .before .before .before .args in
+    renewed-so (now (a .original)) (a .choice) (now (a .renewed)) (passed (p .check-reply .ensures) (t .enum-told .given .1)) (sym (c .before .is-renewal .ensures) ∙ c .if1 .taken)
+
+returns-3 : tie.Need-returns-3
+returns-3 c =
+    let t = c .before .before in
+    let p = t .before .before in
+    let a = p .before .before .before .args in
+    altered (now (a .original)) (a .choice) (now (a .renewed)) (passed (p .check-reply .ensures) (t .enum-told .given .1)) (sym (c .before .is-renewal .ensures) ∙ c .if1 .left)
 
 pub recheck-spec : {M : Type 1} → statement M
 recheck-spec =
     tie.close
-    (tie.spec (λ c κs. search needs) (λ c κs. search needs) (λ c κs. search needs) (λ c κs. search needs)
-    (λ c. search needs) (λ c. search needs) returns returns-2)
+    (tie.spec (λ c κs. search needs) (λ c. search needs) (λ c. search needs) (λ c κs. search needs) returns returns-2 returns-3)

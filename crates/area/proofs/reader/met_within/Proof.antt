@@ -1,4 +1,4 @@
--- `area::reader::past` meets its contract: each test says whether the attribute is within the area.
+-- `area::reader::met_within` meets its contract: each test says whether the attribute is within the area.
 use Prim.Native.Nat.{_≤_, _<_}
 use mathlib.Core.Path.{_≡_, ap, _∙_}
 use native.Mathlib.Omega.{arith}
@@ -10,8 +10,8 @@ use Rattle.area_format.specs.declared.Words.{Words}
 use Rattle.area.proofs.reader.Bounds.{no-length, goes-past, ends-within}
 use Rattle.area.proofs.reader.Onward.{is-within, is-past}
 use borrow.Author.Needs.{needs}
-use Rattle.area.proofs.reader.past.Statement.{statement}
-use Rattle.area.proofs.reader.past.Tie as tie
+use Rattle.area.proofs.reader.met_within.Statement.{statement}
+use Rattle.area.proofs.reader.met_within.Tie as tie
 
 words : (k : tie.After-length-in) → k .length-in .result .0 ≡ wordsOf (now (k .before .before .args .bytes)) .0
 words k = ap (λ (w : Words). w .0) (k .length-in .ensures .0)
@@ -39,6 +39,6 @@ returns-3 c =
     let ends : inBytes (wordsOf (now (a .bytes))) .0 ≤ length (now (a .bytes)) = omega (arith, size (c .before), c .if2 .left) in
     rw (size (c .before)) (is-within (a .at) (now (a .bytes)) (a .met) (ends-within (now (a .bytes)) (k .before .before .pre .0) some ends))
 
-pub past-spec : {M : Type 1} → statement M
-past-spec =
+pub met-within-spec : {M : Type 1} → statement M
+met-within-spec =
     tie.close (tie.spec (λ c κs. search needs) returns (λ c κs. search needs) returns-2 (λ c. search needs) returns-3)
