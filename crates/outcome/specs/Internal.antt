@@ -3,7 +3,7 @@
 use Prim.Native.Nat.{_%_, _^_}
 use Rattle.refusal.specs.Answers.{Answer, returned, numberIn}
 use Rattle.area.specs.Area.{AreaAnswer, answered}
-use Rattle.offers.specs.Answers.{FirstAnswer, carryOn, ask}
+use Rattle.offer_rules.specs.Answers.{FirstAnswer, carryOn, ask}
 use Rattle.key_frame.specs.declared.KeyFields.{KeyFields}
 use Rattle.outcome.specs.KeyAttributes.{keyTold}
 use Rattle.outcome.specs.declared.key_attributes.KeyAttributeOutcome.{KeyAttributeOutcome}
