@@ -3,7 +3,7 @@
 use mathlib.Core.List.{List}
 use Prim.Native.Nat.{ℕ}
 use Rattle.rfc2104.specs.Keyed.{keyValueBy, hashAfterBy, macByValuesBy}
-use Rattle.sha256_block.specs.Fips180.{compress, H0, digest}
+use Rattle.fips180.specs.Sha256.{compress, H0, digest}
 
 -- the hash value after a key's block XOR a byte repeated, which is ipad's or opad's
 abbrev pub keyValue : List ℕ → ℕ → List ℕ
