@@ -1,3 +1,4 @@
+-- This serves contracts between crates only.
 -- HMAC-SHA-256 by the hash values after a key's two blocks (Keyed.antt of the crate rfc2104). `KeptValuesGiveMac` of that crate's
 -- Statements.antt says that it is RFC 2104's.
 use mathlib.Core.List.{List}
