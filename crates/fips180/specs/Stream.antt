@@ -1,3 +1,4 @@
+-- This serves contracts between crates only.
 -- A hash in progress: what absorbing bytes does to it, one byte at a time, and the digest of all that was absorbed, for any compression of
 -- blocks of 64 bytes. `StreamIsHash` of Statements.antt says that the digest is the standard's.
 use mathlib.Core.List.{List, [], _∷_}

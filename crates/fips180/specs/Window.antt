@@ -1,3 +1,4 @@
+-- This serves contracts between crates only.
 -- The window of a message schedule: the code of both hashes keeps sixteen words and writes the next sixteen over them. Nothing of it stands in
 -- the standard.
 use mathlib.Core.List.{List, [], _∷_}

@@ -2,7 +2,7 @@
 use mathlib.Core.List.{List}
 use Prim.Native.Nat.{ℕ}
 use Rattle.rfc2104.specs.Rfc2104.{hmac}
-use Rattle.sha256_block.specs.Fips180.{sha256}
+use Rattle.fips180.specs.Sha256.{sha256}
 
 unfoldable pub hmacSha256 : List ℕ → List ℕ → List ℕ
 hmacSha256 = hmac sha256

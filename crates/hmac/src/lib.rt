@@ -1,9 +1,10 @@
 // HMAC-SHA-256 (RFC 2104). `mac` is the MAC of one message, `mac_of_parts` that of one in up to five parts. A caller that has many under one
-// key keeps the hash values after the key's two blocks in a `Keyed` (section 4). It begins each message's hash with the inner value, and
-// closes it.
+// key keeps the hash values after the key's two blocks in a `Keyed` (section 4). It begins each message's hash after the inner value, and
+// `finish` comes to the MAC.
 ghost use mathlib.Core.Path.{_≡_};
 ghost use mathlib.Core.List.{_++_};
-ghost use Rattle.sha256_block.specs.Fips180.{sha256, compress, H0};
+ghost use Rattle.fips180.specs.Sha256.{sha256, compress, H0};
+ghost use Rattle.sha256.specs.Stream.{progress, absorbed, finished, joined};
 ghost use Rattle.rfc2104.specs.Rfc2104 as Rfc2104;
 ghost use Rattle.rfc2104.specs.Rfc2104.{keyBlock, ipad, opad};
 ghost use Rattle.hmac.specs.Rfc2104.{hmacSha256};
@@ -33,20 +34,6 @@ fn key_value(block: [u8; Sha256::BLOCK], pad: u8) -> [u32; 8]
     sha256::of_block(hmac_block::masked(block, pad))
 }
 
-// The hash of a message after a block of which only the hash value is given.
-fn hash_after(value: [u32; 8], message: &[u8]) -> [u8; Sha256::DIGEST]
-    ensures { λ r. ⌜ r ≡ hashAfter value (now (message .entry)) ⌝ }
-{
-    Sha256::after(value).absorb(message).finish()
-}
-
-// The same for a digest, and so the outer hash.
-fn outer_hash(value: [u32; 8], digest: [u8; Sha256::DIGEST]) -> [u8; Sha256::DIGEST]
-    ensures { λ r. ⌜ r ≡ hashAfter value digest ⌝ }
-{
-    sha256::digest_after(value, digest)
-}
-
 // A key as it is kept for many messages: the hash values that the inner and the outer hash start with.
 pub struct Keyed {
     pub inner: [u32; 8],
@@ -65,26 +52,26 @@ impl Keyed {
         Keyed { inner, outer }
     }
 
-    // The MAC of a message, from the digest of its inner hash: the outer hash.
-    pub fn close(self, digest: [u8; Sha256::DIGEST]) -> [u8; Sha256::DIGEST]
-        ensures { λ r. ⌜ r ≡ hashAfter (self .outer) digest ⌝ }
+    // The MAC of a message whose inner hash has begun: the parts are what comes after. A caller that has fewer than six gives empty ones.
+    pub fn finish<'a>(
+        self,
+        begun: Sha256,
+        a: &'a [u8],
+        b: &'a [u8],
+        c: &'a [u8],
+        d: &'a [u8],
+        e: &'a [u8],
+        f: &'a [u8],
+    ) -> [u8; Sha256::DIGEST]
+        ensures { λ r. ⌜ r ≡ hashAfter (self .outer) (finished (absorbed (progress begun) (joined (now (a .entry)) (now (b .entry)) (now (c .entry)) (now (d .entry)) (now (e .entry)) (now (f .entry))))) ⌝ }
     {
+        let digest = begun.finish_with(a, b, c, d, e, f);
         let outer = self.outer;
-        outer_hash(outer, digest)
+        Sha256::after(outer).absorb(&digest).finish()
     }
 }
 
-// The MAC of a message.
-pub fn mac(key: &[u8], message: &[u8]) -> [u8; Sha256::DIGEST]
-    ensures { λ r. ⌜ r ≡ hmacSha256 (now (key .entry)) (now (message .entry)) ⌝ }
-{
-    let k = key_block(key);
-    let digest = hash_after(key_value(k, IPAD), message);
-    outer_hash(key_value(k, OPAD), digest)
-}
-
-// The MAC of a message in five parts, which are not joined. A message of fewer has empty ones. This calls neither `Keyed::new` nor
-// `finish_with`, whose one caller is the expansion: so they lie in its frame and need none of their own.
+// The MAC of a message in five parts, which are not joined. A message of fewer has empty ones.
 pub fn mac_of_parts<'a>(
     key: &[u8],
     a: &'a [u8],
@@ -95,8 +82,14 @@ pub fn mac_of_parts<'a>(
 ) -> [u8; Sha256::DIGEST]
     ensures { λ r. ⌜ r ≡ hmacSha256 (now (key .entry)) (now (a .entry) ++ (now (b .entry) ++ (now (c .entry) ++ (now (d .entry) ++ now (e .entry))))) ⌝ }
 {
-    let block = key_block(key);
-    let begun = Sha256::after(key_value(block, IPAD));
-    let digest = begun.finish_with_five(a, b, c, d, e);
-    outer_hash(key_value(block, OPAD), digest)
+    let k = Keyed::new(key);
+    let inner = k.inner;
+    k.finish(Sha256::after(inner), a, b, c, d, e, b"")
+}
+
+// The MAC of a message.
+pub fn mac(key: &[u8], message: &[u8]) -> [u8; Sha256::DIGEST]
+    ensures { λ r. ⌜ r ≡ hmacSha256 (now (key .entry)) (now (message .entry)) ⌝ }
+{
+    mac_of_parts(key, message, b"", b"", b"", b"")
 }

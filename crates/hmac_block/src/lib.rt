@@ -5,7 +5,7 @@ ghost use Prim.Native.Nat.{_-_};
 ghost use lib.ListN.{length, take, replicate};
 ghost use Rattle.rfc2104.specs.Rfc2104 as Rfc2104;
 
-// The number of bytes in a block.
+// The number of bytes in a block of the hash, which is B in the RFC: 64 for SHA-1 and for SHA-256.
 const BLOCK: usize = 64;
 
 // The first 64 bytes of s, with zeros after them where there are fewer.

@@ -1,18 +1,18 @@
 // The exported functions: SHA-256 and HMAC-SHA-256.
 ghost use mathlib.Core.Path.{_≡_};
 ghost use lib.ListN.{length};
-ghost use Rattle.refusal.specs.Checks.{check6};
-ghost use Rattle.refusal.specs.Answers.{answerTo, bufferAfter};
-ghost use Rattle.sha256_block.specs.Fips180.{sha256};
+ghost use Rattle.fips180.specs.Sha256.{sha256};
 ghost use Rattle.hmac.specs.Rfc2104.{hmacSha256};
 ghost use Rattle.outcome.specs.Outcomes.{outcomeOf};
+ghost use Rattle.ketvaulo.specs.Hashes.{digestAnswer, digestBuffer};
 use outcome::Outcome;
 use refusal::Checked;
+use sha256::Sha256;
 
 // Puts a digest at the start of a buffer that has room for it.
-fn put_digest(digest: [u8; 32], out: &mut [u8]) -> Outcome
-    ensures answer { λ r. ⌜ r ≡ outcomeOf (answerTo (check6 32 (length (now (out .entry)))) 32) ⌝ }
-    ensures buffer { λ _. ⌜ now (out .exit) ≡ bufferAfter (check6 32 (length (now (out .entry)))) 32 digest (now (out .entry)) ⌝ }
+fn put_digest(digest: [u8; Sha256::DIGEST], out: &mut [u8]) -> Outcome
+    ensures answer { λ r. ⌜ r ≡ outcomeOf (digestAnswer (length (now (out .entry)))) ⌝ }
+    ensures buffer { λ _. ⌜ now (out .exit) ≡ digestBuffer digest (now (out .entry)) ⌝ }
 {
     outcome::returned(refusal::put(Checked::Passed, &digest, out))
 }
@@ -20,8 +20,8 @@ fn put_digest(digest: [u8; 32], out: &mut [u8]) -> Outcome
 // FIPS 180-4: the SHA-256 digest of a message, 32 bytes.
 #[no_mangle]
 pub extern "C" fn kv_sha256(message: &[u8], out: &mut [u8]) -> Outcome
-    ensures answer { λ r. ⌜ r ≡ outcomeOf (answerTo (check6 32 (length (now (out .entry)))) 32) ⌝ }
-    ensures buffer { λ _. ⌜ now (out .exit) ≡ bufferAfter (check6 32 (length (now (out .entry)))) 32 (sha256 (now (message .entry))) (now (out .entry)) ⌝ }
+    ensures answer { λ r. ⌜ r ≡ outcomeOf (digestAnswer (length (now (out .entry)))) ⌝ }
+    ensures buffer { λ _. ⌜ now (out .exit) ≡ digestBuffer (sha256 (now (message .entry))) (now (out .entry)) ⌝ }
 {
     put_digest(sha256::digest(message), out)
 }
@@ -29,8 +29,8 @@ pub extern "C" fn kv_sha256(message: &[u8], out: &mut [u8]) -> Outcome
 // RFC 2104: the HMAC-SHA-256 of a message under a key, 32 bytes.
 #[no_mangle]
 pub extern "C" fn kv_hmac_sha256(key: &[u8], message: &[u8], out: &mut [u8]) -> Outcome
-    ensures answer { λ r. ⌜ r ≡ outcomeOf (answerTo (check6 32 (length (now (out .entry)))) 32) ⌝ }
-    ensures buffer { λ _. ⌜ now (out .exit) ≡ bufferAfter (check6 32 (length (now (out .entry)))) 32 (hmacSha256 (now (key .entry)) (now (message .entry))) (now (out .entry)) ⌝ }
+    ensures answer { λ r. ⌜ r ≡ outcomeOf (digestAnswer (length (now (out .entry)))) ⌝ }
+    ensures buffer { λ _. ⌜ now (out .exit) ≡ digestBuffer (hmacSha256 (now (key .entry)) (now (message .entry))) (now (out .entry)) ⌝ }
 {
     put_digest(hmac::mac(key, message), out)
 }

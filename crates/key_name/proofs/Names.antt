@@ -9,7 +9,7 @@ use Rattle.refusal.specs.Checks.{Reason, Check, pass, refuse, _andThen_, check6
 use Rattle.refusal.specs.Answers.{Answer, answerTo, bufferAfter}
 use Rattle.refusal.proofs.Passing.{first-refuses}
 use Rattle.labels.specs.Checks.{labelCheck}
-use Rattle.sha256_block.specs.Fips180.{sha256}
+use Rattle.fips180.specs.Sha256.{sha256}
 use Rattle.sha256.proofs.Stream.{sha256-length}
 use Rattle.key_name.specs.Ndf64.{check9, nameCheck, nameOf}
 

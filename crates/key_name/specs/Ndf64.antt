@@ -6,7 +6,7 @@ use lib.ListN.{length, take}
 use Rattle.refusal.specs.Checks.{Check, bare, unless, within, _andThen_, check6}
 use Rattle.refusal.specs.Answers.{Answer, answerTo, bufferAfter}
 use Rattle.labels.specs.Checks.{labelCheck}
-use Rattle.sha256_block.specs.Fips180.{sha256}
+use Rattle.fips180.specs.Sha256.{sha256}
 
 -- 9: Session-ID not 1 to 255 bytes
 abbrev pub check9 : List ℕ → Check

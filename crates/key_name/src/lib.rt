@@ -5,7 +5,7 @@ ghost use lib.ListN.{length};
 ghost use Rattle.refusal.specs.Checks.{_andThen_};
 ghost use Rattle.refusal.specs.Answers.{checkedAs, answerOf};
 ghost use Rattle.labels.specs.Checks.{labelCheck};
-ghost use Rattle.sha256_block.specs.Fips180.{sha256};
+ghost use Rattle.fips180.specs.Sha256.{sha256};
 ghost use Rattle.key_name.specs.Ndf64.{check9, nameAnswer, nameBuffer};
 use refusal::Answered;
 use refusal::Checked;

@@ -1,11 +1,11 @@
 -- A block's input by its parts, and that the MAC of it, from a key's two hash values, is the next block.
 use Prim.Native.Nat.{ℕ, _+_, _-_, _*_}
-use mathlib.Core.Path.{_≡_, ap, _∙_}
+use mathlib.Core.Path.{_≡_, refl, ap, _∙_}
 use mathlib.Core.List.{List, [], _∷_, _++_, append-assoc}
 use lib.ListN.{take, drop}
-use Rattle.fips180.specs.Stream.{Progress}
-use Rattle.sha256_block.specs.Fips180.{compress, digest}
-use Rattle.sha256.specs.Stream.{startedAfter, absorbed, finished}
+use Rattle.fips180.specs.Stream.{Progress, startedAfter}
+use Rattle.fips180.specs.Sha256.{compress, digest}
+use Rattle.sha256.specs.Stream.{absorbed, finished, joined}
 use Rattle.rfc2104.specs.Rfc2104.{ipad, opad}
 use Rattle.rfc2104.proofs.Laws.{mac-by-hashes}
 use Rattle.hmac.specs.Rfc2104.{hmacSha256}
@@ -15,16 +15,16 @@ use Rattle.prf_plus.specs.PrfPlus.{inputAfter, block, blocks}
 use Rattle.prf_plus.proofs.Steps.{last-block, next-block}
 
 -- the parts of a block's input, joined from the back, are that input
-input-parts : (p a b c d : List ℕ) (i : ℕ) → p ++ (a ++ (b ++ (c ++ (d ++ (i ∷ []))))) ≡ inputAfter p (a ++ (b ++ (c ++ d))) i
+input-parts : (p a b c d : List ℕ) (i : ℕ) → joined p a b c d (i ∷ []) ≡ inputAfter p (a ++ (b ++ (c ++ d))) i
 unfolding inputAfter
 input-parts p a b c d i = simp append-assoc
 
--- `block`: s is the inner hash begun, h its digest, r the outer hash
-pub mac-of-input : (p a b c d : List ℕ) (i : ℕ) (outer : List ℕ) {inner h r : List ℕ} {s : Progress}
-    → s ≡ startedAfter inner → h ≡ finished (absorbed s (p ++ (a ++ (b ++ (c ++ (d ++ (i ∷ []))))))) → r ≡ hashAfter outer h
+-- s is the inner hash begun, and r the outer hash of what the parts bring it to
+pub mac-of-input : (p a b c d : List ℕ) (i : ℕ) (outer : List ℕ) {inner r : List ℕ} {s : Progress}
+    → s ≡ startedAfter inner → r ≡ hashAfter outer (finished (absorbed s (joined p a b c d (i ∷ []))))
     → r ≡ macByValues inner outer (inputAfter p (a ++ (b ++ (c ++ d))) i)
-mac-of-input p a b c d i outer {inner} es eh er =
-    mac-by-hashes compress digest outer (p ++ (a ++ (b ++ (c ++ (d ++ (i ∷ [])))))) es eh er ∙ ap (macByValues inner outer) (input-parts p a b c d i)
+mac-of-input p a b c d i outer {inner} es er =
+    mac-by-hashes compress digest outer (joined p a b c d (i ∷ [])) es refl er ∙ ap (macByValues inner outer) (input-parts p a b c d i)
 
 -- after the last block of a buffer it is the next one
 pub next-under-key : (key text out₀ out : List ℕ) (i from at : ℕ) {inner outer r : List ℕ} → inner ≡ keyValue key ipad → outer ≡ keyValue key opad

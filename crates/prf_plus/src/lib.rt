@@ -7,8 +7,7 @@ ghost use lib.ListN.{length, drop};
 ghost use Rattle.refusal.specs.Checks.{_andThen_};
 ghost use Rattle.refusal.specs.Answers.{checkedAs, answerOf, answerTo, bufferAfter};
 ghost use Rattle.hmac.specs.Rfc2104.{hmacSha256};
-ghost use Rattle.hmac.specs.Keyed.{macByValues};
-ghost use Rattle.prf_plus.specs.PrfPlus.{inputAfter, prfPlus, expandCheck};
+ghost use Rattle.prf_plus.specs.PrfPlus.{prfPlus, expandCheck};
 use hmac::Keyed;
 use refusal::Answered;
 use refusal::Checked;
@@ -26,25 +25,8 @@ fn check_expand(n: usize, room: usize) -> Checked
     refusal::then_check(length, refusal::check_room(n, room))
 }
 
-// A block of the expansion: the MAC of the block before it, the text and the block's number. Its hash begins after the key's block.
-fn block<'a>(
-    k: Keyed,
-    previous: &'a [u8],
-    a: &'a [u8],
-    b: &'a [u8],
-    c: &'a [u8],
-    d: &'a [u8],
-    i: u8,
-) -> [u8; Sha256::DIGEST]
-    ensures { λ r. ⌜ r ≡ macByValues (k .inner) (k .outer) (inputAfter (now (previous .entry)) (now (a .entry) ++ (now (b .entry) ++ (now (c .entry) ++ now (d .entry)))) i) ⌝ }
-{
-    let inner = k.inner;
-    let number = [i];
-    let digest = Sha256::after(inner).finish_with(previous, a, b, c, d, &number);
-    k.close(digest)
-}
-
-// n bytes of the expansion at the start of out. A block is written where the next finds it.
+// n bytes of the expansion at the start of out. A block is the MAC of the block before it, the text and the block's number: its hash begins
+// after the key's block. It is written where the next finds it.
 fn fill<'a>(
     key: &[u8],
     a: &'a [u8],
@@ -59,13 +41,15 @@ fn fill<'a>(
     ensures { λ _. ⌜ now (out .exit) ≡ prfPlus hmacSha256 (now (key .entry)) (now (a .entry) ++ (now (b .entry) ++ (now (c .entry) ++ now (d .entry)))) n ++ drop n (now (out .entry)) ⌝ }
 {
     let k = Keyed::new(key);
+    let inner = k.inner;
+    let begun = Sha256::after(inner);
     let mut i: usize = 0;
     let mut from = 0;
     let mut at = 0;
     while at < n {
         let next = i + 1;
         let number = next as u8;
-        let t = block(k, &out[from..at], a, b, c, d, number);
+        let t = k.finish(begun, &out[from..at], a, b, c, d, &[number]);
         let m = slices::least(Sha256::DIGEST, n - at);
         bytes::copy(&t[..m], &mut out[at..]);
         i = next;

@@ -1,3 +1,4 @@
+-- This serves contracts between crates only.
 -- HMAC by the hash values after a key's two blocks (RFC 2104, section 4: these are kept, and each message begins with them), over any
 -- compression of blocks of 64 bytes, first hash value and writing of the digest. `KeptValuesGiveMac` of Statements.antt says that it is
 -- section 2's.

@@ -1,3 +1,2 @@
 pub mod Stream
 mod Parts
-mod Outer

@@ -5,7 +5,7 @@ use Prim.Native.Nat.{ℕ}
 use lib.ListN.{length}
 use Rattle.fips180.specs.Hash.{hashBy}
 use Rattle.fips180.proofs.Stream.{stream-is-hash}
-use Rattle.sha256_block.specs.Fips180.{compress, H0, digest, sha256}
+use Rattle.fips180.specs.Sha256.{compress, H0, digest, sha256}
 use Rattle.sha256.specs.Stream.{started, absorbed, finished}
 
 pub digest-law : (m : List ℕ) → finished (absorbed started m) ≡ sha256 m

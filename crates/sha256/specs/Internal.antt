@@ -5,7 +5,7 @@ use Prim.Native.Nat.{ℕ}
 use lib.ListN.{getD}
 use Rattle.fips180.specs.Stream.{Progress}
 use Rattle.fips180.specs.Internal.{closingBy}
-use Rattle.sha256_block.specs.Fips180.{compress}
+use Rattle.fips180.specs.Sha256.{compress}
 
 abbrev pub parts : List ℕ → List ℕ → ℕ → Progress
 parts h b n = record { value = h; block = b; count = n }

@@ -6,33 +6,24 @@ ghost use Prim.Native.Nat.{_+_, _-_, _*_, _/_, _<_, _≤_, _%_, _^_};
 ghost use lib.ListN.{length, take, replicate};
 ghost use lib.Seq.{paste};
 ghost use Rattle.slices.specs.Numbers.{be64};
-ghost use Rattle.sha256_block.specs.Fips180 as Fips180;
-ghost use Rattle.sha256.specs.Stream.{progress, started, startedAfter, absorbed, finished};
+ghost use Rattle.fips180.specs.Sha256 as Fips180;
+ghost use Rattle.sha256.specs.Stream.{progress, started, absorbed, finished, joined};
+ghost use Rattle.fips180.specs.Stream.{startedAfter};
 ghost use Rattle.fips180.specs.Internal.{begunBlock};
 ghost use Rattle.sha256.specs.Internal.{parts, closing, partAt};
 
-mod value; // the hash value: the first one, those after whole blocks, and its bytes
+mod value; // the hash value: the first one, the one after a block, and its bytes
 
 use crate::value::H0;
-use crate::value::of_blocks;
 use crate::value::to_bytes;
 use sha256_block::compress_blocks;
 pub use value::of_block;
 
-// A hash in progress: the hash value after the whole blocks absorbed, the block that is being filled, and the count of all bytes.
+// A hash in progress: the hash value after the whole blocks absorbed, the count of all bytes, and the block that is being filled.
 pub struct Sha256 {
     h: [u32; 8],
-    block: [u8; 64],
     count: u64,
-}
-
-// Brings the hash value to the one after the whole blocks of s. The compiler lays the two places where it is used one after the other
-// over the same stack.
-fn compress_into(h: &mut [u32; 8], s: &[u8])
-    ensures { λ _. ⌜ now (h .exit) ≡ Fips180.blocks (length (now (s .entry)) / 64) (now (h .entry)) (now (s .entry)) ⌝ }
-{
-    let next = compress_blocks(*h, s);
-    *h = next;
+    block: [u8; Sha256::BLOCK],
 }
 
 // Writes `part` into `bytes` from index `at` on.
@@ -44,18 +35,18 @@ fn put(bytes: &mut [u8], at: usize, part: &[u8])
 }
 
 // Ends the message after the block's first `at` bytes: a bit 1, and zeros.
-fn mark(block: &mut [u8; 64], at: usize)
+fn mark(block: &mut [u8; Sha256::BLOCK], at: usize)
     requires { ⌜ (at < 64) × (length (now block) ≡ 64) ⌝ }
     ensures { λ _. ⌜ now (block .exit) ≡ take at (now (block .entry)) ++ (0x80 ∷ replicate (63 - at) 0) ⌝ }
 {
     block[at] = 0x80;
-    for j in at + 1..64 {
+    for j in at + 1..Sha256::BLOCK {
         block[j] = 0;
     }
 }
 
 // Writes the message's length in bits, modulo 2^64, to the block's last eight bytes.
-fn put_length(block: &mut [u8; 64], count: u64)
+fn put_length(block: &mut [u8; Sha256::BLOCK], count: u64)
     requires { ⌜ length (now block) ≡ 64 ⌝ }
     ensures { λ _. ⌜ now (block .exit) ≡ take 56 (now (block .entry)) ++ be64 (8 * count % 2 ^ 64) ⌝ }
 {
@@ -71,32 +62,36 @@ fn put_length(block: &mut [u8; 64], count: u64)
 }
 
 // Brings the hash value to the last one, from a last block that lacks only the length.
-fn compress_last(h: &mut [u32; 8], block: &mut [u8; 64], count: u64)
+fn compress_last(h: &mut [u32; 8], block: &mut [u8; Sha256::BLOCK], count: u64)
     requires { ⌜ length (now block) ≡ 64 ⌝ }
     ensures { λ _. ⌜ now (h .exit) ≡ Fips180.compress (now (h .entry)) (take 56 (now (block .entry)) ++ be64 (8 * count % 2 ^ 64)) ⌝ }
 {
     put_length(block, count);
-    compress_into(h, block);
+    compress_blocks(h, block);
 }
 
 // Brings the hash value to the last one of a message of `count` bytes: one block more, or two where the length finds no room after the bit 1.
-fn close(h: &mut [u32; 8], block: &mut [u8; 64], count: u64)
+fn close(h: &mut [u32; 8], block: &mut [u8; Sha256::BLOCK], count: u64)
     requires { ⌜ length (now block) ≡ 64 ⌝ }
     ensures { λ _. ⌜ now (h .exit) ≡ closing (now (h .entry)) (take (count % 64) (now (block .entry))) count ⌝ }
 {
-    let at = (count % 64) as usize;
+    let at = (count % (Sha256::BLOCK as u64)) as usize;
     mark(block, at);
     if at < 56 {
         compress_last(h, block, count);
         return;
     }
-    compress_into(h, block);
-    *block = [0; 64];
+    compress_blocks(h, block);
+    *block = [0; Sha256::BLOCK];
     compress_last(h, block, count);
 }
 
 // The digest of that message.
-fn last_digest(h: &mut [u32; 8], block: &mut [u8; 64], count: u64) -> [u8; 32]
+fn last_digest(
+    h: &mut [u32; 8],
+    block: &mut [u8; Sha256::BLOCK],
+    count: u64,
+) -> [u8; Sha256::DIGEST]
     requires { ⌜ length (now block) ≡ 64 ⌝ }
     ensures { λ r. ⌜ r ≡ Fips180.digest (closing (now (h .entry)) (take (count % 64) (now (block .entry))) count) ⌝ }
 {
@@ -105,39 +100,39 @@ fn last_digest(h: &mut [u32; 8], block: &mut [u8; 64], count: u64) -> [u8; 32]
 }
 
 // Begins a block with the bytes of s that come after its whole blocks.
-fn begin(block: &mut [u8; 64], s: &[u8])
+fn begin(block: &mut [u8; Sha256::BLOCK], s: &[u8])
     ensures { λ _. ⌜ now (block .exit) ≡ begunBlock (now (s .entry)) ⌝ }
 {
     let n = s.len();
-    let rest = n - n % 64;
-    *block = [0; 64];
+    let rest = n - n % Sha256::BLOCK;
+    *block = [0; Sha256::BLOCK];
     put(block, 0, &s[rest..]);
 }
 
 // Compresses the full block and the whole blocks of s, and begins the next block with the bytes after these.
-fn absorb_blocks(h: &mut [u32; 8], block: &mut [u8; 64], s: &[u8])
+fn absorb_blocks(h: &mut [u32; 8], block: &mut [u8; Sha256::BLOCK], s: &[u8])
     requires { ⌜ length (now block) ≡ 64 ⌝ }
     ensures { λ _. ⌜ now (h .exit) ≡ Fips180.blocks (length (now (s .entry)) / 64) (Fips180.compress (now (h .entry)) (now (block .entry))) (now (s .entry)) ⌝ }
     ensures { λ _. ⌜ now (block .exit) ≡ begunBlock (now (s .entry)) ⌝ }
 {
-    compress_into(h, block);
-    compress_into(h, s);
+    compress_blocks(h, block);
+    compress_blocks(h, s);
     begin(block, s);
 }
 
 // Absorbs the bytes of s into the parts of a hash in progress, which are changed where they lie: by value they would be copied at each
 // call. The next count is returned. The bytes that the block has room for are copied before the branch, so that the compiler lays out one
 // copy for those that fill it and those that leave it short of full. The latter are only copied.
-fn absorb_into(h: &mut [u32; 8], block: &mut [u8; 64], count: u64, s: &[u8]) -> u64
+fn absorb_into(h: &mut [u32; 8], block: &mut [u8; Sha256::BLOCK], count: u64, s: &[u8]) -> u64
     requires { ⌜ length (now block) ≡ 64 ⌝ }
     ensures { λ r. ⌜ parts (now (h .exit)) (now (block .exit)) r ≡ absorbed (parts (now (h .entry)) (now (block .entry)) count) (now (s .entry)) ⌝ }
 {
-    let at = (count % 64) as usize;
+    let at = (count % (Sha256::BLOCK as u64)) as usize;
     let n = s.len();
     let next = std::num::wrapping_add_u64(count, n as u64);
-    let k = slices::least(n, 64 - at);
+    let k = slices::least(n, Sha256::BLOCK - at);
     put(block, at, &s[..k]);
-    if n < 64 - at {
+    if n < Sha256::BLOCK - at {
         return next;
     }
     absorb_blocks(h, block, &s[k..]);
@@ -177,7 +172,7 @@ impl Sha256 {
     {
         Sha256 {
             h: H0,
-            block: [0; 64],
+            block: [0; Sha256::BLOCK],
             count: 0,
         }
     }
@@ -188,8 +183,8 @@ impl Sha256 {
     {
         Sha256 {
             h: value,
-            block: [0; 64],
-            count: 64,
+            block: [0; Sha256::BLOCK],
+            count: Sha256::BLOCK as u64,
         }
     }
 
@@ -204,7 +199,7 @@ impl Sha256 {
     }
 
     // The digest of all that was absorbed.
-    pub fn finish(self) -> [u8; 32]
+    pub fn finish(self) -> [u8; Sha256::DIGEST]
         ensures { λ r. ⌜ r ≡ finished (progress self) ⌝ }
     {
         let mut h = self.h;
@@ -213,8 +208,7 @@ impl Sha256 {
         last_digest(&mut h, &mut block, count)
     }
 
-    // The digest of all that was absorbed and of six parts after it. They are absorbed in one loop, so that the compiler lays out the code
-    // for one.
+    // The digest of all that was absorbed and of six parts after it. A caller that has fewer gives empty ones.
     pub fn finish_with<'a>(
         self,
         a: &'a [u8],
@@ -223,8 +217,8 @@ impl Sha256 {
         d: &'a [u8],
         e: &'a [u8],
         f: &'a [u8],
-    ) -> [u8; 32]
-        ensures { λ r. ⌜ r ≡ finished (absorbed (progress self) (now (a .entry) ++ (now (b .entry) ++ (now (c .entry) ++ (now (d .entry) ++ (now (e .entry) ++ now (f .entry))))))) ⌝ }
+    ) -> [u8; Sha256::DIGEST]
+        ensures { λ r. ⌜ r ≡ finished (absorbed (progress self) (joined (now (a .entry)) (now (b .entry)) (now (c .entry)) (now (d .entry)) (now (e .entry)) (now (f .entry)))) ⌝ }
     {
         let mut h = self.h;
         let mut block = self.block;
@@ -236,60 +230,26 @@ impl Sha256 {
         }
         last_digest(&mut h, &mut block, count)
     }
-
-    // The same with five parts. `finish_with` has one caller, the expansion, and so is laid out in its frame: HMAC of parts has this one. A loop
-    // of six turns, the last one for no bytes, is not unrolled by the compiler; one of five is.
-    pub fn finish_with_five<'a>(
-        self,
-        a: &'a [u8],
-        b: &'a [u8],
-        c: &'a [u8],
-        d: &'a [u8],
-        e: &'a [u8],
-    ) -> [u8; 32]
-        ensures { λ r. ⌜ r ≡ finished (absorbed (progress self) (now (a .entry) ++ (now (b .entry) ++ (now (c .entry) ++ (now (d .entry) ++ now (e .entry)))))) ⌝ }
-    {
-        let mut h = self.h;
-        let mut block = self.block;
-        let mut count = self.count;
-        for j in 0..6 {
-            let s = part(j, a, b, c, d, e, b"");
-            let next = absorb_into(&mut h, &mut block, count, s);
-            count = next;
-        }
-        last_digest(&mut h, &mut block, count)
-    }
-}
-
-// The digest of a block, of which only the hash value is given, and of a digest after it: HMAC's outer hash. The second block is the last one.
-pub fn digest_after(value: [u32; 8], digest: [u8; 32]) -> [u8; 32]
-    ensures { λ r. ⌜ r ≡ finished (absorbed (startedAfter value) digest) ⌝ }
-{
-    let mut block: [u8; 64] = [0; 64];
-    bytes::copy(&digest, &mut block);
-    block[32] = 0x80;
-    put_length(&mut block, 96);
-    to_bytes(compress_blocks(value, &block))
 }
 
 // The hash of two parts, one after the other.
-pub fn digest_of_two(first: &[u8], second: &[u8]) -> [u8; 32]
+pub fn digest_of_two(first: &[u8], second: &[u8]) -> [u8; Sha256::DIGEST]
     ensures { λ r. ⌜ r ≡ Fips180.sha256 (now (first .entry) ++ now (second .entry)) ⌝ }
 {
     let mut h = H0;
-    let mut block: [u8; 64] = [0; 64];
+    let mut block: [u8; Sha256::BLOCK] = [0; Sha256::BLOCK];
     let n = absorb_into(&mut h, &mut block, 0, first);
     let count = absorb_into(&mut h, &mut block, n, second);
     last_digest(&mut h, &mut block, count)
 }
 
 // The hash of a message.
-pub fn digest(message: &[u8]) -> [u8; 32]
+pub fn digest(message: &[u8]) -> [u8; Sha256::DIGEST]
     ensures { λ r. ⌜ r ≡ Fips180.sha256 (now (message .entry)) ⌝ }
 {
-    let whole = of_blocks(message);
-    let mut h = whole;
-    let mut block: [u8; 64] = [0; 64];
+    let mut h = H0;
+    compress_blocks(&mut h, message);
+    let mut block: [u8; Sha256::BLOCK] = [0; Sha256::BLOCK];
     begin(&mut block, message);
     last_digest(&mut h, &mut block, message.len() as u64)
 }

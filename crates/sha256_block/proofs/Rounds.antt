@@ -8,8 +8,7 @@ use lib.ListN.{length, getD, set}
 use Rattle.tables.proofs.Filled.{filled-of}
 use Rattle.fips180.proofs.Window.{window-at}
 use Rattle.fips180.specs.Sha256.{K, W, round, rounds, sums, compress}
-use Rattle.sha256_block.specs.Rounds.{runs}
-use Rattle.sha256_block.specs.Internal.{window, ConstantsFrom}
+use Rattle.sha256_block.specs.Internal.{window, ConstantsFrom, runs}
 use Rattle.sha256_block.specs.Statements.{WordInPlace, RoundByWindow}
 
 -- a turn of the loop that looks up the constants of a group: the one at j is stored

@@ -1,4 +1,2 @@
-pub mod Rounds
-pub mod Fips180
 pub mod Statements
 pub mod Internal

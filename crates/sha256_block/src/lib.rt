@@ -135,16 +135,14 @@ fn compress(h: [u32; 8], b: &[u8]) -> [u32; 8]
     sum(h, s)
 }
 
-// The hash value after the whole blocks of `message`, from h. A rest shorter than a block is not looked at.
-pub fn compress_blocks(h: [u32; 8], message: &[u8]) -> [u32; 8]
-    ensures { λ r. ⌜ r ≡ Sha256.blocks (length (now (message .entry)) / 64) h (now (message .entry)) ⌝ }
+// Brings the hash value to the one after the whole blocks of `message`. A rest shorter than a block is not looked at.
+pub fn compress_blocks(h: &mut [u32; 8], message: &[u8])
+    ensures { λ _. ⌜ now (h .exit) ≡ Sha256.blocks (length (now (message .entry)) / 64) (now (h .entry)) (now (message .entry)) ⌝ }
 {
-    let mut g = h;
     for k in 0..message.len() / 64 {
         let start = k * 64;
         let end = start + 64;
-        let next = compress(g, &message[start..end]);
-        g = next;
+        let next = compress(*h, &message[start..end]);
+        *h = next;
     }
-    g
 }

@@ -1,6 +1,6 @@
 // Sixteen rounds of SHA-256 (FIPS 180-4, 6.2.2), written out.
 ghost use mathlib.Core.Path.{_≡_};
-ghost use Rattle.sha256_block.specs.Rounds.{runs};
+ghost use Rattle.sha256_block.specs.Internal.{runs};
 use crate::round::round;
 
 // Sixteen rounds, with their constants and their words of the schedule.

@@ -1,5 +1,5 @@
 use denote.Ref.{now}
-use Rattle.sha256_block.specs.Fips180.{sha256}
+use Rattle.fips180.specs.Sha256.{sha256}
 use Rattle.rfc2104.proofs.Blocks.{key-short, key-long}
 use Rattle.hmac_block.proofs.Filling.{filled-short}
 use Rattle.hmac.proofs.Laws.{digest-short}

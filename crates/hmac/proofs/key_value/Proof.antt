@@ -1,6 +1,6 @@
 -- `hmac::key_value` meets its contract: the masked block compressed.
 use mathlib.Core.Path.{ap, _∙_}
-use Rattle.sha256_block.specs.Fips180.{compress, H0}
+use Rattle.fips180.specs.Sha256.{compress, H0}
 use borrow.Author.Needs.{needs}
 use Rattle.hmac.proofs.key_value.Statement.{statement}
 use Rattle.hmac.proofs.key_value.Tie as tie

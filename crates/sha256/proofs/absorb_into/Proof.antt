@@ -9,7 +9,7 @@ use lib.ListN.{length, length-take}
 use lib.Seq.{take-all, length-take-le}
 use Rattle.fips180.proofs.Absorbing.{part-law, over-law, filled-length}
 use Rattle.slices.proofs.Lists.{rest-drop}
-use Rattle.sha256_block.specs.Fips180.{compress}
+use Rattle.fips180.specs.Sha256.{compress}
 use Rattle.sha256.specs.Internal.{parts}
 use Rattle.sha256.proofs.absorb_into.Statement.{statement}
 use Rattle.sha256.proofs.absorb_into.Tie as tie
@@ -61,6 +61,6 @@ returns-2 c =
 pub absorb-into-spec : {M : Type 1} → statement M
 absorb-into-spec =
     tie.close
-    (tie.spec (λ c κs. search needs) (λ c. search needs) (λ c κs. search needs) slice-aggregate-put put-requires
-    (λ c. search needs) returns (λ c. search needs) (λ c. search needs) (λ c. search needs) absorb-blocks-requires
-    returns-2)
+    (tie.spec (λ c. search needs) (λ c κs. search needs) (λ c. search needs) (λ c κs. search needs) slice-aggregate-put
+    put-requires (λ c. search needs) returns (λ c. search needs) (λ c. search needs) (λ c. search needs)
+    absorb-blocks-requires returns-2)

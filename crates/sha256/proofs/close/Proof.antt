@@ -5,7 +5,7 @@ use mathlib.Core.Path.{_≡_}
 use lib.ListN.{length}
 use denote.Ref.{now}
 use Rattle.fips180.proofs.Closing.{mark-kept, close-one, close-two}
-use Rattle.sha256_block.specs.Fips180.{compress}
+use Rattle.fips180.specs.Sha256.{compress}
 use borrow.Author.Needs.{needs}
 use Rattle.sha256.proofs.close.Statement.{statement}
 use Rattle.sha256.proofs.close.Tie as tie
@@ -30,10 +30,10 @@ returns-2 c =
     let a = d .before .before .args in
     let l : length (now (a .block)) ≡ 64 = d .before .before .pre in
     let m : 56 ≤ a .count % 64 = omega arith in
-    close-two compress (now (a .h)) (now (a .block)) (a .count) l (d .mark .ensures) m (e .compress-into .ensures) (c .compress-last2 .ensures)
+    close-two compress (now (a .h)) (now (a .block)) (a .count) l (d .mark .ensures) m (e .compress-blocks .ensures) (c .compress-last2 .ensures)
 
 pub close-spec : {M : Type 1} → statement M
 close-spec =
     tie.close
-    (tie.spec (λ c κs. search needs) compress-last-requires returns (λ c κs. search needs) (λ c κs. search needs)
-    returns-2)
+    (tie.spec (λ c. search needs) (λ c κs. search needs) compress-last-requires returns (λ c κs. search needs)
+    (λ c κs. search needs) returns-2)

@@ -1,7 +1,7 @@
 -- `sha256::compress_last` meets its contract: the block with its length, compressed.
 use mathlib.Core.Path.{ap, _∙_}
 use denote.Ref.{now}
-use Rattle.sha256_block.specs.Fips180.{compress}
+use Rattle.fips180.specs.Sha256.{compress}
 use Rattle.fips180.proofs.Blocks.{one-block}
 use Rattle.fips180.proofs.Closing.{length-kept}
 use borrow.Author.Needs.{needs}
@@ -13,7 +13,7 @@ returns c =
     let start = c .before .before .before .before .before .before in
     let a = start .args in
     let put = c .before .before .before .before .put-length .ensures in
-    c .compress-into .ensures ∙ one-block compress _ _ (length-kept (now (a .block)) (a .count) (start .pre) put) ∙ ap (compress (now (a .h))) put
+    c .compress-blocks .ensures ∙ one-block compress _ _ (length-kept (now (a .block)) (a .count) (start .pre) put) ∙ ap (compress (now (a .h))) put
 
 pub compress-last-spec : {M : Type 1} → statement M
 compress-last-spec = tie.close (tie.spec (λ c κs. search needs) (λ c κs. search needs) returns)

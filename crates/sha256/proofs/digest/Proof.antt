@@ -5,20 +5,20 @@ use native.Mathlib.Omega.{arith}
 use denote.Ref.{now}
 use lib.ListN.{length}
 use Rattle.fips180.proofs.Absorbing.{begun-length, at-once}
-use Rattle.sha256_block.specs.Fips180.{compress, H0, digest, sha256}
+use Rattle.fips180.specs.Sha256.{compress, H0, digest, sha256}
 use borrow.Author.Needs.{needs}
 use Rattle.sha256.proofs.digest.Statement.{statement}
 use Rattle.sha256.proofs.digest.Tie as tie
 
 last-digest-requires : tie.Need-last-digest-requires
-last-digest-requires c κs = ap length (c .before .before .begin .ensures) ∙ begun-length (now (c .before .before .before .before .before .before .args .message))
+last-digest-requires c κs = ap length (c .before .before .begin .ensures) ∙ begun-length (now (c .before .before .before .before .before .before .before .args .message))
 
 returns : tie.Need-returns
-unfolding sha256
+unfolding sha256 H0
 returns c =
-    let m = now (c .before .before .before .before .before .before .before .args .message) in
+    let m = now (c .before .before .before .before .before .before .before .before .args .message) in
     let f : length m < 2 ^ 64 = omega arith in
-    at-once compress m H0 digest f (c .before .before .before .begin .ensures) (c .before .before .before .before .before .of-blocks .ensures) (c .last-digest .ensures)
+    at-once compress m H0 digest f (c .before .before .before .begin .ensures) (c .before .before .before .before .before .compress-blocks .ensures) (c .last-digest .ensures)
 
 pub digest-spec : {M : Type 1} → statement M
 digest-spec = tie.close (tie.spec (λ c κs. search needs) (λ c κs. search needs) last-digest-requires returns)

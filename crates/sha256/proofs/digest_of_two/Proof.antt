@@ -6,7 +6,7 @@ use denote.Ref.{now}
 use Rattle.fips180.specs.Stream.{Progress}
 use Rattle.fips180.proofs.Absorbing.{block-kept, closed-law}
 use Rattle.fips180.proofs.Stream.{absorbed-append}
-use Rattle.sha256_block.specs.Fips180.{compress, H0, digest}
+use Rattle.fips180.specs.Sha256.{compress, H0, digest}
 use Rattle.sha256.specs.Stream.{started, absorbed}
 use Rattle.sha256.proofs.Stream.{digest-law}
 use borrow.Author.Needs.{needs}

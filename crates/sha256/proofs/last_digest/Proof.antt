@@ -1,6 +1,6 @@
 -- `sha256::last_digest` meets its contract: the last hash value's bytes.
 use mathlib.Core.Path.{ap, _∙_}
-use Rattle.sha256_block.specs.Fips180.{digest}
+use Rattle.fips180.specs.Sha256.{digest}
 use borrow.Author.Needs.{needs}
 use Rattle.sha256.proofs.last_digest.Statement.{statement}
 use Rattle.sha256.proofs.last_digest.Tie as tie

@@ -6,7 +6,7 @@ use native.Mathlib.Omega.{arith}
 use lib.ListN.{length, getD, take, drop, replicate}
 use lib.Seq.{paste}
 use Rattle.slices.specs.Numbers.{be32}
-use Rattle.sha256_block.specs.Fips180.{digest}
+use Rattle.fips180.specs.Sha256.{digest}
 use Rattle.slices.proofs.Copies.{copied-part}
 
 -- the digest's first j words, and zeros after them

@@ -4,7 +4,7 @@ use mathlib.Core.List.{List}
 use Prim.Native.Nat.{ℕ, suc}
 use lib.ListN.{getD}
 use Rattle.fips180.specs.Sha256.{round}
-use Rattle.sha256_block.specs.Rounds.{runs}
+use Rattle.sha256_block.specs.Internal.{runs}
 
 pub none : (k w s : List ℕ) → s ≡ runs k w s 0
 unfolding runs

@@ -3,11 +3,13 @@ use borrow.Author.Needs.{needs}
 use denote.Ref.{now}
 use lib.ListN.{length}
 use Rattle.outcome.proofs.Handing.{handed}
+use Rattle.ketvaulo.specs.Hashes.{digestAnswer, digestBuffer}
 use Rattle.ketvaulo.proofs.Putting.{put-answer, put-buffer}
 use Rattle.ketvaulo.proofs.hashes.put_digest.Statement.{statement}
 use Rattle.ketvaulo.proofs.hashes.put_digest.Tie as tie
 
 returns : tie.Need-returns
+unfolding digestAnswer digestBuffer
 returns c =
     let p = c .before .before .before in
     let a = p .before .before .before .before .args in

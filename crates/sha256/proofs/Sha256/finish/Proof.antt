@@ -3,7 +3,7 @@ use mathlib.Core.Path.{_≡_, sym, _∙_}
 use Prim.Native.Nat.{_^_, _<_}
 use lib.ListN.{length}
 use Rattle.fips180.proofs.Stream.{finished-closing}
-use Rattle.sha256_block.specs.Fips180.{compress, digest}
+use Rattle.fips180.specs.Sha256.{compress, digest}
 use Rattle.sha256.specs.Stream.{progress}
 use borrow.Author.Needs.{needs}
 use Rattle.sha256.proofs.Sha256.finish.Statement.{statement}

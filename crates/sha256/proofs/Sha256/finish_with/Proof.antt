@@ -7,7 +7,7 @@ use borrow.Author.Needs.{needs}
 use denote.Ref.{now}
 use lib.ListN.{length, take}
 use Rattle.fips180.proofs.Absorbing.{block-kept, closed-law, absorbedAll, next-part, all-six}
-use Rattle.sha256_block.specs.Fips180.{compress, digest}
+use Rattle.fips180.specs.Sha256.{compress, digest}
 use Rattle.sha256.specs.Stream.{progress}
 use Rattle.sha256.specs.Internal.{parts}
 use Rattle.sha256.proofs.Sha256.finish_with.Statement.{statement}

@@ -1,6 +1,6 @@
 -- `sha256::Sha256::new` meets its contract: its table is the first hash value.
 use mathlib.Core.Path.{refl}
-use Rattle.sha256_block.specs.Fips180.{H0}
+use Rattle.fips180.specs.Sha256.{H0}
 use Rattle.sha256.proofs.Sha256.new.Statement.{statement}
 use Rattle.sha256.proofs.Sha256.new.Tie as tie
 
