@@ -2,7 +2,7 @@
 -- The struct for C has 32 bits for a count, a length and a position. A conversion takes the low 32 bits of any; of what the calls answer that loses nothing.
 use Prim.Native.Nat.{_%_, _^_}
 use Rattle.refusal.specs.Answers.{Answer, returned, numberIn}
-use Rattle.area.specs.Area.{AreaAnswer, answered}
+use Rattle.area_format.specs.Area.{AreaAnswer, answered}
 use Rattle.offer_rules.specs.Answers.{FirstAnswer, carryOn, ask}
 use Rattle.key_frame.specs.declared.KeyFields.{KeyFields}
 use Rattle.outcome.specs.KeyAttributes.{keyTold}
