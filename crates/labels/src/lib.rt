@@ -23,7 +23,7 @@ use refusal::Refusal;
 
 // Tests the syntax of a label that 2 and 3 let pass: 32. Whether it is exempt is looked up only on a breach.
 fn check_syntax(label: &[u8]) -> Checked
-    requires { ⌜ 1 ≤ length (now label) ⌝ }
+    requires { ⌜ (1 ≤ length (now label)) × (length (now label) ≤ 255) ⌝ }
     ensures { λ r. ⌜ checkedAs r ≡ check32 (now (label .entry)) ⌝ }
 {
     if !is_breach(label) {

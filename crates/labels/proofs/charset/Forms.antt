@@ -5,7 +5,7 @@ use mathlib.Core.Bool.{Bool, true, false, cond, _&&_}
 use mathlib.Core.List.{List, [], _∷_}
 use lib.ListN.{length}
 use Rattle.refusal.specs.Checks.{within}
-use Rattle.refusal.proofs.Passing.{within-low}
+use Rattle.refusal.proofs.Passing.{within-high, within-low}
 use Rattle.labels.specs.Bytes.{every, scanFrom, firstBad}
 use Rattle.labels.specs.declared.charset.Scan.{Scan}
 use Rattle.labels.specs.declared.charset.Scan.the-variants.{BadAt}
@@ -39,11 +39,17 @@ pub scanned-form : (p : ℕ → Bool) (longest : ℕ) (s : List ℕ) {f : Scan} 
 unfolding formOf
 scanned-form p longest s h e = rw (h, e)
 
--- a well-formed text has a byte
-pub form-low : (p : ℕ → Bool) (longest : ℕ) (s : List ℕ) → WellFormed ≡ formOf p longest s → 1 ≤ length s
+-- a well-formed text is of an admitted length: it has a byte, and no more than the longest
+right-length : (p : ℕ → Bool) (longest : ℕ) (s : List ℕ) → WellFormed ≡ formOf p longest s → within 1 longest (length s) ≡ true
 unfolding formOf
-form-low p longest s e = within-low _ _ _ (go (within 1 longest (length s)) (firstBad p s) e)
+right-length p longest s e = go (within 1 longest (length s)) (firstBad p s) e
   where
     go : (t : Bool) (f : Scan) → WellFormed ≡ cond t (scanForm f) WrongLength → t ≡ true
     go true f e = refl
     go false f e = cc
+
+pub form-low : (p : ℕ → Bool) (longest : ℕ) (s : List ℕ) → WellFormed ≡ formOf p longest s → 1 ≤ length s
+form-low p longest s e = within-low _ _ _ (right-length p longest s e)
+
+pub form-high : (p : ℕ → Bool) (longest : ℕ) (s : List ℕ) → WellFormed ≡ formOf p longest s → length s ≤ longest
+form-high p longest s e = within-high _ _ _ (right-length p longest s e)

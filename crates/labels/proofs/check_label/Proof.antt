@@ -1,12 +1,14 @@
 use mathlib.Core.Path.{sym, _∙_}
 use borrow.Author.Needs.{needs}
-use Rattle.labels.proofs.charset.Forms.{form-low}
+use Rattle.labels.proofs.charset.Forms.{form-low, form-high}
 use Rattle.labels.proofs.Labels.{left-to-syntax, length-refused, byte-refused}
 use Rattle.labels.proofs.check_label.Statement.{statement}
 use Rattle.labels.proofs.check_label.Tie as tie
 
 check-syntax-requires : tie.Need-check-syntax-requires
-check-syntax-requires c κs = form-low _ _ _ (sym (c .enum-told .given .1) ∙ c .before .before .form-of .ensures)
+check-syntax-requires c κs =
+    let well = sym (c .enum-told .given .1) ∙ c .before .before .form-of .ensures in
+    (form-low _ _ _ well, form-high _ _ _ well)
 
 returns : tie.Need-returns
 returns c = left-to-syntax _ (sym (c .before .enum-told .given .1) ∙ c .before .before .before .form-of .ensures) (c .check-syntax .ensures)

@@ -1,9 +1,12 @@
 -- How often a byte stands in a text: by the text's first byte, and in a loop that goes through it.
 use Prim.Native.Nat.{ℕ, suc, _+_, _≤_, _<_}
 use mathlib.Core.Path.{_≡_, refl, ap, _∙_}
+use mathlib.Core.Bool.{Bool, true, false, cond}
 use mathlib.Core.List.{List, [], _∷_}
 use borrow.Author.Tests.{eq-eqb, ne-eqb}
 use native.Mathlib.Numerals.{add-one}
+use native.Mathlib.Omega.{arith}
+use lib.Dec.{eqb}
 use lib.ListN.{length, getD, drop, drop-of-length-le}
 use lib.Seq.{drop-cons}
 use Rattle.labels.specs.Syntax.{count}
@@ -22,11 +25,22 @@ unfolding count
 count-none b = refl
 
 -- what is still to be counted from i on: the byte at i, and the rest
-pub count-at : (b : ℕ) (s : List ℕ) (i : ℕ) → i < length s → getD s i 0 ≡ b → count b (drop i s) ≡ suc (count b (drop (i + 1) s))
-count-at b s i h e = rw (add-one, drop-cons s i 0) (count-hit b (getD s i 0) (drop (suc i) s) e)
+pub count-step : (b : ℕ) (s : List ℕ) (i : ℕ) → i < length s → count b (drop i s) ≡ cond (eqb (getD s i 0) b) 1 0 + count b (drop (i + 1) s)
+unfolding count
+count-step b s i h = rw (add-one, drop-cons s i 0) (go (eqb (getD s i 0) b))
+  where
+    go : (t : Bool) → cond t (suc (count b (drop (suc i) s))) (count b (drop (suc i) s)) ≡ cond t 1 0 + count b (drop (suc i) s)
+    go true = omega arith
+    go false = omega arith
 
-pub count-past : (b : ℕ) (s : List ℕ) (i : ℕ) → i < length s → (getD s i 0 ≡ b → ⊥) → count b (drop i s) ≡ count b (drop (i + 1) s)
-count-past b s i h e = rw (add-one, drop-cons s i 0) (count-miss b (getD s i 0) (drop (suc i) s) e)
+one-few : (t : Bool) → cond t 1 0 ≤ 1
+one-few true = omega arith
+one-few false = omega arith
+
+-- the same in a loop, in which so many are counted so far and r is the byte's own part
+pub count-next : (b : ℕ) (s : List ℕ) (i sum r : ℕ) → i < length s → count b s ≡ sum + count b (drop i s) → r ≡ cond (eqb (getD s i 0) b) 1 0
+    → (r ≤ 1) × (count b s ≡ (sum + r) + count b (drop (i + 1) s))
+count-next b s i sum r h e o = (rw o (one-few (eqb (getD s i 0) b)), omega (arith, count-step b s i h, e, o))
 
 pub count-end : (b : ℕ) (s : List ℕ) (i : ℕ) → length s ≤ i → count b (drop i s) ≡ 0
 count-end b s i h = ap (count b) (drop-of-length-le s h) ∙ count-none b

@@ -7,10 +7,10 @@ use Rattle.labels.proofs.syntax.is_breach.Tie as tie
 returns : tie.Need-returns
 unfolding breaches
 returns c =
-    let p = c .before .before in
-    rw (p .before .before .count-byte .ensures, p .before .count-byte2 .ensures, p .count-byte3 .ensures) refl
+    let m = c .before .before .before .before .count-marks .ensures in
+    rw (m .0, m .1 .0, m .1 .1) refl
 
 pub is-breach-spec : {M : Type 1} → statement M
 is-breach-spec =
     tie.close
-    (tie.spec (λ c κs. tt) (λ c κs. tt) (λ c κs. tt) (λ c. search needs) (λ c. search needs) (λ c. search needs) returns)
+    (tie.spec (λ c κs. search needs) (λ c. search needs) (λ c. search needs) (λ c. search needs) returns)
