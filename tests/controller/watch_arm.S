@@ -55,18 +55,13 @@ watch_end:
     stmia r0!, {r1-r3}
     mov r1, ip
     str r1, [r0]
-    subs r0, #12
-    ldr r1, [r0]
-    mov r0, lr
-    mov ip, r0
-    ldr r0, =watch_result
-    stmia r0!, {r1-r3}
-    mov r1, ip
-    str r1, [r0]
     ldr r1, =0x40000004
     ldr r1, [r1]
     ldr r2, =watch_after
     str r1, [r2]
+    ldr r0, =watch_result
+    mov r1, lr
+    str r1, [r0]
     ldr r1, =watch_wipes
     ldr r1, [r1]
     cmp r1, #0
@@ -83,8 +78,9 @@ watch_end:
     ldr r0, =watch_saved
     ldr r1, [r0, #32]
     mov lr, r1
-    ldr r0, =watch_result
+    ldr r0, =watch_registers
     ldmia r0!, {r1-r3}
+    ldr r0, =watch_result
     ldr r0, [r0]
     bx lr
     .ltorg
@@ -94,7 +90,7 @@ watch_end:
 watch_before: .space 8
 watch_after: .space 8
 watch_saved: .space 40   /* r1 to r7, r0, lr, the call */
-watch_result: .space 16  /* r1 to r3, r0 */
+watch_result: .space 4   /* r0 */
     .globl watch_image, watch_wipes, watch_before, watch_after, watch_registers
 watch_registers: .space 4 * REGISTERS  /* r1 to r3, ip */
 watch_image: .space WATCHED

@@ -31,15 +31,18 @@ watch_start:
 
     .p2align 2
 watch_end:
-    la ra, watch_registers
-    .set at, 0
-    .irp name, t0, t1, t2, t3, t4, t5, t6, a2, a3, a4, a5, a6, a7
-    sw \name, at(ra)
+    csrr ra, minstret
+    csrw mscratch, t0
+    la t0, watch_registers
+    .set at, 4
+    .irp name, t1, t2, t3, t4, t5, t6, a2, a3, a4, a5, a6, a7
+    sw \name, at(t0)
     .set at, at + 4
     .endr
-    csrr t2, minstret
+    csrr t1, mscratch
+    sw t1, 0(t0)
     la t0, watch_after
-    sw t2, 0(t0)
+    sw ra, 0(t0)
     csrr t2, minstreth
     sw t2, 4(t0)
     la t0, watch_result
