@@ -102,10 +102,12 @@ fn last_value(h: [u32; 5], block: &mut [u8; 64], count: u64) -> [u32; 5]
 fn whole(h: [u32; 5], message: &[u8]) -> [u32; 5]
     ensures { λ r. ⌜ r ≡ Fips180.blocks (length (now (message .entry)) / 64) h (now (message .entry)) ⌝ }
 {
-    if message.len() < 64 {
-        return h;
+    let mut value = h;
+    if 64 <= message.len() {
+        let next = compress_blocks(value, message);
+        value = next;
     }
-    compress_blocks(h, message)
+    value
 }
 
 // The digest of `before` bytes in whole blocks, after which the hash value is h, and of a message after them. The bytes are counted modulo 2^64.
@@ -113,9 +115,9 @@ fn digest_from(h: [u32; 5], before: u64, message: &[u8]) -> [u8; DIGEST]
     requires { ⌜ before % 64 ≡ 0 ⌝ }
     ensures { λ r. ⌜ r ≡ digestFrom h before (now (message .entry)) ⌝ }
 {
+    let count = std::num::wrapping_add_u64(before, message.len() as u64);
     let value = whole(h, message);
     let mut block = marked(message);
-    let count = std::num::wrapping_add_u64(before, message.len() as u64);
     to_bytes(last_value(value, &mut block, count))
 }
 

@@ -1,4 +1,4 @@
--- `sha1::digest_from` meets its contract: the whole blocks, the last bytes in a block of their own, and the count of all.
+-- `sha1::digest_from` meets its contract: the count of all bytes, the whole blocks, and the last bytes in a block of their own.
 use mathlib.Core.Path.{_≡_}
 use Prim.Native.Nat.{_^_, _<_}
 use denote.Ref.{now}
@@ -9,10 +9,10 @@ use Rattle.sha1.proofs.digest_from.Tie as tie
 
 returns : tie.Need-returns
 returns c =
-    let n = c .before .before .before in
-    let b = n .before in
+    let b = c .before .before .before in
     let w = b .before in
-    let k = w .before .before in
+    let n = w .before in
+    let k = n .before .before in
     let small : k .args .before < 2 ^ 64 = search needs in
     from-parts (k .args .h) (k .args .before) (now (k .args .message)) small (k .pre) (w .whole .ensures) (b .marked .ensures) (n .wrapping-add-u64 .ensures) (c .before .last-value .ensures)
     (c .to-bytes .ensures)

@@ -9,15 +9,12 @@ use borrow.Author.Needs.{needs}
 use Rattle.sha1.proofs.whole.Statement.{statement}
 use Rattle.sha1.proofs.whole.Tie as tie
 
-returns : tie.Need-returns
+returns-2 : tie.Need-returns-2
 unfolding blocksBy
-returns c =
+returns-2 c =
     let a = c .before .before .args in
     let none : 0 ≡ length (now (a .message)) / 64 = omega arith in
     ap (λ (n : ℕ). blocks n (a .h) (now (a .message))) none
 
-returns-2 : tie.Need-returns-2
-returns-2 c = search needs
-
 pub whole-spec : {M : Type 1} → statement M
-whole-spec = tie.close (tie.spec returns (λ c κs. search needs) returns-2)
+whole-spec = tie.close (tie.spec (λ c κs. search needs) (λ c. search needs) returns-2)
