@@ -5,7 +5,7 @@
 #   Separated                          right after an .antt file, or after another such name: a name in that file
 #   usage/no_zero_byte                 a crate's must-fail edit
 #   usage::usage_key                   a function of a crate
-#   kv_usage_key                       a call of the header
+#   kv_usage_key                       a call of the header, or a function of one beside it
 # A word that ends in a slash, other words, and those of docs/EXPERIMENTS.md are not looked up. Last line: 'N passed, M failed'.
 set -u
 cd "$(dirname "$0")/.." && . tools/common.sh || exit 1
@@ -26,7 +26,7 @@ words() {
 
 is_there() { [ -e "$1" ] || [ -e "crates/$1" ] || [ -e "docs/$1" ] || [ -e "crates/${1%%/*}/must-fail/${1#*/}.edit" ]; }
 is_function() { grep -qE "fn ${1##*::}[(<]" "crates/${1%%::*}/src/"*.rt 2>/dev/null; }
-is_call() { awk -f tools/header.awk include/ketvaulo.h | cut -d ' ' -f 1 | grep -qx "$1"; }
+is_call() { awk -f tools/header.awk include/ketvaulo.h | cut -d ' ' -f 1 | grep -qx "$1" || grep -q "[ *]$1(" include/ketvaulo_*.h; }
 is_in() { grep -qwF -- "$1" "$2" 2>/dev/null; }
 
 # look_up DOCUMENT WORD FILE: checks a word that is of one of the kinds above
