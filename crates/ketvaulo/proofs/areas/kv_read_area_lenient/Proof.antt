@@ -1,12 +1,9 @@
-use Rattle.outcome.proofs.Counts.{handed-area}
 use borrow.Author.Needs.{needs}
 use Rattle.ketvaulo.proofs.areas.kv_read_area_lenient.Statement.{statement}
 use Rattle.ketvaulo.proofs.areas.kv_read_area_lenient.Tie as tie
 
 returns : tie.Need-returns
-returns c =
-    let p = c .before .before .before in
-    (handed-area (p .read-area .result) _ _ _ _ (c .returned .ensures) (p .read-area .ensures .0), p .read-area .ensures .1)
+returns c = c .before .before .read .ensures
 
 pub kv-read-area-lenient-spec : {M : Type 1} → statement M
-kv-read-area-lenient-spec = tie.close (tie.spec (λ c κs. search needs) (λ c κs. search needs) (λ c. search needs) returns)
+kv-read-area-lenient-spec = tie.close (tie.spec (λ c κs. search needs) (λ c. search needs) returns)
