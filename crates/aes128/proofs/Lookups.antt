@@ -6,31 +6,31 @@ use native.Mathlib.Omega.{arith}
 use lib.Bits.{bit_xor, xor_comm}
 use lib.ListN.{get_or}
 use Rattle.aes_sbox.specs.Field.{mul}
-use Rattle.aes_sbox.specs.Sbox.{sboxOf, invSboxOf}
-use Rattle.aes_sbox.specs.Tables.{sbox, invSbox, mixedSbox, unmixedSbox, mixedWord, unmixedWord}
-use Rattle.aes_sbox.proofs.Tables.{sbox-rule, invSbox-rule, mixed-rule, unmixed-rule, sboxOf-byte, invSboxOf-byte}
-use Rattle.fips197.specs.State.{State, Column, column, Block, block, columns, bytes, subBytes, invSubBytes, mixByte, invMixByte, mixColumn, invMixColumn, mixColumns, invMixColumns}
+use Rattle.aes_sbox.specs.Sbox.{sbox_of, inv_sbox_of}
+use Rattle.aes_sbox.specs.Tables.{sbox, inv_sbox, mixed_sbox, unmixed_sbox, mixed_word, unmixed_word}
+use Rattle.aes_sbox.proofs.Tables.{sbox_rule, inv_sbox_rule, mixed_rule, unmixed_rule, sbox_of_byte, inv_sbox_of_byte}
+use Rattle.fips197.specs.State.{State, Column, column, Block, block, columns, bytes, sub_bytes, inv_sub_bytes, mix_byte, inv_mix_byte, mix_column, inv_mix_column, mix_columns, inv_mix_columns}
 use Rattle.fips197.proofs.Four.{four}
 use Rattle.fips197.proofs.Mix.{exchange}
-use Rattle.fips197.proofs.Steps.{mul-byte, xor-byte}
+use Rattle.fips197.proofs.Steps.{mul_byte, xor_byte}
 use Rattle.fips197.proofs.Xor.{xor_assoc}
 use Rattle.aes128.proofs.columns.Words.{xor-word, turn-word, column-word}
-use Rattle.aes128.specs.Internal.{word_of, columnOf, turned, laidOut, byte_of, LookedUp, sum_of, sumColumn}
-use Rattle.aes128.proofs.Square.{laid_out}
+use Rattle.aes128.specs.Internal.{word_of, column_of, turned, laid_out, byte_of, LookedUp, sum_of, sum_column}
+use Rattle.aes128.proofs.Square.{laid_out_lem}
 
 -- ---- the sum of four words as the code takes it
 
 pub sum_by : (w : List ℕ) (x y z : ℕ) (r : List ℕ) → x ≡ turned (get_or w 1 0) → y ≡ turned (bit_xor (get_or w 2 0) x)
-    → z ≡ turned (bit_xor (get_or w 3 0) y) → r ≡ columnOf (bit_xor (get_or w 0 0) z) → r ≡ sumColumn w
+    → z ≡ turned (bit_xor (get_or w 3 0) y) → r ≡ column_of (bit_xor (get_or w 0 0) z) → r ≡ sum_column w
 sum_by w x y z r ex ey ez er =
     let f : y ≡ turned (bit_xor (get_or w 2 0) (turned (get_or w 1 0))) = ey ∙ ap (λ (n : ℕ). turned (bit_xor (get_or w 2 0) n)) ex in
-    er ∙ ap (λ (n : ℕ). columnOf (bit_xor (get_or w 0 0) n)) (ez ∙ ap (λ (n : ℕ). turned (bit_xor (get_or w 3 0) n)) f)
+    er ∙ ap (λ (n : ℕ). column_of (bit_xor (get_or w 0 0) n)) (ez ∙ ap (λ (n : ℕ). turned (bit_xor (get_or w 3 0) n)) f)
 
 -- ---- the sum of four words, byte by byte
 
 sum-word : {a0 a1 a2 a3 b0 b1 b2 b3 c0 c1 c2 c3 d0 d1 d2 d3 : ℕ}
     → Column (a0 ∷ a1 ∷ a2 ∷ a3 ∷ []) → Column (b0 ∷ b1 ∷ b2 ∷ b3 ∷ []) → Column (c0 ∷ c1 ∷ c2 ∷ c3 ∷ []) → Column (d0 ∷ d1 ∷ d2 ∷ d3 ∷ [])
-    → columnOf (sum_of (word_of a0 a1 a2 a3) (word_of b0 b1 b2 b3) (word_of c0 c1 c2 c3) (word_of d0 d1 d2 d3))
+    → column_of (sum_of (word_of a0 a1 a2 a3) (word_of b0 b1 b2 b3) (word_of c0 c1 c2 c3) (word_of d0 d1 d2 d3))
     ≡ bit_xor a0 (bit_xor d1 (bit_xor c2 b3))
     ∷ bit_xor a1 (bit_xor d2 (bit_xor c3 b0))
     ∷ bit_xor a2 (bit_xor d3 (bit_xor c0 b1))
@@ -38,22 +38,22 @@ sum-word : {a0 a1 a2 a3 b0 b1 b2 b3 c0 c1 c2 c3 d0 d1 d2 d3 : ℕ}
     ∷ []
 sum-word {a0} {a1} {a2} {a3} {b0} {b1} {b2} {b3} {c0} {c1} {c2} {c3} {d0} {d1} {d2} {d3}
     (column a0< a1< a2< a3<) (column b0< b1< b2< b3<) (column c0< c1< c2< c3<) (column d0< d1< d2< d3<) =
-    let cb0 = xor-byte c0< b1< in
-    let cb1 = xor-byte c1< b2< in
-    let cb2 = xor-byte c2< b3< in
-    let cb3 = xor-byte c3< b0< in
-    let e1 = xor-byte d0< cb1 in
-    let e2 = xor-byte d1< cb2 in
-    let e3 = xor-byte d2< cb3 in
-    let e0 = xor-byte d3< cb0 in
+    let cb0 = xor_byte c0< b1< in
+    let cb1 = xor_byte c1< b2< in
+    let cb2 = xor_byte c2< b3< in
+    let cb3 = xor_byte c3< b0< in
+    let e1 = xor_byte d0< cb1 in
+    let e2 = xor_byte d1< cb2 in
+    let e3 = xor_byte d2< cb3 in
+    let e0 = xor_byte d3< cb0 in
     let p : turned (bit_xor (word_of c0 c1 c2 c3) (turned (word_of b0 b1 b2 b3))) ≡ word_of (bit_xor c1 b2) (bit_xor c2 b3) (bit_xor c3 b0) (bit_xor c0 b1)
     = ap turned (ap (bit_xor (word_of c0 c1 c2 c3)) (turn-word b0 b1 b2 b3 b0< b1< b2< b3<) ∙ xor-word c0 c1 c2 c3 b1 b2 b3 b0 c0< c1< c2< b1< b2< b3<)
     ∙ turn-word _ _ _ _ cb0 cb1 cb2 cb3 in
     let q : turned (bit_xor (word_of d0 d1 d2 d3) (turned (bit_xor (word_of c0 c1 c2 c3) (turned (word_of b0 b1 b2 b3)))))
     ≡ word_of (bit_xor d1 (bit_xor c2 b3)) (bit_xor d2 (bit_xor c3 b0)) (bit_xor d3 (bit_xor c0 b1)) (bit_xor d0 (bit_xor c1 b2))
     = ap turned (ap (bit_xor (word_of d0 d1 d2 d3)) p ∙ xor-word d0 d1 d2 d3 _ _ _ _ d0< d1< d2< cb1 cb2 cb3) ∙ turn-word _ _ _ _ e1 e2 e3 e0 in
-    ap columnOf (ap (bit_xor (word_of a0 a1 a2 a3)) q ∙ xor-word a0 a1 a2 a3 _ _ _ _ a0< a1< a2< e2 e3 e0)
-    ∙ column-word _ _ _ _ (xor-byte a0< e2) (xor-byte a1< e3) (xor-byte a2< e0) (xor-byte a3< e1)
+    ap column_of (ap (bit_xor (word_of a0 a1 a2 a3)) q ∙ xor-word a0 a1 a2 a3 _ _ _ _ a0< a1< a2< e2 e3 e0)
+    ∙ column-word _ _ _ _ (xor_byte a0< e2) (xor_byte a1< e3) (xor_byte a2< e0) (xor_byte a3< e1)
 
 -- ---- a sum of four, in the order in which each row of equations 5.6 and 5.10 has it
 
@@ -75,18 +75,18 @@ module _ (x y z w : ℕ) where
   row2 = row0 ∙ xor_comm (bit_xor x w) (bit_xor z y)
 
 module _ (a b c d : ℕ) (ha : a < 256) (hb : b < 256) (hc : c < 256) (hd : d < 256) where
-  mixed-sum : columnOf (sum_of (mixedWord a) (mixedWord b) (mixedWord c) (mixedWord d)) ≡ mixColumn (a ∷ b ∷ c ∷ d ∷ [])
-  unfolding mixColumn mixByte
+  mixed-sum : column_of (sum_of (mixed_word a) (mixed_word b) (mixed_word c) (mixed_word d)) ≡ mix_column (a ∷ b ∷ c ∷ d ∷ [])
+  unfolding mix_column mix_byte
   mixed-sum =
-      let w : (s : ℕ) → s < 256 → Column (mul s 2 ∷ s ∷ s ∷ mul s 3 ∷ []) = λ s h. column (mul-byte h 2) h h (mul-byte h 3) in
+      let w : (s : ℕ) → s < 256 → Column (mul s 2 ∷ s ∷ s ∷ mul s 3 ∷ []) = λ s h. column (mul_byte h 2) h h (mul_byte h 3) in
       sum-word (w a ha) (w b hb) (w c hc) (w d hd)
       ∙ four (row0 (mul a 2) d c (mul b 3)) (row1 a d (mul c 3) (mul b 2)) (row2 a (mul d 3) (mul c 2) b) (row3 (mul a 3) (mul d 2) c b)
 
-  unmixed-sum : columnOf (sum_of (unmixedWord a) (unmixedWord b) (unmixedWord c) (unmixedWord d)) ≡ invMixColumn (a ∷ b ∷ c ∷ d ∷ [])
-  unfolding invMixColumn invMixByte
+  unmixed-sum : column_of (sum_of (unmixed_word a) (unmixed_word b) (unmixed_word c) (unmixed_word d)) ≡ inv_mix_column (a ∷ b ∷ c ∷ d ∷ [])
+  unfolding inv_mix_column inv_mix_byte
   unmixed-sum =
       let w : (s : ℕ) → s < 256 → Column (mul s 0x0e ∷ mul s 0x09 ∷ mul s 0x0d ∷ mul s 0x0b ∷ [])
-      = λ s h. column (mul-byte h 0x0e) (mul-byte h 0x09) (mul-byte h 0x0d) (mul-byte h 0x0b) in
+      = λ s h. column (mul_byte h 0x0e) (mul_byte h 0x09) (mul_byte h 0x0d) (mul_byte h 0x0b) in
       sum-word (w a ha) (w b hb) (w c hc) (w d hd) ∙ four
       (row0 (mul a 0x0e) (mul d 0x09) (mul c 0x0d) (mul b 0x0b))
       (row1 (mul a 0x09) (mul d 0x0d) (mul c 0x0b) (mul b 0x0e))
@@ -96,7 +96,7 @@ module _ (a b c d : ℕ) (ha : a < 256) (hb : b < 256) (hc : c < 256) (hd : d < 
 -- ---- sixteen look-ups in a table whose entries are f of the byte
 
 module _ (table : List ℕ) (f : ℕ → ℕ) (rule : (k : ℕ) → k < 256 → get_or table k 0 ≡ f k) where
-  looked : (b w : State) → Block b → LookedUp table b w → laidOut w ≡ columns (bytes f) b
+  looked : (b w : State) → Block b → LookedUp table b w → laid_out w ≡ columns (bytes f) b
   looked b w (block (column h00 h10 h20 h30) (column h01 h11 h21 h31) (column h02 h12 h22 h32) (column h03 h13 h23 h33)) (sq, each) =
       let at : (i : ℕ) → i < 16 → byte_of b i < 256 → byte_of w i ≡ f (byte_of b i) = λ i h small. each i h ∙ rule (byte_of b i) small in
       four
@@ -108,37 +108,37 @@ module _ (table : List ℕ) (f : ℕ → ℕ) (rule : (k : ℕ) → k < 256 → 
 -- the columns of their sums
 module _ (table : List ℕ) (word sub : ℕ → ℕ) (mix : List ℕ → List ℕ)
     (rule : (k : ℕ) → k < 256 → get_or table k 0 ≡ word (sub k)) (sub-byte : (k : ℕ) → k < 256 → sub k < 256)
-    (sum : (a b c d : ℕ) → a < 256 → b < 256 → c < 256 → d < 256 → columnOf (sum_of (word a) (word b) (word c) (word d)) ≡ mix (a ∷ b ∷ c ∷ d ∷ [])) where
-  one : (w : List ℕ) → Column w → sumColumn (bytes (λ (k : ℕ). word (sub k)) w) ≡ mix (bytes sub w)
+    (sum : (a b c d : ℕ) → a < 256 → b < 256 → c < 256 → d < 256 → column_of (sum_of (word a) (word b) (word c) (word d)) ≡ mix (a ∷ b ∷ c ∷ d ∷ [])) where
+  one : (w : List ℕ) → Column w → sum_column (bytes (λ (k : ℕ). word (sub k)) w) ≡ mix (bytes sub w)
   one w (column ha hb hc hd) = sum _ _ _ _ (sub-byte _ ha) (sub-byte _ hb) (sub-byte _ hc) (sub-byte _ hd)
 
-  each-column : (b : State) → Block b → columns sumColumn (columns (bytes (λ (k : ℕ). word (sub k))) b) ≡ columns (λ (w : List ℕ). mix (bytes sub w)) b
+  each-column : (b : State) → Block b → columns sum_column (columns (bytes (λ (k : ℕ). word (sub k))) b) ≡ columns (λ (w : List ℕ). mix (bytes sub w)) b
   each-column b (block p q r t) = four (one _ p) (one _ q) (one _ r) (one _ t)
 
-  summed : (b w : State) → Block b → LookedUp table b w → columns sumColumn w ≡ columns (λ (x : List ℕ). mix (bytes sub x)) b
-  summed b w h e = ap (columns sumColumn) (looked table (λ (k : ℕ). word (sub k)) rule b w h e) ∙ each-column b h
+  summed : (b w : State) → Block b → LookedUp table b w → columns sum_column w ≡ columns (λ (x : List ℕ). mix (bytes sub x)) b
+  summed b w h e = ap (columns sum_column) (looked table (λ (k : ℕ). word (sub k)) rule b w h e) ∙ each-column b h
 
 -- ---- the steps of the state s, whose bytes are looked up as b
 
-module _ (s b : State) (same : b ≡ laidOut s) (byte : Block b) where
-  pub sub_by : (r : State) → LookedUp sbox b r → r ≡ subBytes s
-  unfolding subBytes
-  sub_by r e = laid_out r e.0 ∙ looked sbox sboxOf sbox-rule b r byte e ∙ ap (columns (bytes sboxOf)) same
+module _ (s b : State) (same : b ≡ laid_out s) (byte : Block b) where
+  pub sub_by : (r : State) → LookedUp sbox b r → r ≡ sub_bytes s
+  unfolding sub_bytes
+  sub_by r e = laid_out_lem r e.0 ∙ looked sbox sbox_of sbox_rule b r byte e ∙ ap (columns (bytes sbox_of)) same
 
-  pub inv-sub-by : (r : State) → LookedUp invSbox b r → r ≡ invSubBytes s
-  unfolding invSubBytes
-  inv-sub-by r e = laid_out r e.0 ∙ looked invSbox invSboxOf invSbox-rule b r byte e ∙ ap (columns (bytes invSboxOf)) same
+  pub inv-sub-by : (r : State) → LookedUp inv_sbox b r → r ≡ inv_sub_bytes s
+  unfolding inv_sub_bytes
+  inv-sub-by r e = laid_out_lem r e.0 ∙ looked inv_sbox inv_sbox_of inv_sbox_rule b r byte e ∙ ap (columns (bytes inv_sbox_of)) same
 
-  pub mix-by : (w r : State) → LookedUp mixedSbox b w → r ≡ columns sumColumn w → r ≡ mixColumns (subBytes s)
-  unfolding mixColumns subBytes
+  pub mix-by : (w r : State) → LookedUp mixed_sbox b w → r ≡ columns sum_column w → r ≡ mix_columns (sub_bytes s)
+  unfolding mix_columns sub_bytes
   mix-by w r e h =
       h
-      ∙ summed mixedSbox mixedWord sboxOf mixColumn mixed-rule sboxOf-byte mixed-sum b w byte e
-      ∙ ap (columns (λ (x : List ℕ). mixColumn (bytes sboxOf x))) same
+      ∙ summed mixed_sbox mixed_word sbox_of mix_column mixed_rule sbox_of_byte mixed-sum b w byte e
+      ∙ ap (columns (λ (x : List ℕ). mix_column (bytes sbox_of x))) same
 
-  pub inv-mix-by : (w r : State) → LookedUp unmixedSbox b w → r ≡ columns sumColumn w → r ≡ invMixColumns (invSubBytes s)
-  unfolding invMixColumns invSubBytes
+  pub inv-mix-by : (w r : State) → LookedUp unmixed_sbox b w → r ≡ columns sum_column w → r ≡ inv_mix_columns (inv_sub_bytes s)
+  unfolding inv_mix_columns inv_sub_bytes
   inv-mix-by w r e h =
       h
-      ∙ summed unmixedSbox unmixedWord invSboxOf invMixColumn unmixed-rule invSboxOf-byte unmixed-sum b w byte e
-      ∙ ap (columns (λ (x : List ℕ). invMixColumn (bytes invSboxOf x))) same
+      ∙ summed unmixed_sbox unmixed_word inv_sbox_of inv_mix_column unmixed_rule inv_sbox_of_byte unmixed-sum b w byte e
+      ∙ ap (columns (λ (x : List ℕ). inv_mix_column (bytes inv_sbox_of x))) same

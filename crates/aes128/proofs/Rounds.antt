@@ -5,39 +5,39 @@ use Prim.Native.Nat.{ℕ, zero, suc, ◌+◌, ◌-◌, ◌<◌}
 use native.Mathlib.Nat.{not-suc-le-zero}
 use native.Mathlib.Numerals.{add-one, sub-one}
 use lib.ListN.{get_or}
-use Rattle.fips197.specs.State.{State, subBytes, invSubBytes, shiftRows, invShiftRows, mixColumns, invMixColumns, addRoundKey}
-use Rattle.fips197.specs.Cipher.{round, rounds, lastRound, cipher, eqInvRound, eqInvRounds, eqInvLastRound, eqInvCipher}
-use Rattle.aes128.specs.Internal.{state_of, laidOut}
+use Rattle.fips197.specs.State.{State, sub_bytes, inv_sub_bytes, shift_rows, inv_shift_rows, mix_columns, inv_mix_columns, add_round_key}
+use Rattle.fips197.specs.Cipher.{round, rounds, last_round, cipher, eq_inv_round, eq_inv_rounds, eq_inv_last_round, eq_inv_cipher}
+use Rattle.aes128.specs.Internal.{state_of, laid_out}
 
 -- ---- the first round key
 
-pub begun-by : (k s a : State) (n : List ℕ) → a ≡ addRoundKey s k → state_of n ≡ laidOut a → state_of n ≡ addRoundKey s k
-unfolding addRoundKey
-begun-by k s a n e h = h ∙ ap laidOut e
+pub begun_by : (k s a : State) (n : List ℕ) → a ≡ add_round_key s k → state_of n ≡ laid_out a → state_of n ≡ add_round_key s k
+unfolding add_round_key
+begun_by k s a n e h = h ∙ ap laid_out e
 
 -- ---- a round: SubBytes of the shifted rows is ShiftRows of the looked-up bytes
 
 module _ (k : State) (t : List ℕ) (s a : State) (e : s ≡ state_of t) where
-  pub round_by : (m r : State) (n : List ℕ) → a ≡ shiftRows s → m ≡ mixColumns (subBytes a) → r ≡ addRoundKey m k → state_of n ≡ laidOut r
+  pub round_by : (m r : State) (n : List ℕ) → a ≡ shift_rows s → m ≡ mix_columns (sub_bytes a) → r ≡ add_round_key m k → state_of n ≡ laid_out r
       → state_of n ≡ round k (state_of t)
-  unfolding round subBytes addRoundKey
+  unfolding round sub_bytes add_round_key
   round_by m r n ea em er en =
-      en ∙ ap laidOut (er ∙ ap (λ (x : State). addRoundKey x k) (em ∙ ap (λ (x : State). mixColumns (subBytes x)) (ea ∙ ap shiftRows e)))
+      en ∙ ap laid_out (er ∙ ap (λ (x : State). add_round_key x k) (em ∙ ap (λ (x : State). mix_columns (sub_bytes x)) (ea ∙ ap shift_rows e)))
 
-  pub last-round-by : (m r : State) → a ≡ shiftRows s → m ≡ subBytes a → r ≡ addRoundKey m k → r ≡ lastRound k (state_of t)
-  unfolding lastRound subBytes
-  last-round-by m r ea em er = er ∙ ap (λ (x : State). addRoundKey x k) (em ∙ ap subBytes (ea ∙ ap shiftRows e))
+  pub last-round-by : (m r : State) → a ≡ shift_rows s → m ≡ sub_bytes a → r ≡ add_round_key m k → r ≡ last_round k (state_of t)
+  unfolding last_round sub_bytes
+  last-round-by m r ea em er = er ∙ ap (λ (x : State). add_round_key x k) (em ∙ ap sub_bytes (ea ∙ ap shift_rows e))
 
-  pub inv-round-by : (m r : State) (n : List ℕ) → a ≡ invShiftRows s → m ≡ invMixColumns (invSubBytes a) → r ≡ addRoundKey m k
-      → state_of n ≡ laidOut r → state_of n ≡ eqInvRound k (state_of t)
-  unfolding eqInvRound invSubBytes addRoundKey
+  pub inv-round-by : (m r : State) (n : List ℕ) → a ≡ inv_shift_rows s → m ≡ inv_mix_columns (inv_sub_bytes a) → r ≡ add_round_key m k
+      → state_of n ≡ laid_out r → state_of n ≡ eq_inv_round k (state_of t)
+  unfolding eq_inv_round inv_sub_bytes add_round_key
   inv-round-by m r n ea em er en =
       en
-      ∙ ap laidOut (er ∙ ap (λ (x : State). addRoundKey x k) (em ∙ ap (λ (x : State). invMixColumns (invSubBytes x)) (ea ∙ ap invShiftRows e)))
+      ∙ ap laid_out (er ∙ ap (λ (x : State). add_round_key x k) (em ∙ ap (λ (x : State). inv_mix_columns (inv_sub_bytes x)) (ea ∙ ap inv_shift_rows e)))
 
-  pub inv-last-round-by : (m r : State) → a ≡ invShiftRows s → m ≡ invSubBytes a → r ≡ addRoundKey m k → r ≡ eqInvLastRound k (state_of t)
-  unfolding eqInvLastRound invSubBytes
-  inv-last-round-by m r ea em er = er ∙ ap (λ (x : State). addRoundKey x k) (em ∙ ap invSubBytes (ea ∙ ap invShiftRows e))
+  pub inv-last-round-by : (m r : State) → a ≡ inv_shift_rows s → m ≡ inv_sub_bytes a → r ≡ add_round_key m k → r ≡ eq_inv_last_round k (state_of t)
+  unfolding eq_inv_last_round inv_sub_bytes
+  inv-last-round-by m r ea em er = er ∙ ap (λ (x : State). add_round_key x k) (em ∙ ap inv_sub_bytes (ea ∙ ap inv_shift_rows e))
 
 -- a turn of the cipher's loop, and its end
 module _ (ks : List State) where
@@ -45,21 +45,21 @@ module _ (ks : List State) where
   unfolding rounds
   round-step i s t u p q = q ∙ ap (round (get_or ks (i + 1) [])) p ∙ rw add-one
 
-  pub cipher-end : (i : ℕ) (s t u r : State) → t ≡ addRoundKey s (get_or ks 0 []) → u ≡ rounds ks i t → i ≡ 9 → r ≡ lastRound (get_or ks 10 []) u
+  pub cipher-end : (i : ℕ) (s t u r : State) → t ≡ add_round_key s (get_or ks 0 []) → u ≡ rounds ks i t → i ≡ 9 → r ≡ last_round (get_or ks 10 []) u
       → r ≡ cipher ks s
   unfolding cipher
-  cipher-end i s t u r p q e h = h ∙ ap (lastRound (get_or ks 10 [])) (q ∙ ap₂ (rounds ks) e p)
+  cipher-end i s t u r p q e h = h ∙ ap (last_round (get_or ks 10 [])) (q ∙ ap₂ (rounds ks) e p)
 
 -- ---- a turn of the loop of the equivalent inverse cipher, and its end
 
 module _ (ks : List State) where
-  pub eq-step : (i : ℕ) (t u : State) → 0 < i → u ≡ eqInvRound (get_or ks i []) t → eqInvRounds ks (i - 1) u ≡ eqInvRounds ks i t
-  unfolding eqInvRounds
+  pub eq-step : (i : ℕ) (t u : State) → 0 < i → u ≡ eq_inv_round (get_or ks i []) t → eq_inv_rounds ks (i - 1) u ≡ eq_inv_rounds ks i t
+  unfolding eq_inv_rounds
   eq-step zero t u h e = absurd (not-suc-le-zero h)
-  eq-step (suc i) t u h e = rw sub-one (ap (eqInvRounds ks i) e)
+  eq-step (suc i) t u h e = rw sub-one (ap (eq_inv_rounds ks i) e)
 
-  pub eq-end : (i : ℕ) (s t u r : State) → t ≡ addRoundKey s (get_or ks 10 []) → eqInvRounds ks i u ≡ eqInvRounds ks 9 t → i ≡ 0
-      → r ≡ eqInvLastRound (get_or ks 0 []) u → r ≡ eqInvCipher ks s
-  unfolding eqInvCipher eqInvRounds
+  pub eq-end : (i : ℕ) (s t u r : State) → t ≡ add_round_key s (get_or ks 10 []) → eq_inv_rounds ks i u ≡ eq_inv_rounds ks 9 t → i ≡ 0
+      → r ≡ eq_inv_last_round (get_or ks 0 []) u → r ≡ eq_inv_cipher ks s
+  unfolding eq_inv_cipher eq_inv_rounds
   eq-end i s t u r p w e h =
-      h ∙ ap (eqInvLastRound (get_or ks 0 [])) (ap (λ (n : ℕ). eqInvRounds ks n u) (sym e) ∙ w ∙ ap (eqInvRounds ks 9) p)
+      h ∙ ap (eq_inv_last_round (get_or ks 0 [])) (ap (λ (n : ℕ). eq_inv_rounds ks n u) (sym e) ∙ w ∙ ap (eq_inv_rounds ks 9) p)

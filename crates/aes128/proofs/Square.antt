@@ -8,7 +8,7 @@ use lib.ListN.{length, get_or, set, length-set}
 use lib.Seq.{get_or-set_same, get_or-set_other}
 use Rattle.fips197.specs.State.{State, bytes}
 use Rattle.fips197.proofs.Four.{four}
-use Rattle.aes128.specs.Internal.{laidOut, byte_of, Square}
+use Rattle.aes128.specs.Internal.{laid_out, byte_of, Square}
 
 -- a state with x at place i
 abbrev pub put : State → ℕ → ℕ → State
@@ -81,18 +81,18 @@ module _ (table : List ℕ) (b r : State) (i x : ℕ) (sq : Square r) (e : x ≡
 
 -- ---- the whole
 
-four-of : {A : Type 0} (d : A) (l : List A) → length l ≡ 4 → l ≡ get_or l 0 d ∷ get_or l 1 d ∷ get_or l 2 d ∷ get_or l 3 d ∷ []
-four-of d [] e = absurd (omega (arith, e))
-four-of d (x0 ∷ []) e = absurd (omega (arith, e))
-four-of d (x0 ∷ x1 ∷ []) e = absurd (omega (arith, e))
-four-of d (x0 ∷ x1 ∷ x2 ∷ []) e = absurd (omega (arith, e))
-four-of d (x0 ∷ x1 ∷ x2 ∷ x3 ∷ []) e = refl
-four-of d (x0 ∷ x1 ∷ x2 ∷ x3 ∷ x4 ∷ l) e = absurd (omega (arith, e))
+four_of : {A : Type 0} (d : A) (l : List A) → length l ≡ 4 → l ≡ get_or l 0 d ∷ get_or l 1 d ∷ get_or l 2 d ∷ get_or l 3 d ∷ []
+four_of d [] e = absurd (omega (arith, e))
+four_of d (x0 ∷ []) e = absurd (omega (arith, e))
+four_of d (x0 ∷ x1 ∷ []) e = absurd (omega (arith, e))
+four_of d (x0 ∷ x1 ∷ x2 ∷ []) e = absurd (omega (arith, e))
+four_of d (x0 ∷ x1 ∷ x2 ∷ x3 ∷ []) e = refl
+four_of d (x0 ∷ x1 ∷ x2 ∷ x3 ∷ x4 ∷ l) e = absurd (omega (arith, e))
 
-pub laid_out : (r : State) → Square r → r ≡ laidOut r
-laid_out r sq =
-    four-of [] r sq.0
+pub laid_out_lem : (r : State) → Square r → r ≡ laid_out r
+laid_out_lem r sq =
+    four_of [] r sq.0
     ∙ four (column 0 (omega arith)) (column 1 (omega arith)) (column 2 (omega arith)) (column 3 (omega arith))
   where
     column : (c : ℕ) → c < 4 → get_or r c [] ≡ bytes (λ (x : ℕ). x) (get_or r c [])
-    column c h = four-of 0 (get_or r c []) (sq.1 c h)
+    column c h = four_of 0 (get_or r c []) (sq.1 c h)

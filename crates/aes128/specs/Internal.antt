@@ -9,8 +9,8 @@ use Rattle.fips197.specs.State.{State, bytes, columns}
 abbrev pub word_of : ℕ → ℕ → ℕ → ℕ → ℕ
 word_of a b c d = ((d * 256 + c) * 256 + b) * 256 + a
 
-abbrev pub columnOf : ℕ → List ℕ
-columnOf x = x % 256 ∷ x / 0x100 % 256 ∷ x / 0x10000 % 256 ∷ x / 0x1000000 % 256 ∷ []
+abbrev pub column_of : ℕ → List ℕ
+column_of x = x % 256 ∷ x / 0x100 % 256 ∷ x / 0x10000 % 256 ∷ x / 0x1000000 % 256 ∷ []
 
 -- Each byte moved one row up, and that of row 0 to row 3.
 abbrev pub turned : ℕ → ℕ
@@ -24,11 +24,11 @@ doubled x = bit_xor (bit_and x 0x7f7f7f7f * 2) (bit_and (x / 128) 0x01010101 * 0
 
 -- The state of four words.
 abbrev pub state_of : List ℕ → State
-state_of t = columnOf (get_or t 0 0) ∷ columnOf (get_or t 1 0) ∷ columnOf (get_or t 2 0) ∷ columnOf (get_or t 3 0) ∷ []
+state_of t = column_of (get_or t 0 0) ∷ column_of (get_or t 1 0) ∷ column_of (get_or t 2 0) ∷ column_of (get_or t 3 0) ∷ []
 
 -- A state, written by its sixteen bytes.
-abbrev pub laidOut : State → State
-laidOut s = columns (bytes (λ x. x)) s
+abbrev pub laid_out : State → State
+laid_out s = columns (bytes (λ x. x)) s
 
 -- Byte i of a state, counted column after column.
 abbrev pub byte_of : State → ℕ → ℕ
@@ -45,5 +45,5 @@ LookedUp table b r = Square r × ((i : ℕ) → i < 16 → byte_of r i ≡ get_o
 abbrev pub sum_of : ℕ → ℕ → ℕ → ℕ → ℕ
 sum_of a b c d = bit_xor a (turned (bit_xor d (turned (bit_xor c (turned b)))))
 
-abbrev pub sumColumn : List ℕ → List ℕ
-sumColumn w = columnOf (sum_of (get_or w 0 0) (get_or w 1 0) (get_or w 2 0) (get_or w 3 0))
+abbrev pub sum_column : List ℕ → List ℕ
+sum_column w = column_of (sum_of (get_or w 0 0) (get_or w 1 0) (get_or w 2 0) (get_or w 3 0))

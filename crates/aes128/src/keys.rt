@@ -2,9 +2,9 @@
 // 5.3.5). A column whose mixing is undone is held as one word of 32 bits, so that its four bytes are doubled at once.
 ghost use Rattle.std.specs.Prelude.{◌≡◌};
 ghost use Rattle.aes_sbox.specs.Field.{xtime};
-ghost use Rattle.fips197.specs.State.{mixColumn, invMixColumn, invMixColumns};
-ghost use Rattle.fips197.specs.Cipher.{invertedKeys};
-ghost use Rattle.fips197.specs.KeyExpansion.{subWord, keyCore, nextKey, expandKey};
+ghost use Rattle.fips197.specs.State.{mix_column, inv_mix_column, inv_mix_columns};
+ghost use Rattle.fips197.specs.Cipher.{inverted_keys};
+ghost use Rattle.fips197.specs.KeyExpansion.{sub_word, key_core, next_key, expand_key};
 ghost use Rattle.aes128.specs.Internal.{doubled};
 
 use crate::columns::{add_column, column, turn, wide, word};
@@ -12,7 +12,7 @@ use aes_lookup_key_sbox::entry;
 
 // SubWord: each of four bytes by the S-box.
 fn sub_word(w: [u8; 4]) -> [u8; 4]
-    ensures { result ≡ subWord w }
+    ensures { result ≡ sub_word w }
 {
     let mut r = [0u8; 4];
     let mut i: usize = 0;
@@ -25,7 +25,7 @@ fn sub_word(w: [u8; 4]) -> [u8; 4]
 
 // SubWord(RotWord(w)), with the round constant c.
 fn key_core(w: [u8; 4], c: u8) -> [u8; 4]
-    ensures { result ≡ keyCore w c }
+    ensures { result ≡ key_core w c }
 {
     let t = sub_word([w[1], w[2], w[3], w[0]]);
     [t[0] ^ c, t[1], t[2], t[3]]
@@ -33,7 +33,7 @@ fn key_core(w: [u8; 4], c: u8) -> [u8; 4]
 
 // The round key after k, with the round constant c.
 fn next_key(k: [[u8; 4]; 4], c: u8) -> [[u8; 4]; 4]
-    ensures { result ≡ nextKey k c }
+    ensures { result ≡ next_key k c }
 {
     let w0 = add_column(k[0], key_core(k[3], c));
     let w1 = add_column(k[1], w0);
@@ -51,7 +51,7 @@ fn next_constant(c: u8) -> u8
 
 // KeyExpansion: writes the eleven round keys of the key k to ks.
 pub fn expand_key(k: [[u8; 4]; 4], ks: &mut [[[u8; 4]; 4]; 11])
-    ensures { ks.new ≡ expandKey k }
+    ensures { ks.new ≡ expand_key k }
 {
     *ks = [k; 11];
     let mut x = k;
@@ -75,7 +75,7 @@ fn double(x: u32) -> u32
 
 // MixColumns of one column. Row by row, with a the byte of the row itself and b, c, d the next ones, it is {02}(a + b) + b + (c + d).
 fn mix_column(w: [u8; 4]) -> [u8; 4]
-    ensures { result ≡ mixColumn w }
+    ensures { result ≡ mix_column w }
 {
     let x = word(w);
     let t = turn(x);
@@ -86,7 +86,7 @@ fn mix_column(w: [u8; 4]) -> [u8; 4]
 // The column whose mixing undoes the mixing of w: {04}(a + c) is added to the bytes a and c of the rows 0 and 2, and {04}(b + d) to the
 // others.
 fn premix_column(w: [u8; 4]) -> [u8; 4]
-    ensures { mixColumn result ≡ invMixColumn w }
+    ensures { mix_column result ≡ inv_mix_column w }
 {
     let x = word(w);
     column(x ^ double(double(x ^ turn(turn(x)))))
@@ -94,14 +94,14 @@ fn premix_column(w: [u8; 4]) -> [u8; 4]
 
 // InvMixColumns of one column.
 fn inv_mix_column(w: [u8; 4]) -> [u8; 4]
-    ensures { result ≡ invMixColumn w }
+    ensures { result ≡ inv_mix_column w }
 {
     mix_column(premix_column(w))
 }
 
 // InvMixColumns.
 fn inv_mix_columns(s: [[u8; 4]; 4]) -> [[u8; 4]; 4]
-    ensures { result ≡ invMixColumns s }
+    ensures { result ≡ inv_mix_columns s }
 {
     [
         inv_mix_column(s[0]),
@@ -113,7 +113,7 @@ fn inv_mix_columns(s: [[u8; 4]; 4]) -> [[u8; 4]; 4]
 
 // Converts the round keys of the cipher to those of the equivalent inverse cipher: InvMixColumns of all but the first and the last.
 pub fn invert_keys(ks: &mut [[[u8; 4]; 4]; 11])
-    ensures { ks.new ≡ invertedKeys ks.old }
+    ensures { ks.new ≡ inverted_keys ks.old }
 {
     let mut i: u32 = 1;
     while i < 10 {

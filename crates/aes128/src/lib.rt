@@ -6,10 +6,10 @@ mod columns; // columns of the state as words of 32 bits
 mod keys; // the round keys of the cipher and of the equivalent inverse cipher
 
 ghost use Rattle.std.specs.Prelude.{◌≡◌, [], ◌∷◌, get_or};
-ghost use Rattle.aes_sbox.specs.Tables.{sbox, invSbox, mixedSbox, unmixedSbox};
-ghost use Rattle.fips197.specs.State.{bytes, columns, Column, Block, subBytes, invSubBytes, shiftRows, invShiftRows, mixColumns, invMixColumns, addRoundKey};
-ghost use Rattle.fips197.specs.Cipher.{cipher, eqInvCipher};
-ghost use Rattle.aes128.specs.Internal.{state_of, laidOut, LookedUp, sumColumn};
+ghost use Rattle.aes_sbox.specs.Tables.{sbox, inv_sbox, mixed_sbox, unmixed_sbox};
+ghost use Rattle.fips197.specs.State.{bytes, columns, Column, Block, sub_bytes, inv_sub_bytes, shift_rows, inv_shift_rows, mix_columns, inv_mix_columns, add_round_key};
+ghost use Rattle.fips197.specs.Cipher.{cipher, eq_inv_cipher};
+ghost use Rattle.aes128.specs.Internal.{state_of, laid_out, LookedUp, sum_column};
 
 use crate::columns::{add_column, column, turn, wide, word};
 pub use keys::{expand_key, invert_keys};
@@ -23,7 +23,7 @@ fn state(t: [u32; 4]) -> [[u8; 4]; 4]
 
 // A state as four words.
 fn words(s: [[u8; 4]; 4]) -> [u32; 4]
-    ensures { state_of result ≡ laidOut s }
+    ensures { state_of result ≡ laid_out s }
 {
     [word(s[0]), word(s[1]), word(s[2]), word(s[3])]
 }
@@ -37,7 +37,7 @@ fn diagonal(a: [u8; 4], b: [u8; 4], c: [u8; 4], d: [u8; 4]) -> [u8; 4]
 
 // ShiftRows.
 fn shift_rows(s: [[u8; 4]; 4]) -> [[u8; 4]; 4]
-    ensures { result ≡ shiftRows s }
+    ensures { result ≡ shift_rows s }
 {
     let a = s[0];
     let b = s[1];
@@ -53,7 +53,7 @@ fn shift_rows(s: [[u8; 4]; 4]) -> [[u8; 4]; 4]
 
 // InvShiftRows.
 fn inv_shift_rows(s: [[u8; 4]; 4]) -> [[u8; 4]; 4]
-    ensures { result ≡ invShiftRows s }
+    ensures { result ≡ inv_shift_rows s }
 {
     let a = s[0];
     let b = s[1];
@@ -77,7 +77,7 @@ fn wide_column(w: [u8; 4]) -> [u32; 4]
 
 // The bytes of a state as numbers of 32 bits, as they are looked up.
 fn wide_state(s: [[u8; 4]; 4]) -> [[u32; 4]; 4]
-    ensures same { result ≡ laidOut s }
+    ensures same { result ≡ laid_out s }
     ensures byte { Block result }
 {
     [
@@ -90,7 +90,7 @@ fn wide_state(s: [[u8; 4]; 4]) -> [[u32; 4]; 4]
 
 // What each byte brings to its mixed column.
 fn each_mixed(b: [[u32; 4]; 4]) -> [[u32; 4]; 4]
-    ensures { LookedUp mixedSbox b result }
+    ensures { LookedUp mixed_sbox b result }
 {
     let mut w = [[0u32; 4]; 4];
     let mut i: usize = 0;
@@ -103,7 +103,7 @@ fn each_mixed(b: [[u32; 4]; 4]) -> [[u32; 4]; 4]
 
 // What each byte brings to its column when the mixing is undone. The compiled code is shorter where the last byte is looked up first.
 fn each_unmixed(b: [[u32; 4]; 4]) -> [[u32; 4]; 4]
-    ensures { LookedUp unmixedSbox b result }
+    ensures { LookedUp unmixed_sbox b result }
 {
     let mut w = [[0u32; 4]; 4];
     let mut i: usize = 16;
@@ -129,7 +129,7 @@ fn each_sub(b: [[u32; 4]; 4]) -> [[u8; 4]; 4]
 
 // Each byte by the inverse S-box.
 fn each_inv_sub(b: [[u32; 4]; 4]) -> [[u8; 4]; 4]
-    ensures { LookedUp invSbox b result }
+    ensures { LookedUp inv_sbox b result }
 {
     let mut w = [[0u8; 4]; 4];
     let mut i: usize = 0;
@@ -142,49 +142,49 @@ fn each_inv_sub(b: [[u32; 4]; 4]) -> [[u8; 4]; 4]
 
 // The column that is the sum of what its bytes bring to it, each word moved to the rows of its byte.
 fn sum(w: [u32; 4]) -> [u8; 4]
-    ensures { result ≡ sumColumn w }
+    ensures { result ≡ sum_column w }
 {
     column(w[0] ^ turn(w[3] ^ turn(w[2] ^ turn(w[1]))))
 }
 
 // These sums for the four columns.
 fn sums(w: [[u32; 4]; 4]) -> [[u8; 4]; 4]
-    ensures { result ≡ columns sumColumn w }
+    ensures { result ≡ columns sum_column w }
 {
     [sum(w[0]), sum(w[1]), sum(w[2]), sum(w[3])]
 }
 
 // SubBytes.
 fn sub_bytes(s: [[u8; 4]; 4]) -> [[u8; 4]; 4]
-    ensures { result ≡ subBytes s }
+    ensures { result ≡ sub_bytes s }
 {
     each_sub(wide_state(s))
 }
 
 // InvSubBytes.
 fn inv_sub_bytes(s: [[u8; 4]; 4]) -> [[u8; 4]; 4]
-    ensures { result ≡ invSubBytes s }
+    ensures { result ≡ inv_sub_bytes s }
 {
     each_inv_sub(wide_state(s))
 }
 
 // SubBytes and MixColumns.
 fn sub_and_mix_columns(s: [[u8; 4]; 4]) -> [[u8; 4]; 4]
-    ensures { result ≡ mixColumns (subBytes s) }
+    ensures { result ≡ mix_columns (sub_bytes s) }
 {
     sums(each_mixed(wide_state(s)))
 }
 
 // InvSubBytes and InvMixColumns.
 fn inv_sub_and_mix_columns(s: [[u8; 4]; 4]) -> [[u8; 4]; 4]
-    ensures { result ≡ invMixColumns (invSubBytes s) }
+    ensures { result ≡ inv_mix_columns (inv_sub_bytes s) }
 {
     sums(each_unmixed(wide_state(s)))
 }
 
 // AddRoundKey.
 fn add_round_key(s: [[u8; 4]; 4], k: [[u8; 4]; 4]) -> [[u8; 4]; 4]
-    ensures { result ≡ addRoundKey s k }
+    ensures { result ≡ add_round_key s k }
 {
     [
         add_column(s[0], k[0]),
@@ -210,7 +210,7 @@ pub fn encrypt(ks: &[[[u8; 4]; 4]; 11], s: [[u8; 4]; 4]) -> [[u8; 4]; 4]
 
 // EqInvCipher: decrypts one block under the round keys ks of the equivalent inverse cipher, which `aes128::keys::invert_keys` makes.
 pub fn decrypt(ks: &[[[u8; 4]; 4]; 11], s: [[u8; 4]; 4]) -> [[u8; 4]; 4]
-    ensures { result ≡ eqInvCipher ks.now s }
+    ensures { result ≡ eq_inv_cipher ks.now s }
 {
     let mut t = words(add_round_key(s, ks[10]));
     let mut i: u32 = 9;

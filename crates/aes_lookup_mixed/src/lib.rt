@@ -3,20 +3,20 @@
 // byte is a number of 32 bits, since the compiled look-up is then one load. A look-up that is called at one place alone is inlined
 // there, so each place has its own; tables with the same entries are one in the compiled code.
 ghost use Rattle.std.specs.Prelude.{◌≡◌, get_or};
-ghost use Rattle.aes_sbox.specs.Tables.{mixedSbox};
+ghost use Rattle.aes_sbox.specs.Tables.{mixed_sbox};
 ghost use Rattle.tables.specs.Table.{NoneBelow};
 
 // The answer past the end of the table. No caller looks up there.
 fn beyond(x: u32) -> u8
     requires { NoneBelow 256 x }
-    ensures { result ≡ get_or mixedSbox x 0 }
+    ensures { result ≡ get_or mixed_sbox x 0 }
 {
     0u8
 }
 
 // The entry at x, or 0 where x is no byte.
 pub fn entry(x: u32) -> u32
-    ensures { result ≡ get_or mixedSbox x 0 }
+    ensures { result ≡ get_or mixed_sbox x 0 }
 {
     match x {
         0x00 => 0xa56363c6,

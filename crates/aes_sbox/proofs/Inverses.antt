@@ -5,7 +5,7 @@ use mathlib.Core.List.{List, [], ◌∷◌}
 use Prim.Native.Nat.{ℕ, zero, suc, ◌<◌}
 use lib.Dec.{T, eqb, ltb, eqb→eq, ltb→lt}
 use lib.ListN.{get_or}
-use Rattle.aes_sbox.specs.Field.{xtime, mulBits, mul}
+use Rattle.aes_sbox.specs.Field.{xtime, mul_bits, mul}
 use Rattle.aes_sbox.specs.Sbox.{inverse}
 use Rattle.aes_sbox.proofs.Table.{at, both, both_left, both_right}
 
@@ -52,6 +52,6 @@ opened k x t =
       product = eqb→eq (mul k x) (unit_of k) (both_right (ltb x 256) _ t1);
     }
 
-pub inverse-at : (k : ℕ) → k < 256 → Inverse k (get_or inverses k 0)
-unfolding right inverse mul mulBits xtime
-inverse-at k h = opened k (get_or inverses k 0) (at right inverses tt k h)
+pub inverse_at : (k : ℕ) → k < 256 → Inverse k (get_or inverses k 0)
+unfolding right inverse mul mul_bits xtime
+inverse_at k h = opened k (get_or inverses k 0) (at right inverses tt k h)

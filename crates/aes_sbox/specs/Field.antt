@@ -9,10 +9,10 @@ xtime a = bit_xor (a * 2 % 256) (a / 128 % 2 * 0x1b)
 
 -- a · b over the n low bits of b: the sum of a · x^i over the bits i that are set (4.2.1: "higher powers of x can be implemented by repeated application
 -- of xtime").
-unfoldable pub mulBits : ℕ → ℕ → ℕ → ℕ
-mulBits zero a b = 0
-mulBits (suc n) a b = bit_xor (b % 2 * a) (mulBits n (xtime a) (b / 2))
+unfoldable pub mul_bits : ℕ → ℕ → ℕ → ℕ
+mul_bits zero a b = 0
+mul_bits (suc n) a b = bit_xor (b % 2 * a) (mul_bits n (xtime a) (b / 2))
 
 -- 4.2: the product of two bytes.
 unfoldable pub mul : ℕ → ℕ → ℕ
-mul a b = mulBits 8 a b
+mul a b = mul_bits 8 a b

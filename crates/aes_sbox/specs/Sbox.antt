@@ -25,13 +25,13 @@ unfoldable pub affine : ℕ → ℕ
 affine b = bit_xor b (bit_xor (rotated b 4) (bit_xor (rotated b 3) (bit_xor (rotated b 2) (bit_xor (rotated b 1) 0x63))))
 
 -- 5.1.1: the S-box takes the multiplicative inverse and then the affine map.
-unfoldable pub sboxOf : ℕ → ℕ
-sboxOf a = affine (inverse a)
+unfoldable pub sbox_of : ℕ → ℕ
+sbox_of a = affine (inverse a)
 
 -- The affine map undone: bit i becomes b_(i+2) + b_(i+5) + b_(i+7) + d_i, d = {05}.
-unfoldable pub invAffine : ℕ → ℕ
-invAffine b = bit_xor (rotated b 6) (bit_xor (rotated b 3) (bit_xor (rotated b 1) 0x05))
+unfoldable pub inv_affine : ℕ → ℕ
+inv_affine b = bit_xor (rotated b 6) (bit_xor (rotated b 3) (bit_xor (rotated b 1) 0x05))
 
 -- 5.3.2: the inverse S-box takes the inverse of the affine map and then the multiplicative inverse.
-unfoldable pub invSboxOf : ℕ → ℕ
-invSboxOf b = inverse (invAffine b)
+unfoldable pub inv_sbox_of : ℕ → ℕ
+inv_sbox_of b = inverse (inv_affine b)

@@ -25,8 +25,8 @@ sbox =
     []
 
 -- Figure 14, the inverse S-box.
-abbrev pub invSbox : List ℕ
-invSbox =
+abbrev pub inv_sbox : List ℕ
+inv_sbox =
     0x52 ∷ 0x09 ∷ 0x6a ∷ 0xd5 ∷ 0x30 ∷ 0x36 ∷ 0xa5 ∷ 0x38 ∷ 0xbf ∷ 0x40 ∷ 0xa3 ∷ 0x9e ∷ 0x81 ∷ 0xf3 ∷ 0xd7 ∷ 0xfb ∷
     0x7c ∷ 0xe3 ∷ 0x39 ∷ 0x82 ∷ 0x9b ∷ 0x2f ∷ 0xff ∷ 0x87 ∷ 0x34 ∷ 0x8e ∷ 0x43 ∷ 0x44 ∷ 0xc4 ∷ 0xde ∷ 0xe9 ∷ 0xcb ∷
     0x54 ∷ 0x7b ∷ 0x94 ∷ 0x32 ∷ 0xa6 ∷ 0xc2 ∷ 0x23 ∷ 0x3d ∷ 0xee ∷ 0x4c ∷ 0x95 ∷ 0x0b ∷ 0x42 ∷ 0xfa ∷ 0xc3 ∷ 0x4e ∷
@@ -47,16 +47,16 @@ invSbox =
 
 -- What a byte s of the S-box brings to a mixed column (equation 5.6), where it stands in row 0: {02}·s, s, s and {03}·s in the rows 0 to
 -- 3, as one word whose lowest byte is that of row 0.
-abbrev pub mixedWord : ℕ → ℕ
-mixedWord s = ((mul s 0x03 * 256 + s) * 256 + s) * 256 + mul s 0x02
+abbrev pub mixed_word : ℕ → ℕ
+mixed_word s = ((mul s 0x03 * 256 + s) * 256 + s) * 256 + mul s 0x02
 
 -- And to a column whose mixing is undone (equation 5.10): {0e}·s, {09}·s, {0d}·s and {0b}·s.
-abbrev pub unmixedWord : ℕ → ℕ
-unmixedWord s = ((mul s 0x0b * 256 + mul s 0x0d) * 256 + mul s 0x09) * 256 + mul s 0x0e
+abbrev pub unmixed_word : ℕ → ℕ
+unmixed_word s = ((mul s 0x0b * 256 + mul s 0x0d) * 256 + mul s 0x09) * 256 + mul s 0x0e
 
--- mixedWord of each entry of the S-box.
-abbrev pub mixedSbox : List ℕ
-mixedSbox =
+-- mixed_word of each entry of the S-box.
+abbrev pub mixed_sbox : List ℕ
+mixed_sbox =
     0xa56363c6 ∷ 0x847c7cf8 ∷ 0x997777ee ∷ 0x8d7b7bf6 ∷ 0x0df2f2ff ∷ 0xbd6b6bd6 ∷ 0xb16f6fde ∷ 0x54c5c591 ∷
     0x50303060 ∷ 0x03010102 ∷ 0xa96767ce ∷ 0x7d2b2b56 ∷ 0x19fefee7 ∷ 0x62d7d7b5 ∷ 0xe6abab4d ∷ 0x9a7676ec ∷
     0x45caca8f ∷ 0x9d82821f ∷ 0x40c9c989 ∷ 0x877d7dfa ∷ 0x15fafaef ∷ 0xeb5959b2 ∷ 0xc947478e ∷ 0x0bf0f0fb ∷
@@ -91,9 +91,9 @@ mixedSbox =
     0xc3414182 ∷ 0xb0999929 ∷ 0x772d2d5a ∷ 0x110f0f1e ∷ 0xcbb0b07b ∷ 0xfc5454a8 ∷ 0xd6bbbb6d ∷ 0x3a16162c ∷
     []
 
--- unmixedWord of each entry of the inverse S-box.
-abbrev pub unmixedSbox : List ℕ
-unmixedSbox =
+-- unmixed_word of each entry of the inverse S-box.
+abbrev pub unmixed_sbox : List ℕ
+unmixed_sbox =
     0x50a7f451 ∷ 0x5365417e ∷ 0xc3a4171a ∷ 0x965e273a ∷ 0xcb6bab3b ∷ 0xf1459d1f ∷ 0xab58faac ∷ 0x9303e34b ∷
     0x55fa3020 ∷ 0xf66d76ad ∷ 0x9176cc88 ∷ 0x254c02f5 ∷ 0xfcd7e54f ∷ 0xd7cb2ac5 ∷ 0x80443526 ∷ 0x8fa362b5 ∷
     0x495ab1de ∷ 0x671bba25 ∷ 0x980eea45 ∷ 0xe1c0fe5d ∷ 0x02752fc3 ∷ 0x12f04c81 ∷ 0xa397468d ∷ 0xc6f9d36b ∷

@@ -2,19 +2,19 @@
 -- A byte string is a list of numbers.
 use Rattle.std.specs.Prelude.{ℕ, List, ◌∷◌, ◌++◌, length, take, drop}
 use Rattle.slices.specs.Numbers.{be16}
-use Rattle.hmac.specs.Rfc2104.{hmacSha256}
+use Rattle.hmac.specs.Rfc2104.{hmac_sha256}
 
 -- the text S: FC = 20 hex, P0 = the network name, L0 = its length, P1 = SQN xor AK, L1 = its length, 00 06
-unfoldable pub primeText : List ℕ → List ℕ → List ℕ
-primeText name sqnXorAk = 0x20 ∷ (name ++ (be16 (length name) ++ (sqnXorAk ++ be16 6)))
+unfoldable pub prime_text : List ℕ → List ℕ → List ℕ
+prime_text name sqnXorAk = 0x20 ∷ (name ++ (be16 (length name) ++ (sqnXorAk ++ be16 6)))
 
 -- the 32 bytes of HMAC-SHA-256 over S, under CK then IK
-unfoldable pub primeKeys : List ℕ → List ℕ → List ℕ → List ℕ → List ℕ
-primeKeys ck ik name sqnXorAk = hmacSha256 (ck ++ ik) (primeText name sqnXorAk)
+unfoldable pub prime_keys : List ℕ → List ℕ → List ℕ → List ℕ → List ℕ
+prime_keys ck ik name sqnXorAk = hmac_sha256 (ck ++ ik) (prime_text name sqnXorAk)
 
 -- CK' is the first half of them, IK' the second
-unfoldable pub ckPrime : List ℕ → List ℕ → List ℕ → List ℕ → List ℕ
-ckPrime ck ik name sqnXorAk = take 16 (primeKeys ck ik name sqnXorAk)
+unfoldable pub ck_prime : List ℕ → List ℕ → List ℕ → List ℕ → List ℕ
+ck_prime ck ik name sqnXorAk = take 16 (prime_keys ck ik name sqnXorAk)
 
-unfoldable pub ikPrime : List ℕ → List ℕ → List ℕ → List ℕ → List ℕ
-ikPrime ck ik name sqnXorAk = drop 16 (primeKeys ck ik name sqnXorAk)
+unfoldable pub ik_prime : List ℕ → List ℕ → List ℕ → List ℕ → List ℕ
+ik_prime ck ik name sqnXorAk = drop 16 (prime_keys ck ik name sqnXorAk)

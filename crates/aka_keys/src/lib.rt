@@ -2,11 +2,11 @@
 // K_re, MSK and EMSK (RFC 5448, section 3.3). The texts are hashed in parts. Only keys of 16 bytes are joined, to those of 32 that the two
 // derivations take.
 ghost use Rattle.std.specs.Prelude.{◌≡◌, ◌++◌, length, take, drop};
-ghost use Rattle.refusal.specs.Checks.{◌andThen◌};
-ghost use Rattle.refusal.specs.Answers.{checkedAs, answer_of, answerTo, bufferAfter};
-ghost use Rattle.hmac.specs.Rfc2104.{hmacSha256};
-ghost use Rattle.prf_plus.specs.PrfPlus.{prfPlus, expandCheck};
-ghost use Rattle.aka_keys.specs.Rfc5448.{expansionKey, expansionText, inputCheck, akaAnswer, akaBuffer};
+ghost use Rattle.refusal.specs.Checks.{◌and_then◌};
+ghost use Rattle.refusal.specs.Answers.{checked_as, answer_of, answer_to, buffer_after};
+ghost use Rattle.hmac.specs.Rfc2104.{hmac_sha256};
+ghost use Rattle.prf_plus.specs.PrfPlus.{prfPlus, expand_check};
+ghost use Rattle.aka_keys.specs.Rfc5448.{expansion_key, expansion_text, input_check, aka_answer, aka_buffer};
 
 use refusal::{Answered, Checked, Refusal};
 
@@ -18,7 +18,7 @@ const MATERIAL: usize = 208;
 
 // The tests that come before that of the room: 43, 44, 45.
 fn check_inputs(ck: &[u8], ik: &[u8], name: &[u8], sqn_xor_ak: &[u8], identity: &[u8]) -> Checked
-    ensures { checkedAs result ≡ inputCheck ck.now ik.now name.now sqn_xor_ak.now identity.now }
+    ensures { checked_as result ≡ input_check ck.now ik.now name.now sqn_xor_ak.now identity.now }
 {
     let fixed = (ck.len() == 16) & (ik.len() == 16) & (sqn_xor_ak.len() == 6);
     let lengths = refusal::unless(fixed, Refusal::AkaInputLength);
@@ -58,7 +58,7 @@ fn put_expansion_key<'a>(ck: &[u8], ik: &[u8], name: &'a [u8], sqn_xor_ak: &'a [
     requires ck_len { length ck.now ≡ 16 }
     requires ik_len { length ik.now ≡ 16 }
     requires key_len { length key.old ≡ 32 }
-    ensures { key.new ≡ expansionKey ck.now ik.now name.now sqn_xor_ak.now }
+    ensures { key.new ≡ expansion_key ck.now ik.now name.now sqn_xor_ak.now }
 {
     join(ck, ik, key);
     let length = slices::be16(name.len());
@@ -69,8 +69,8 @@ fn put_expansion_key<'a>(ck: &[u8], ik: &[u8], name: &'a [u8], sqn_xor_ak: &'a [
 // The expansion to the 208 bytes of the five keys, after the call's own tests. It is a function of its own, so that what it lends shares the
 // stack with what the key's derivation lent.
 fn expanded<'a>(check: Checked, key: &[u8], identity: &'a [u8], out: &mut [u8]) -> Answered
-    ensures answer { answer_of result ≡ answerTo (checkedAs check and_then expandCheck 208 (length out.old)) 208 }
-    ensures buffer { out.new ≡ bufferAfter (checkedAs check and_then expandCheck 208 (length out.old)) 208 (prfPlus hmacSha256 key.now (expansionText identity.now) 208) out.old }
+    ensures answer { answer_of result ≡ answer_to (checked_as check and_then expand_check 208 (length out.old)) 208 }
+    ensures buffer { out.new ≡ buffer_after (checked_as check and_then expand_check 208 (length out.old)) 208 (prfPlus hmac_sha256 key.now (expansion_text identity.now) 208) out.old }
 {
     prf_plus::expand(check, key, b"EAP-AKA'", identity, b"", b"", MATERIAL, out)
 }
@@ -84,8 +84,8 @@ pub fn aka_keys<'a>(
     identity: &'a [u8],
     out: &mut [u8],
 ) -> Answered
-    ensures answer { answer_of result ≡ akaAnswer ck.now ik.now name.now sqn_xor_ak.now identity.now (length out.old) }
-    ensures buffer { out.new ≡ akaBuffer ck.now ik.now name.now sqn_xor_ak.now identity.now out.old }
+    ensures answer { answer_of result ≡ aka_answer ck.now ik.now name.now sqn_xor_ak.now identity.now (length out.old) }
+    ensures buffer { out.new ≡ aka_buffer ck.now ik.now name.now sqn_xor_ak.now identity.now out.old }
 {
     let inputs = check_inputs(ck, ik, name, sqn_xor_ak, identity);
     let check = refusal::then_check(inputs, refusal::check_room(MATERIAL, out.len()));

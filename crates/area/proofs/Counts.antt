@@ -20,21 +20,21 @@ abbrev pub Few : Reading → Type 0
 Few (whole offers at len) = length offers ≤ 17
 Few (refusal x) = Unit {0}
 
-few-cond : (t : Bool) (a b : Reading) → (t ≡ true → Few a) → Few b → Few (cond t a b)
-few-cond true a b ha hb = ha refl
-few-cond false a b ha hb = hb
+few_cond : (t : Bool) (a b : Reading) → (t ≡ true → Few a) → Few b → Few (cond t a b)
+few_cond true a b ha hb = ha refl
+few_cond false a b ha hb = hb
 
-few-ended : (offers : List ℕ) (name : Name) → length offers ≤ 17 → Few (ended offers name)
-few-ended offers Missing h = tt
-few-ended offers (Found at len) h = few-cond (eqb (length offers) 0) _ _ (λ e. tt) h
+few_ended : (offers : List ℕ) (name : Name) → length offers ≤ 17 → Few (ended offers name)
+few_ended offers Missing h = tt
+few_ended offers (Found at len) h = few_cond (eqb (length offers) 0) _ _ (λ e. tt) h
 
 few_on : (offers : List ℕ) (name : Name) (later : List Standing) → length offers ≤ 17 → Few (read_on offers name later)
 unfolding read_on
-few_on offers name [] h = few-ended offers name h
+few_on offers name [] h = few_ended offers name h
 few_on offers name (standing at (Faulty x) ∷ later) h = tt
 few_on offers name (standing at Other ∷ later) h = few_on offers name later h
 few_on offers name (standing at (Offer v) ∷ later) h =
-    few-cond (ltb (length offers) 17) _ _
+    few_cond (ltb (length offers) 17) _ _
     (λ e.
     let less = ltb-true (length offers) 17 e in
     few_on (offers ++ (v ∷ [])) name later (simp length-append (omega arith)))
@@ -42,15 +42,15 @@ few_on offers name (standing at (Offer v) ∷ later) h =
 few_on offers Missing (standing at (Named len) ∷ later) h = few_on offers (Found (at + 4) len) later h
 few_on offers (Found at₁ len₁) (standing at (Named len) ∷ later) h = tt
 
-few-guarded : (c : Check) (r : Reading) → Few r → Few (guarded c r)
-few-guarded pass r h = h
-few-guarded (refuse x) r h = tt
+few_guarded : (c : Check) (r : Reading) → Few r → Few (guarded c r)
+few_guarded pass r h = h
+few_guarded (refuse x) r h = tt
 
-few-judged : (way : Way) (area own : List ℕ) (r : Reading) → Few r → Few (judged way area own r)
-few-judged Lenient area own r h = h
-few-judged Strict area own (refusal x) h = tt
-few-judged Strict area own (whole offers at len) h = few-cond (agrees area own at len) _ _ (λ e. h) tt
+few_judged : (way : Way) (area own : List ℕ) (r : Reading) → Few r → Few (judged way area own r)
+few_judged Lenient area own r h = h
+few_judged Strict area own (refusal x) h = tt
+few_judged Strict area own (whole offers at len) h = few_cond (agrees area own at len) _ _ (λ e. h) tt
 
 pub few : (way : Way) (area own : List ℕ) (room : ℕ) → Few (reading way area own room)
 unfolding reading walked
-few way area own room = few-judged way area own (walked area room) (few-guarded (check6 17 room) _ (few_on [] Missing (attributes area) (omega arith)))
+few way area own room = few_judged way area own (walked area room) (few_guarded (check6 17 room) _ (few_on [] Missing (attributes area) (omega arith)))

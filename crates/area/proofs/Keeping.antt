@@ -17,33 +17,33 @@ use Rattle.area_format.specs.declared.Name.{Name}
 use Rattle.area_format.specs.declared.Name.TheVariants.{Found}
 
 -- an offer, where fewer than 17 are kept, is kept after them
-pub offer-kept : (count at v : ℕ) (kept : List ℕ) (name : Name) (later : List Standing) → 17 ≤ length kept → count < 17
+pub offer_kept : (count at v : ℕ) (kept : List ℕ) (name : Name) (later : List Standing) → 17 ≤ length kept → count < 17
     → read_on (take count kept) name (standing at (Offer v) ∷ later) ≡ read_on (take (count + 1) (set kept count v)) name later
 unfolding read_on
-offer-kept count at v kept name later k h =
+offer_kept count at v kept name later k h =
     let l : length (take count kept) ≡ count = length-take-le count kept (omega arith) in
     let t : ltb (length (take count kept)) 17 ≡ true = lt-ltb (length (take count kept)) 17 (omega arith) in
     let i : count < length kept = omega arith in
     rw (t, add-one, take-suc-set)
 
 -- where 17 are kept, it is refused
-pub offer-refused : (count at v : ℕ) (kept : List ℕ) (name : Name) (later : List Standing) → 17 ≤ length kept → count ≡ 17
+pub offer_refused : (count at v : ℕ) (kept : List ℕ) (name : Name) (later : List Standing) → 17 ≤ length kept → count ≡ 17
     → read_on (take count kept) name (standing at (Offer v) ∷ later) ≡ refusal (bare 10)
 unfolding read_on
-offer-refused count at v kept name later k h =
+offer_refused count at v kept name later k h =
     let l : length (take count kept) ≡ count = length-take-le count kept (omega arith) in
     let t : ltb (length (take count kept)) 17 ≡ false = le-ltb (length (take count kept)) 17 (omega arith) in
     rw t
 
 -- at the end, with a name
-pub no-offer : (count at : ℕ) (len : Bytes) (kept : List ℕ) → count ≤ length kept → count ≡ 0 → refusal (bare 10) ≡ ended (take count kept) (Found at len)
-no-offer count at len kept h e =
+pub no_offer : (count at : ℕ) (len : Bytes) (kept : List ℕ) → count ≤ length kept → count ≡ 0 → refusal (bare 10) ≡ ended (take count kept) (Found at len)
+no_offer count at len kept h e =
     let l : length (take count kept) ≡ count = length-take-le count kept h in
     let t : eqb (length (take count kept)) 0 ≡ true = eq-eqb (length (take count kept)) 0 (omega arith) in
     rw t
 
-pub some-offer : (count at : ℕ) (len : Bytes) (kept : List ℕ) → count ≤ length kept → (count ≡ 0 → ⊥) → whole (take count kept) at len.0 ≡ ended (take count kept) (Found at len)
-some-offer count at len kept h n =
+pub some_offer : (count at : ℕ) (len : Bytes) (kept : List ℕ) → count ≤ length kept → (count ≡ 0 → ⊥) → whole (take count kept) at len.0 ≡ ended (take count kept) (Found at len)
+some_offer count at len kept h n =
     let l : length (take count kept) ≡ count = length-take-le count kept h in
     let t : eqb (length (take count kept)) 0 ≡ false = ne_eqb (length (take count kept)) 0 (λ e. n (sym l ∙ e)) in
     rw t

@@ -1,13 +1,13 @@
 // Reads the attribute area that carries the offers (document 01, "Attribute area"; RFC 5448 sections 3.1 and 3.2). The walk goes
 // through the attributes once and keeps the offers aside, so that only an area that is read whole alters the buffer lent for them.
 ghost use Rattle.std.specs.Prelude.{◌≡◌, List, [], ◌∷◌, ℕ, ◌+◌, ◌^◌, ◌≤◌, ◌<◌, length, take, drop};
-ghost use Rattle.refusal.specs.Answers.{reasonOf};
-ghost use Rattle.area_format.specs.Area.{Standing, standing, faultAt, read_on, attributes, areaAnswer, areaBuffer};
+ghost use Rattle.refusal.specs.Answers.{reason_of};
+ghost use Rattle.area_format.specs.Area.{Standing, standing, fault_at, read_on, attributes, area_answer, area_buffer};
 ghost use Rattle.area_format.specs.Area;
 ghost use Rattle.area_format.specs.declared.Name.TheVariants.{Missing};
-ghost use Rattle.area_format.specs.Names.{sameFields};
-ghost use Rattle.area.specs.Area.{areaAnswerOf};
-ghost use Rattle.area.specs.Internal.{walkedCount, walkedAs, gatheredCount, readAfter, allowed};
+ghost use Rattle.area_format.specs.Names.{same_fields};
+ghost use Rattle.area.specs.Area.{area_answer_of};
+ghost use Rattle.area.specs.Internal.{walked_count, walked_as, gathered_count, read_after, allowed};
 
 mod network; // network names compared by their fields
 mod reader; // the attributes of an area, read one at a time
@@ -55,7 +55,7 @@ pub enum AreaRead {
 
 // What a fault at an offset is refused by.
 fn refusal_at(at: usize, why: Fault) -> Refusal
-    ensures { reasonOf result ≡ faultAt at why }
+    ensures { reason_of result ≡ fault_at at why }
 {
     match why {
         Fault::AttributeBounds => Refusal::AttributeBounds(at),
@@ -69,8 +69,8 @@ fn refusal_at(at: usize, why: Fault) -> Refusal
 
 // At the area's end, which is an offset too: no name is refused, and then no offer.
 fn ended(count: u32, name: Name, at: usize) -> Walked
-    ensures count { walkedCount result ≤ count }
-    ensures end { (kept : List ℕ) → count ≤ length kept → walkedAs result kept ≡ Area.ended (take count kept) name }
+    ensures count { walked_count result ≤ count }
+    ensures end { (kept : List ℕ) → count ≤ length kept → walked_as result kept ≡ Area.ended (take count kept) name }
 {
     match name {
         Name::Missing => Walked::Stopped {
@@ -101,8 +101,8 @@ fn gather(count: u32, name: Name, at: usize, met: Attribute, kept: &mut [u16]) -
     requires count_bound { count ≤ 17 }
     requires in_bounds { 17 ≤ length kept.old }
     requires at_bound { at + 4 < 2 ^ 64 }
-    ensures count { gatheredCount result ≤ 17 }
-    ensures read { (later : List Standing) → read_on (take count kept.old) name (standing at met ∷ later) ≡ readAfter result at count name kept.new later }
+    ensures count { gathered_count result ≤ 17 }
+    ensures read { (later : List Standing) → read_on (take count kept.old) name (standing at met ∷ later) ≡ read_after result at count name kept.new later }
 {
     match met {
         Attribute::Faulty(why) => Gathered::Stopped(why),
@@ -128,8 +128,8 @@ fn gather(count: u32, name: Name, at: usize, met: Attribute, kept: &mut [u16]) -
 // The walk through the attributes of the area, left to right. The offers are kept in `kept`: their count and the name are what was met so far.
 fn walk(area: &[u8], kept: &mut [u16]) -> Walked
     requires { 17 ≤ length kept.old }
-    ensures count { walkedCount result ≤ 17 }
-    ensures walked { walkedAs result kept.new ≡ read_on [] Missing (attributes area.now) }
+    ensures count { walked_count result ≤ 17 }
+    ensures walked { walked_as result kept.new ≡ read_on [] Missing (attributes area.now) }
 {
     let mut at = 0;
     let mut count: u32 = 0;
@@ -159,7 +159,7 @@ fn walk(area: &[u8], kept: &mut [u16]) -> Walked
 // Whether the name of so many bytes at an offset of the area agrees with the peer's own.
 fn is_own_name(area: &[u8], at: usize, len: Bytes, own_name: &[u8]) -> bool
     requires { at + len.0 ≤ length area.now }
-    ensures { result ≡ sameFields (take len.0 (drop at area.now)) own_name.now }
+    ensures { result ≡ same_fields (take len.0 (drop at area.now)) own_name.now }
 {
     let end = at + len.0;
     same_fields(&area[at..end], own_name)
@@ -178,8 +178,8 @@ fn allows(way: Way, same: bool) -> bool
 // Reads an attribute area by the chosen way: writes its offers to `out`, in order, and tells where its name stands and whether that agrees with
 // `own_name`. A name that differs is refused by the strict way, before anything is written.
 pub fn read_area(area: &[u8], own_name: &[u8], way: Way, out: &mut [u16]) -> AreaRead
-    ensures answer { areaAnswerOf result ≡ areaAnswer way area.now own_name.now (length out.old) }
-    ensures buffer { out.new ≡ areaBuffer way area.now own_name.now out.old }
+    ensures answer { area_answer_of result ≡ area_answer way area.now own_name.now (length out.old) }
+    ensures buffer { out.new ≡ area_buffer way area.now own_name.now out.old }
 {
     if out.len() < 17 {
         return AreaRead::Refused(Refusal::Room);

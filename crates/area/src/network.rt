@@ -2,7 +2,7 @@
 // of the shorter stand in the longer and a field ends after them (`PrefixRule` of area_format/specs/Statements.antt).
 ghost use Rattle.std.specs.Prelude.{◌≡◌, ◌≤◌, length, take, drop};
 ghost use Rattle.slices.specs.Same.{same_list};
-ghost use Rattle.area_format.specs.Names.{sameFields};
+ghost use Rattle.area_format.specs.Names.{same_fields};
 ghost use Rattle.area.specs.Internal.{ends};
 
 use slices::{least, same_bytes};
@@ -51,7 +51,7 @@ fn field_ends(name: &[u8], at: usize) -> bool
 
 // Whether two names agree by their fields.
 pub(crate) fn same_fields(a: &[u8], b: &[u8]) -> bool
-    ensures { result ≡ sameFields a.now b.now }
+    ensures { result ≡ same_fields a.now b.now }
 {
     let n = least(a.len(), b.len());
     if field_ends(a, n) & field_ends(b, n) {

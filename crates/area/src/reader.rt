@@ -1,9 +1,9 @@
 // Reads the attributes of an area one at a time (document 01, "Attribute area"; RFC 5448 sections 3.1 and 3.2): what stands at an offset, and where the
 // next attribute begins.
 ghost use Rattle.std.specs.Prelude.{◌≡◌, ◌+◌, ◌-◌, ◌^◌, ◌≤◌, ◌<◌, length, take, drop, leb};
-ghost use Rattle.area_format.specs.Area.{words_of, number_of, inBytes, inBounds, kdfInput};
+ghost use Rattle.area_format.specs.Area.{words_of, number_of, in_bytes, in_bounds, kdf_input};
 ghost use Rattle.area_format.specs.Area;
-ghost use Rattle.area.specs.Internal.{metWithin, metAt, stepAt};
+ghost use Rattle.area.specs.Internal.{met_within, met_at, step_at};
 
 use area_format::{Attribute, Bytes, Fault, Words};
 use slices::from_be16;
@@ -29,7 +29,7 @@ pub enum Step {
 // The one conversion between the two counts.
 fn in_bytes(words: Words) -> Bytes
     requires { words.0 ≤ 255 }
-    ensures { result ≡ inBytes words }
+    ensures { result ≡ in_bytes words }
 {
     Bytes(4 * words.0)
 }
@@ -54,7 +54,7 @@ fn number_in(bytes: &[u8]) -> u16
 // Whether the attribute at the start of `bytes` ends within them.
 fn in_bounds(bytes: &[u8]) -> bool
     requires { 4 ≤ length bytes.now }
-    ensures { result ≡ inBounds bytes.now }
+    ensures { result ≡ in_bounds bytes.now }
 {
     let words = length_in(bytes);
     let size = in_bytes(words);
@@ -81,8 +81,8 @@ fn zeros(bytes: &[u8], start: u32, end: u32) -> bool
 // padding is less than a word.
 fn kdf_input(bytes: &[u8]) -> Attribute
     requires in_bounds { 4 ≤ length bytes.now }
-    requires bytes_in_bounds { (inBytes (words_of bytes.now)).0 ≤ length bytes.now }
-    ensures { result ≡ kdfInput bytes.now }
+    requires bytes_in_bounds { (in_bytes (words_of bytes.now)).0 ≤ length bytes.now }
+    ensures { result ≡ kdf_input bytes.now }
 {
     let size = in_bytes(length_in(bytes)).0;
     let name = Bytes(number_in(bytes) as usize);
@@ -106,7 +106,7 @@ fn kdf_input(bytes: &[u8]) -> Attribute
 fn met_within(bytes: &[u8], at: usize, met: Attribute) -> Step
     requires in_bounds { 4 ≤ length bytes.now }
     requires bytes_bound { at + length bytes.now < 2 ^ 64 }
-    ensures { result ≡ metWithin at bytes.now met }
+    ensures { result ≡ met_within at bytes.now met }
 {
     let words = length_in(bytes);
     if words.0 == 0 {
@@ -124,7 +124,7 @@ fn met_within(bytes: &[u8], at: usize, met: Attribute) -> Step
 fn kdf(bytes: &[u8], at: usize) -> Step
     requires in_bounds { 4 ≤ length bytes.now }
     requires bytes_bound { at + length bytes.now < 2 ^ 64 }
-    ensures { result ≡ metWithin at bytes.now (Area.kdf bytes.now) }
+    ensures { result ≡ met_within at bytes.now (Area.kdf bytes.now) }
 {
     let words = length_in(bytes);
     if words.0 == 1 {
@@ -139,7 +139,7 @@ fn kdf(bytes: &[u8], at: usize) -> Step
 fn named(bytes: &[u8], at: usize) -> Step
     requires in_bounds { 4 ≤ length bytes.now }
     requires bytes_bound { at + length bytes.now < 2 ^ 64 }
-    ensures { result ≡ metWithin at bytes.now (kdfInput bytes.now) }
+    ensures { result ≡ met_within at bytes.now (kdf_input bytes.now) }
 {
     if in_bounds(bytes) {
         let next = at + in_bytes(length_in(bytes)).0;
@@ -153,7 +153,7 @@ fn named(bytes: &[u8], at: usize) -> Step
 fn met(bytes: &[u8], at: usize) -> Step
     requires in_bounds { 4 ≤ length bytes.now }
     requires bytes_bound { at + length bytes.now < 2 ^ 64 }
-    ensures { result ≡ metAt at bytes.now }
+    ensures { result ≡ met_at at bytes.now }
 {
     match bytes[0] {
         24 => kdf(bytes, at),
@@ -174,7 +174,7 @@ fn four_left(area: &[u8], at: usize) -> bool
 
 // What stands at an offset of the area.
 fn step_at(area: &[u8], at: usize) -> Step
-    ensures { result ≡ stepAt area.now at }
+    ensures { result ≡ step_at area.now at }
 {
     if four_left(area, at) {
         return met(&area[at..], at);
@@ -206,7 +206,7 @@ impl<'a> Reader<'a> {
 
     // What stands at the reader's place.
     fn next(self) -> Step
-        ensures { result ≡ stepAt self.entry.area.now self.entry.at }
+        ensures { result ≡ step_at self.entry.area.now self.entry.at }
     {
         step_at(self.area, self.at)
     }
@@ -214,7 +214,7 @@ impl<'a> Reader<'a> {
 
 // What a reader meets at an offset of the area. Its parameters are plain, so that its callers need not hold a reader.
 pub(crate) fn read_at(area: &[u8], at: usize) -> Step
-    ensures { result ≡ stepAt area.now at }
+    ensures { result ≡ step_at area.now at }
 {
     Reader::new(area).moved(at).next()
 }

@@ -14,11 +14,11 @@ fields [] = [] ∷ []
 fields (x ∷ s) = cond (eqb x 58) ([] ∷ fields s) (onto x (fields s))
 
 -- whether fields are equal, pair by pair, to the end of the fewer
-unfoldable pub pairsAgree : List (List ℕ) → List (List ℕ) → Bool
-pairsAgree [] gs = true
-pairsAgree (f ∷ fs) [] = true
-pairsAgree (f ∷ fs) (g ∷ gs) = same_list f g && pairsAgree fs gs
+unfoldable pub pairs_agree : List (List ℕ) → List (List ℕ) → Bool
+pairs_agree [] gs = true
+pairs_agree (f ∷ fs) [] = true
+pairs_agree (f ∷ fs) (g ∷ gs) = same_list f g && pairs_agree fs gs
 
 -- whether two names agree
-unfoldable pub sameFields : List ℕ → List ℕ → Bool
-sameFields a b = pairsAgree (fields a) (fields b)
+unfoldable pub same_fields : List ℕ → List ℕ → Bool
+same_fields a b = pairs_agree (fields a) (fields b)

@@ -1,10 +1,10 @@
 // What changed between two bundles (document 02, request 10): the list of the Key IDs that differ, and its counts.
 ghost use Rattle.std.specs.Prelude.{◌≡◌, cond, [], ◌++◌, ◌+◌, ◌≤◌, eqb, length, take, drop};
-ghost use Rattle.refusal.specs.Checks.{pass, ◌andThen◌};
-ghost use Rattle.refusal.specs.Answers.{checkedAs};
-ghost use Rattle.bundle_rules.specs.Bundle.{countIn, bundleCheck};
-ghost use Rattle.compare_rules.specs.Compare.{listed, written, compareAnswer, compareBuffer, compareCounts};
-ghost use Rattle.bundle_compare.specs.Answers.{answer_in, countsIn};
+ghost use Rattle.refusal.specs.Checks.{pass, ◌and_then◌};
+ghost use Rattle.refusal.specs.Answers.{checked_as};
+ghost use Rattle.bundle_rules.specs.Bundle.{count_in, bundle_check};
+ghost use Rattle.compare_rules.specs.Compare.{listed, written, compare_answer, compare_buffer, compare_counts};
+ghost use Rattle.bundle_compare.specs.Answers.{answer_in, counts_in};
 ghost use Rattle.bundle_compare.specs.Internal.{count_to, bytes_of};
 
 mod kinds; // the kinds of the lines of two bundles
@@ -32,7 +32,7 @@ pub enum Compared {
 
 // The tests of both files but that of the room, the first file's before the second's.
 fn check_both(first: &[u8], second: &[u8]) -> Checked
-    ensures { checkedAs result ≡ (bundleCheck first.now and_then bundleCheck second.now) }
+    ensures { checked_as result ≡ (bundle_check first.now and_then bundle_check second.now) }
 {
     match check_bundle(first) {
         Checked::Failed(why) => Checked::Failed(why),
@@ -78,8 +78,8 @@ fn put_entry(kind: u8, id: &[u8], at: usize, out: &mut [u8]) -> usize
 
 // Writes the entries of a file's lines, whose kinds are given, to out from index `from` on, and answers where they end.
 fn put_entries(file: &[u8], kinds: &[u8], from: usize, out: &mut [u8]) -> usize
-    requires file_value { bundleCheck file.now ≡ pass }
-    requires file_in_bounds { countIn file.now ≤ length kinds.now }
+    requires file_value { bundle_check file.now ≡ pass }
+    requires file_in_bounds { count_in file.now ≤ length kinds.now }
     requires file_in_bounds_2 { from + length (bytes_of kinds.now file.now) ≤ length out.old }
     ensures end { result ≡ from + length (bytes_of kinds.now file.now) }
     ensures buffer { out.new ≡ take from out.old ++ (bytes_of kinds.now file.now ++ drop result out.old) }
@@ -96,9 +96,9 @@ fn put_entries(file: &[u8], kinds: &[u8], from: usize, out: &mut [u8]) -> usize
 
 // Compares two bundles: writes an entry, its kind and its Key ID, for each Key ID that differs to the start of out, and answers the counts.
 pub fn compare_bundles(first: &[u8], second: &[u8], out: &mut [u8]) -> Compared
-    ensures answer { answer_in result ≡ compareAnswer first.now second.now (length out.old) }
-    ensures counts { countsIn result ≡ compareCounts first.now second.now (length out.old) }
-    ensures buffer { out.new ≡ compareBuffer first.now second.now out.old }
+    ensures answer { answer_in result ≡ compare_answer first.now second.now (length out.old) }
+    ensures counts { counts_in result ≡ compare_counts first.now second.now (length out.old) }
+    ensures buffer { out.new ≡ compare_buffer first.now second.now out.old }
 {
     match check_both(first, second) {
         Checked::Failed(why) => Compared::Refused(why),

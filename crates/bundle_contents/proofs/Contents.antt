@@ -6,40 +6,40 @@ use native.Mathlib.Numerals.{add-one}
 use native.Mathlib.Omega.{arith}
 use lib.ListN.{length, take, drop, length-drop}
 use lib.Seq.{length-take-le}
-use Rattle.slices.specs.Numbers.{be16At}
-use Rattle.bundle_rules.specs.Bundle.{contentsEnd, line_at, lines_from, body_of}
+use Rattle.slices.specs.Numbers.{be16_at}
+use Rattle.bundle_rules.specs.Bundle.{contents_end, line_at, lines_from, body_of}
 
 -- ---- a line that begins at a place
 
-module _ (f : List ℕ) (i : ℕ) {at : ℕ} (e : at ≡ contentsEnd i) where
+module _ (f : List ℕ) (i : ℕ) {at : ℕ} (e : at ≡ contents_end i) where
   pub id-told : take (at + 16 - at) (drop at f) ≡ (line_at f i).id
   unfolding line_at
   id-told =
       let m : at + 16 - at ≡ 16 = omega arith in
       rw (m, e)
 
-  pub offset-told : {r : ℕ} → r ≡ be16At f (at + 16) → r ≡ (line_at f i).offset
+  pub offset-told : {r : ℕ} → r ≡ be16_at f (at + 16) → r ≡ (line_at f i).offset
   unfolding line_at
   offset-told q =
       let m : at + 16 ≡ 18 + 20 * i = omega arith in
-      q ∙ ap (λ (k : ℕ). be16At f k) m
+      q ∙ ap (λ (k : ℕ). be16_at f k) m
 
-  pub size-told : {r : ℕ} → r ≡ be16At f (at + 18) → r ≡ (line_at f i).size
+  pub size-told : {r : ℕ} → r ≡ be16_at f (at + 18) → r ≡ (line_at f i).size
   unfolding line_at
   size-told q =
       let m : at + 18 ≡ 20 + 20 * i = omega arith in
-      q ∙ ap (λ (k : ℕ). be16At f k) m
+      q ∙ ap (λ (k : ℕ). be16_at f k) m
 
-pub id-long : (f : List ℕ) (i : ℕ) {id : List ℕ} → id ≡ (line_at f i).id → contentsEnd (i + 1) ≤ length f → length id ≡ 16
+pub id_long : (f : List ℕ) (i : ℕ) {id : List ℕ} → id ≡ (line_at f i).id → contents_end (i + 1) ≤ length f → length id ≡ 16
 unfolding line_at
-id-long f i e h =
+id_long f i e h =
     let d = length-drop (2 + 20 * i) f in
     ap length e ∙ length-take-le 16 (drop (2 + 20 * i) f) (omega arith)
 
 -- the part of the file that its numbers name is its body
-pub body-told : (f : List ℕ) (i offset size : ℕ) → offset ≡ (line_at f i).offset → size ≡ (line_at f i).size → take (offset + size - offset) (drop offset f) ≡ body_of f (line_at f i)
+pub body_told : (f : List ℕ) (i offset size : ℕ) → offset ≡ (line_at f i).offset → size ≡ (line_at f i).size → take (offset + size - offset) (drop offset f) ≡ body_of f (line_at f i)
 unfolding body_of
-body-told f i offset size o s =
+body_told f i offset size o s =
     let m : offset + size - offset ≡ size = omega arith in
     rw (m, o, s)
 
@@ -51,8 +51,8 @@ lines_next f i n h =
     let m : n - i ≡ suc (n - (i + 1)) = omega arith in
     rw (m, add-one i)
 
-pub lines-done : (f : List ℕ) (i n : ℕ) → n ≤ i → lines_from f i (n - i) ≡ []
+pub lines_done : (f : List ℕ) (i n : ℕ) → n ≤ i → lines_from f i (n - i) ≡ []
 unfolding lines_from
-lines-done f i n h =
+lines_done f i n h =
     let m : n - i ≡ 0 = omega arith in
     rw m

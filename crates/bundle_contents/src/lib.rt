@@ -1,8 +1,8 @@
 // The table of contents and the bodies of a bundle (document 02, request 9): the tests of a file that its reader and the comparison of two share.
 ghost use Rattle.std.specs.Prelude.{◌≡◌, ◌-◌, ◌≤◌, length};
-ghost use Rattle.refusal.specs.Answers.{checkedAs};
+ghost use Rattle.refusal.specs.Answers.{checked_as};
 ghost use Rattle.bundle_contents.specs.Internal.{HasLines, Inside};
-ghost use Rattle.bundle_rules.specs.Bundle.{contentsEnd, idStands, idRepeats, lines_from, follow, last_end, ids_of, bodiesCheck, bundleCheck};
+ghost use Rattle.bundle_rules.specs.Bundle.{contents_end, id_stands, id_repeats, lines_from, follow, last_end, ids_of, bodies_check, bundle_check};
 
 mod body; // a body held against its line
 mod ids; // Key IDs compared, by words
@@ -18,7 +18,7 @@ use refusal::{Checked, Refusal};
 // Whether each of n lines' offsets is the previous end, for the first the end of the contents.
 fn follows(file: &[u8], n: usize) -> bool
     requires { HasLines file.now n }
-    ensures { result ≡ follow (contentsEnd n) (lines_from file.now 0 n) }
+    ensures { result ≡ follow (contents_end n) (lines_from file.now 0 n) }
 {
     let mut end = contents_end(n);
     let mut i = 0;
@@ -37,7 +37,7 @@ fn follows(file: &[u8], n: usize) -> bool
 fn last_end(file: &[u8], n: usize) -> usize
     requires has_lines { HasLines file.now n }
     requires le_n { 1 ≤ n }
-    ensures { result ≡ last_end (contentsEnd n) (lines_from file.now 0 n) }
+    ensures { result ≡ last_end (contents_end n) (lines_from file.now 0 n) }
 {
     let last = n - 1;
     offset_at(file, last) + size_at(file, last)
@@ -48,7 +48,7 @@ fn id_stands(file: &[u8], id: &[u8], from: usize, n: usize) -> bool
     requires has_lines { HasLines file.now n }
     requires id_len { length id.now ≡ 16 }
     requires from_le_n { from ≤ n }
-    ensures { result ≡ idStands id.now (ids_of (lines_from file.now from (n - from))) }
+    ensures { result ≡ id_stands id.now (ids_of (lines_from file.now from (n - from))) }
 {
     let mut j = from;
     while j < n {
@@ -63,7 +63,7 @@ fn id_stands(file: &[u8], id: &[u8], from: usize, n: usize) -> bool
 // Whether a Key ID stands twice in n lines.
 fn id_repeats(file: &[u8], n: usize) -> bool
     requires { HasLines file.now n }
-    ensures { result ≡ idRepeats (ids_of (lines_from file.now 0 n)) }
+    ensures { result ≡ id_repeats (ids_of (lines_from file.now 0 n)) }
 {
     let mut i = 0;
     while i < n {
@@ -79,7 +79,7 @@ fn id_repeats(file: &[u8], n: usize) -> bool
 fn check_bodies(file: &[u8], n: usize) -> Checked
     requires has_lines { HasLines file.now n }
     requires inside { Inside file.now (lines_from file.now 0 n) }
-    ensures { checkedAs result ≡ bodiesCheck file.now (lines_from file.now 0 n) }
+    ensures { checked_as result ≡ bodies_check file.now (lines_from file.now 0 n) }
 {
     let mut i = 0;
     while i < n {
@@ -95,7 +95,7 @@ fn check_bodies(file: &[u8], n: usize) -> Checked
 
 // The tests of a bundle's file but that of the room: the count, the contents, the end, the Key IDs, then body by body.
 pub fn check_bundle(file: &[u8]) -> Checked
-    ensures { checkedAs result ≡ bundleCheck file.now }
+    ensures { checked_as result ≡ bundle_check file.now }
 {
     if file.len() < 2 {
         return Checked::Failed(Refusal::BundleCount);

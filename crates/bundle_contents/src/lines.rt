@@ -1,7 +1,7 @@
 // A line of a bundle's table of contents (document 02, request 9): where it begins, its Key ID, and the body that it names.
 ghost use Rattle.std.specs.Prelude.{◌≡◌, ◌+◌, ◌*◌, ◌%◌, ◌≤◌, ◌<◌, length};
-ghost use Rattle.slices.specs.Numbers.{be16At};
-ghost use Rattle.bundle_rules.specs.Bundle.{contentsEnd, line_at, body_of};
+ghost use Rattle.slices.specs.Numbers.{be16_at};
+ghost use Rattle.bundle_rules.specs.Bundle.{contents_end, line_at, body_of};
 ghost use Rattle.bundle_contents.specs.Internal.{HasLine};
 
 use slices::from_be16;
@@ -9,7 +9,7 @@ use slices::from_be16;
 // The number in two bytes of a file, high byte first.
 pub(crate) fn number_at(file: &[u8], at: usize) -> usize
     requires { at + 2 ≤ length file.now }
-    ensures number { result ≡ be16At file.now at }
+    ensures number { result ≡ be16_at file.now at }
     ensures small { result < 65536 }
 {
     from_be16(file[at], file[at + 1]) as usize
@@ -27,7 +27,7 @@ pub fn lines_length(n: usize) -> usize
 // Where the contents of n lines end, and line n begins. The product is one of 32 bits, as above.
 pub(crate) fn contents_end(n: usize) -> usize
     requires { n ≤ 64 }
-    ensures { result ≡ contentsEnd n }
+    ensures { result ≡ contents_end n }
 {
     let lines = n as u32;
     2 + (20 * lines) as usize

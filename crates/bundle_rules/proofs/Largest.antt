@@ -5,11 +5,11 @@ use mathlib.Core.Bool.{false}
 use mathlib.Core.List.{List, [], ◌∷◌, map, flatten}
 use native.Mathlib.Omega.{arith}
 use lib.ListN.{length}
-use Rattle.refusal.specs.Checks.{pass, unless, ◌andThen◌, within}
+use Rattle.refusal.specs.Checks.{pass, unless, ◌and_then◌, within}
 use Rattle.slices.specs.Same.{same_list}
 use Rattle.keywrap.specs.Calls.{wrappable}
-use Rattle.key_frame.specs.KeyFrame.{fieldsIn, lengthHolds, frameCheck}
-use Rattle.bundle_rules.specs.Bundle.{keyIdIn, idStands, idRepeats, fileOf, framesCheck}
+use Rattle.key_frame.specs.KeyFrame.{fields_in, length_holds, frame_check}
+use Rattle.bundle_rules.specs.Bundle.{key_id_in, id_stands, id_repeats, file_of, frames_check}
 use Rattle.bundle_rules.specs.Statements.{Largest}
 use Rattle.bundle_rules.specs.Cases.{sample}
 use Rattle.bundle_rules.proofs.Written.{file-size, file-passes}
@@ -22,12 +22,12 @@ many : length (samples 64) ≡ 64
 unfolding samples
 many = refl
 
-frames : framesCheck (samples 64) ≡ pass
-unfolding samples framesCheck frameCheck lengthHolds wrappable same_list unless ◌andThen◌ within
+frames : frames_check (samples 64) ≡ pass
+unfolding samples frames_check frame_check length_holds wrappable same_list unless ◌and_then◌ within
 frames = refl
 
-once : idRepeats (map keyIdIn (samples 64)) ≡ false
-unfolding samples keyIdIn fieldsIn idRepeats idStands same_list
+once : id_repeats (map key_id_in (samples 64)) ≡ false
+unfolding samples key_id_in fields_in id_repeats id_stands same_list
 once = refl
 
 bytes : length (flatten (samples 64)) ≡ 16128
@@ -41,4 +41,4 @@ largest =
     let high : length (samples 64) ≤ 64 = omega arith in
     let size = file-size (samples 64) frames low high once in
     let b = bytes in
-    (fileOf (samples 64), file-passes (samples 64) frames low high once, omega arith)
+    (file_of (samples 64), file-passes (samples 64) frames low high once, omega arith)

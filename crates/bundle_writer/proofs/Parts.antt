@@ -7,18 +7,18 @@ use lib.ListN.{length, take, drop, length-append, length-drop}
 use lib.Seq.{length-take-le}
 use Rattle.refusal.specs.Checks.{pass}
 use Rattle.slices.specs.Numbers.{be16}
-use Rattle.key_frame.proofs.Parts.{next-part}
-use Rattle.bundle_rules.specs.Bundle.{contentsEnd, lines_of, fileOf, packed, framesCheck}
-use Rattle.bundle_rules.proofs.Packing.{all-packed}
-use Rattle.bundle_rules.proofs.Written.{lines-size}
+use Rattle.key_frame.proofs.Parts.{next_part}
+use Rattle.bundle_rules.specs.Bundle.{contents_end, lines_of, file_of, packed, frames_check}
+use Rattle.bundle_rules.proofs.Packing.{all_packed}
+use Rattle.bundle_rules.proofs.Written.{lines_size}
 
 -- a line in three parts
-pub line-parts : (at offset size : ℕ) (id o s l₀ l₁ l₂ l₃ : List ℕ) → length id ≡ 16 → at + 20 ≤ length l₀ → o ≡ be16 offset → s ≡ be16 size
+pub line_parts : (at offset size : ℕ) (id o s l₀ l₁ l₂ l₃ : List ℕ) → length id ≡ 16 → at + 20 ≤ length l₀ → o ≡ be16 offset → s ≡ be16 size
     → l₁ ≡ take at l₀ ++ (id ++ drop (at + length id) l₀)
     → l₂ ≡ take (at + 16) l₁ ++ (o ++ drop (at + 16 + length o) l₁)
     → l₃ ≡ take (at + 18) l₂ ++ (s ++ drop (at + 18 + length s) l₂)
     → l₃ ≡ take at l₀ ++ ((id ++ (be16 offset ++ be16 size)) ++ drop (at + 20) l₀)
-line-parts at offset size id o s l₀ l₁ l₂ l₃ hi h qo qs e₁ e₂ e₃ =
+line_parts at offset size id o s l₀ l₁ l₂ l₃ hi h qo qs e₁ e₂ e₃ =
     let t : length (take at l₀) ≡ at = length-take-le at l₀ (omega arith) in
     let start : List ℕ = take at l₀ in
     let n₁ : length (start ++ id) ≡ at + 16 = simp length-append (omega arith) in
@@ -26,25 +26,25 @@ line-parts at offset size id o s l₀ l₁ l₂ l₃ hi h qo qs e₁ e₂ e₃ =
     let s₂ : at + 16 + 2 ≡ at + 18 = omega arith in
     let s₃ : at + 18 + 2 ≡ at + 20 = omega arith in
     let p₁ : l₁ ≡ (start ++ id) ++ drop (at + 16) l₀ = rw hi at e₁ ∙ sym (append_assoc start id (drop (at + 16) l₀)) in
-    let p₂ = rw s₂ at (next-part l₀ (start ++ id) (be16 offset) l₁ l₂ (at + 16) 2 n₁ p₁ (rw qo at e₂)) in
-    let p₃ = rw s₃ at (next-part l₀ ((start ++ id) ++ be16 offset) (be16 size) l₂ l₃ (at + 18) 2 n₂ p₂ (rw qs at e₃)) in
+    let p₂ = rw s₂ at (next_part l₀ (start ++ id) (be16 offset) l₁ l₂ (at + 16) 2 n₁ p₁ (rw qo at e₂)) in
+    let p₃ = rw s₃ at (next_part l₀ ((start ++ id) ++ be16 offset) (be16 size) l₂ l₃ (at + 18) 2 n₂ p₂ (rw qs at e₃)) in
     p₃ ∙ simp append_assoc
 
 -- the file in its three parts: the count, the lines, the attributes
-pub written-file : (a out₀ out₁ out₂ out₃ two : List ℕ) (n : ℕ) → framesCheck (packed a) ≡ pass → length (packed a) ≡ n → two ≡ be16 n
+pub written_file : (a out₀ out₁ out₂ out₃ two : List ℕ) (n : ℕ) → frames_check (packed a) ≡ pass → length (packed a) ≡ n → two ≡ be16 n
     → out₁ ≡ take 0 out₀ ++ (two ++ drop (0 + length two) out₀)
-    → out₂ ≡ take 2 out₁ ++ (lines_of (contentsEnd n) (packed a) ++ drop (contentsEnd n) out₁)
-    → out₃ ≡ take (contentsEnd n) out₂ ++ (a ++ drop (contentsEnd n + length a) out₂)
-    → out₃ ≡ fileOf (packed a) ++ drop (contentsEnd n + length a) out₀
-unfolding fileOf
-written-file a out₀ out₁ out₂ out₃ two n c q t e₁ e₂ e₃ =
-    let lines : List ℕ = lines_of (contentsEnd n) (packed a) in
-    let s = lines-size (contentsEnd n) (packed a) c in
+    → out₂ ≡ take 2 out₁ ++ (lines_of (contents_end n) (packed a) ++ drop (contents_end n) out₁)
+    → out₃ ≡ take (contents_end n) out₂ ++ (a ++ drop (contents_end n + length a) out₂)
+    → out₃ ≡ file_of (packed a) ++ drop (contents_end n + length a) out₀
+unfolding file_of
+written_file a out₀ out₁ out₂ out₃ two n c q t e₁ e₂ e₃ =
+    let lines : List ℕ = lines_of (contents_end n) (packed a) in
+    let s = lines_size (contents_end n) (packed a) c in
     let p₁ : out₁ ≡ be16 n ++ drop 2 out₀ = rw t at e₁ in
-    let p₂ = next-part out₀ (be16 n) lines out₁ out₂ 2 (20 * n) refl p₁ e₂ in
-    let z : length (be16 n ++ lines) ≡ contentsEnd n = omega arith in
-    let p₃ = next-part out₀ (be16 n ++ lines) a out₂ out₃ (contentsEnd n) (length a) z p₂ e₃ in
-    rw (all-packed a, q) p₃
+    let p₂ = next_part out₀ (be16 n) lines out₁ out₂ 2 (20 * n) refl p₁ e₂ in
+    let z : length (be16 n ++ lines) ≡ contents_end n = omega arith in
+    let p₃ = next_part out₀ (be16 n ++ lines) a out₂ out₃ (contents_end n) (length a) z p₂ e₃ in
+    rw (all_packed a, q) p₃
 
 -- the count's two bytes do not alter the buffer's length
 pub count-length : (out₀ out₁ two : List ℕ) (n : ℕ) → two ≡ be16 n → 2 ≤ length out₀ → out₁ ≡ take 0 out₀ ++ (two ++ drop (0 + length two) out₀) → length out₁ ≡ length out₀

@@ -7,65 +7,65 @@ use borrow.Author.Tests.{le-leb, lt-leb}
 use lib.ListN.{length, take, drop}
 use Rattle.refusal.specs.Checks.{Reason, pass, refuse, bare, unless}
 use Rattle.refusal.specs.Answers.{returned, refused}
-use Rattle.refusal.proofs.Passing.{within-high, before-passed, last-passed, test-passed, first-refuses, second-decides}
+use Rattle.refusal.proofs.Passing.{within-high, before-passed, last-passed, test_passed, first_refuses, second_decides}
 use Rattle.slices.specs.Numbers.{be16}
-use Rattle.bundle_rules.specs.Bundle.{contentsEnd, lines_of, fileOf, packed, framesCheck, packedCheck, writeCheck, writeAnswer, writeBuffer}
-use Rattle.bundle_rules.proofs.Packing.{all-packed}
-use Rattle.bundle_rules.proofs.Written.{flatten-size}
-use Rattle.bundle_writer.proofs.Parts.{written-file}
+use Rattle.bundle_rules.specs.Bundle.{contents_end, lines_of, file_of, packed, frames_check, packed_check, write_check, write_answer, write_buffer}
+use Rattle.bundle_rules.proofs.Packing.{all_packed}
+use Rattle.bundle_rules.proofs.Written.{flatten_size}
+use Rattle.bundle_writer.proofs.Parts.{written_file}
 
 -- ---- attributes that pass the tests before the room's
 
-pub frames-of : (a : List ℕ) → packedCheck a ≡ pass → framesCheck (packed a) ≡ pass
-unfolding packedCheck
-frames-of a e = before-passed _ _ (before-passed _ _ e)
+pub frames_of : (a : List ℕ) → packed_check a ≡ pass → frames_check (packed a) ≡ pass
+unfolding packed_check
+frames_of a e = before-passed _ _ (before-passed _ _ e)
 
-pub count-high : (a : List ℕ) → packedCheck a ≡ pass → length (packed a) ≤ 64
-unfolding packedCheck
-count-high a e = within-high 1 64 (length (packed a)) (test-passed _ _ (last-passed _ _ (before-passed _ _ e)))
+pub count-high : (a : List ℕ) → packed_check a ≡ pass → length (packed a) ≤ 64
+unfolding packed_check
+count-high a e = within-high 1 64 (length (packed a)) (test_passed _ _ (last-passed _ _ (before-passed _ _ e)))
 
 -- they have at most 16,128 bytes, so no sum is too large
-pub bytes-few : (a : List ℕ) → packedCheck a ≡ pass → length a ≤ 16128
-bytes-few a e =
-    let s = flatten-size (packed a) (frames-of a e) in
-    let l = ap length (all-packed a) in
+pub bytes_few : (a : List ℕ) → packed_check a ≡ pass → length a ≤ 16128
+bytes_few a e =
+    let s = flatten_size (packed a) (frames_of a e) in
+    let l = ap length (all_packed a) in
     let h = count-high a e in
     omega arith
 
 -- ---- the tests
 
-pub write-early : (a : List ℕ) (room : ℕ) {x : Reason} → packedCheck a ≡ refuse x → refuse x ≡ writeCheck a room
-unfolding writeCheck
-write-early a room e = first-refuses _ _ e
+pub write_early : (a : List ℕ) (room : ℕ) {x : Reason} → packed_check a ≡ refuse x → refuse x ≡ write_check a room
+unfolding write_check
+write_early a room e = first_refuses _ _ e
 
-module _ (a : List ℕ) (n room : ℕ) (c : packedCheck a ≡ pass) (q : n ≡ length (packed a)) where
-  pub write-room : room < contentsEnd n + length a → refuse (bare 6) ≡ writeCheck a room
-  unfolding writeCheck unless
-  write-room h = sym (sym (second-decides _ _ c) ∙ rw (← q, lt-leb (contentsEnd n + length a) room h))
+module _ (a : List ℕ) (n room : ℕ) (c : packed_check a ≡ pass) (q : n ≡ length (packed a)) where
+  pub write-room : room < contents_end n + length a → refuse (bare 6) ≡ write_check a room
+  unfolding write_check unless
+  write-room h = sym (sym (second_decides _ _ c) ∙ rw (← q, lt-leb (contents_end n + length a) room h))
 
-  write-passes : contentsEnd n + length a ≤ room → pass ≡ writeCheck a room
-  unfolding writeCheck unless
-  write-passes h = sym (sym (second-decides _ _ c) ∙ rw (← q, le-leb (contentsEnd n + length a) room h))
+  write-passes : contents_end n + length a ≤ room → pass ≡ write_check a room
+  unfolding write_check unless
+  write-passes h = sym (sym (second_decides _ _ c) ∙ rw (← q, le-leb (contents_end n + length a) room h))
 
 -- ---- the answer
 
-pub write-refused : (a out : List ℕ) {x : Reason} → refuse x ≡ writeCheck a (length out) → (refused x ≡ writeAnswer a (length out)) × (out ≡ writeBuffer a out)
-unfolding writeAnswer writeBuffer
-write-refused a out e = rw (← e) (refl, refl)
+pub write_refused : (a out : List ℕ) {x : Reason} → refuse x ≡ write_check a (length out) → (refused x ≡ write_answer a (length out)) × (out ≡ write_buffer a out)
+unfolding write_answer write_buffer
+write_refused a out e = rw (← e) (refl, refl)
 
-write_done : (a out after : List ℕ) (n : ℕ) → n ≡ length (packed a) → pass ≡ writeCheck a (length out) → after ≡ fileOf (packed a) ++ drop (contentsEnd n + length a) out
-    → (returned (contentsEnd n + length a) ≡ writeAnswer a (length out)) × (after ≡ writeBuffer a out)
-unfolding writeAnswer writeBuffer
+write_done : (a out after : List ℕ) (n : ℕ) → n ≡ length (packed a) → pass ≡ write_check a (length out) → after ≡ file_of (packed a) ++ drop (contents_end n + length a) out
+    → (returned (contents_end n + length a) ≡ write_answer a (length out)) × (after ≡ write_buffer a out)
+unfolding write_answer write_buffer
 write_done a out after n q e l = rw (← e, ← q) (refl, l)
 
 -- the file in its three parts, where `contents` is the end of its contents
-pub write-all : (a out₀ out₁ out₂ out₃ two : List ℕ) (n contents : ℕ) → contents ≡ contentsEnd n → packedCheck a ≡ pass → n ≡ length (packed a)
+pub write_all : (a out₀ out₁ out₂ out₃ two : List ℕ) (n contents : ℕ) → contents ≡ contents_end n → packed_check a ≡ pass → n ≡ length (packed a)
     → contents + length a ≤ length out₀
     → two ≡ be16 n
     → out₁ ≡ take 0 out₀ ++ (two ++ drop (0 + length two) out₀)
     → out₂ ≡ take 2 out₁ ++ (lines_of contents (packed a) ++ drop contents out₁)
     → out₃ ≡ take contents out₂ ++ (a ++ drop (contents + length a) out₂)
-    → (returned (contents + length a) ≡ writeAnswer a (length out₀)) × (out₃ ≡ writeBuffer a out₀)
-write-all a out₀ out₁ out₂ out₃ two n contents q c k h t e₁ e₂ e₃ =
-    let file = written-file a out₀ out₁ out₂ out₃ two n (frames-of a c) (sym k) t e₁ (rw q at e₂) (rw q at e₃) in
+    → (returned (contents + length a) ≡ write_answer a (length out₀)) × (out₃ ≡ write_buffer a out₀)
+write_all a out₀ out₁ out₂ out₃ two n contents q c k h t e₁ e₂ e₃ =
+    let file = written_file a out₀ out₁ out₂ out₃ two n (frames_of a c) (sym k) t e₁ (rw q at e₂) (rw q at e₃) in
     rw q (write_done a out₀ out₃ n k (write-passes a n (length out₀) c k (rw q at h)) file)

@@ -3,7 +3,7 @@ ghost use Rattle.std.specs.Prelude.{◌≡◌, ◌++◌, ◌+◌, ◌≤◌, len
 ghost use Rattle.refusal.specs.Checks.{pass};
 ghost use Rattle.refusal.specs.Answers.{answer_of};
 ghost use Rattle.slices.specs.Numbers as Numbers;
-ghost use Rattle.bundle_rules.specs.Bundle.{contentsEnd, lines_of, packed, framesCheck, writeAnswer, writeBuffer};
+ghost use Rattle.bundle_rules.specs.Bundle.{contents_end, lines_of, packed, frames_check, write_answer, write_buffer};
 
 mod packing; // attributes packed end to end, taken apart and tested
 
@@ -33,8 +33,8 @@ fn put_line(id: &[u8], offset: usize, size: usize, at: usize, out: &mut [u8])
 
 // Writes the lines of attributes to out, from index 2 on. The attributes will begin at `contents`.
 fn put_lines(attributes: &[u8], contents: usize, out: &mut [u8])
-    requires attributes_value { framesCheck (packed attributes.now) ≡ pass }
-    requires contents_value { contents ≡ contentsEnd (length (packed attributes.now)) }
+    requires attributes_value { frames_check (packed attributes.now) ≡ pass }
+    requires contents_value { contents ≡ contents_end (length (packed attributes.now)) }
     requires attributes_in_bounds { contents + length attributes.now ≤ length out.old }
     ensures { out.new ≡ take 2 out.old ++ (lines_of contents (packed attributes.now) ++ drop contents out.old) }
 {
@@ -53,8 +53,8 @@ fn put_lines(attributes: &[u8], contents: usize, out: &mut [u8])
 
 // Writes the bundle of attributes that are packed end to end, and answers its length.
 pub fn write(attributes: &[u8], out: &mut [u8]) -> Answered
-    ensures answer { answer_of result ≡ writeAnswer attributes.now (length out.old) }
-    ensures buffer { out.new ≡ writeBuffer attributes.now out.old }
+    ensures answer { answer_of result ≡ write_answer attributes.now (length out.old) }
+    ensures buffer { out.new ≡ write_buffer attributes.now out.old }
 {
     match check_packed(attributes) {
         Answered::Refused(why) => Answered::Refused(why),

@@ -1,9 +1,9 @@
 // Key attributes packed end to end, as the writer of a bundle takes them (document 02, request 9): taken apart, and the writer's tests of them.
 ghost use Rattle.std.specs.Prelude.{◌≡◌, map, ◌≤◌, ◌<◌, length, drop};
 ghost use Rattle.refusal.specs.Checks.{pass};
-ghost use Rattle.refusal.specs.Answers.{answer_of, answerTo};
-ghost use Rattle.radius_attributes.specs.Attributes.{attributeLength};
-ghost use Rattle.bundle_rules.specs.Bundle.{keyIdIn, idStands, idRepeats, packed, framesCheck, packedCheck};
+ghost use Rattle.refusal.specs.Answers.{answer_of, answer_to};
+ghost use Rattle.radius_attributes.specs.Attributes.{attribute_length};
+ghost use Rattle.bundle_rules.specs.Bundle.{key_id_in, id_stands, id_repeats, packed, frames_check, packed_check};
 
 use bundle_contents::same_id;
 use key_frame::check_frame;
@@ -12,7 +12,7 @@ use refusal::{Answered, Checked, Refusal};
 
 // How many bytes the first of the attributes packed in `bytes` takes: its length, or all of them where it is cut.
 fn body_length(bytes: &[u8]) -> usize
-    ensures { result ≡ attributeLength bytes.now }
+    ensures { result ≡ attribute_length bytes.now }
 {
     let size = size_in(bytes);
     if size == 0 { bytes.len() } else { size }
@@ -20,7 +20,7 @@ fn body_length(bytes: &[u8]) -> usize
 
 // How many attributes are packed in `bytes`, or the refusal of the first that does not pass.
 fn count_bodies(bytes: &[u8]) -> Answered
-    ensures { answer_of result ≡ answerTo (framesCheck (packed bytes.now)) (length (packed bytes.now)) }
+    ensures { answer_of result ≡ answer_to (frames_check (packed bytes.now)) (length (packed bytes.now)) }
 {
     let size = bytes.len();
     let mut at = 0;
@@ -42,8 +42,8 @@ fn count_bodies(bytes: &[u8]) -> Answered
 // The length of the attribute at an offset, where it passes: its length byte.
 pub(crate) fn length_at(bytes: &[u8], at: usize) -> usize
     requires at_in_bounds { at < length bytes.now }
-    requires bytes_value { framesCheck (packed (drop at bytes.now)) ≡ pass }
-    ensures { result ≡ attributeLength (drop at bytes.now) }
+    requires bytes_value { frames_check (packed (drop at bytes.now)) ≡ pass }
+    ensures { result ≡ attribute_length (drop at bytes.now) }
 {
     bytes[at + 1] as usize
 }
@@ -51,8 +51,8 @@ pub(crate) fn length_at(bytes: &[u8], at: usize) -> usize
 // Whether a Key ID stands in the attributes from an offset on.
 fn id_stands(id: &[u8], bytes: &[u8], from: usize) -> bool
     requires from_in_bounds { from ≤ length bytes.now }
-    requires bytes_value { framesCheck (packed (drop from bytes.now)) ≡ pass }
-    ensures { result ≡ idStands id.now (map keyIdIn (packed (drop from bytes.now))) }
+    requires bytes_value { frames_check (packed (drop from bytes.now)) ≡ pass }
+    ensures { result ≡ id_stands id.now (map key_id_in (packed (drop from bytes.now))) }
 {
     let size = bytes.len();
     let mut at = from;
@@ -70,8 +70,8 @@ fn id_stands(id: &[u8], bytes: &[u8], from: usize) -> bool
 
 // Whether a Key ID stands twice.
 fn id_repeats(bytes: &[u8]) -> bool
-    requires { framesCheck (packed bytes.now) ≡ pass }
-    ensures { result ≡ idRepeats (map keyIdIn (packed bytes.now)) }
+    requires { frames_check (packed bytes.now) ≡ pass }
+    ensures { result ≡ id_repeats (map key_id_in (packed bytes.now)) }
 {
     let size = bytes.len();
     let mut at = 0;
@@ -89,7 +89,7 @@ fn id_repeats(bytes: &[u8]) -> bool
 
 // How many attributes are packed in `bytes`, by the writer's tests but that of the room: body by body, then their count and their Key IDs.
 pub(crate) fn check_packed(bytes: &[u8]) -> Answered
-    ensures { answer_of result ≡ answerTo (packedCheck bytes.now) (length (packed bytes.now)) }
+    ensures { answer_of result ≡ answer_to (packed_check bytes.now) (length (packed bytes.now)) }
 {
     match count_bodies(bytes) {
         Answered::Refused(why) => Answered::Refused(why),

@@ -3,20 +3,20 @@ use mathlib.Core.Path.{refl}
 use borrow.Author.Tests.{le-leb}
 use lib.ListN.{length}
 use Rattle.slices.specs.Same.{same_list}
-use Rattle.refusal.specs.Checks.{unless, ◌andThen◌, within}
-use Rattle.prf_plus.specs.PrfPlus.{inputAfter, block, blockInput}
-use Rattle.requests.specs.Rfc5295.{usageText}
+use Rattle.refusal.specs.Checks.{unless, ◌and_then◌, within}
+use Rattle.prf_plus.specs.PrfPlus.{input_after, block, blockInput}
+use Rattle.requests.specs.Rfc5295.{usage_text}
 use Rattle.requests.specs.Requests.{text_of, input_of}
-use Rattle.offer_rules.specs.Rfc5448.{stands, repeats, firstSupported, isFirst, chooseCheck, answerCheck, renewedCheck}
-use Rattle.offer_rules.specs.Answers.{firstRound, serverAnswer, serverBuffer, renewedAnswer}
+use Rattle.offer_rules.specs.Rfc5448.{stands, repeats, first_supported, is_first, choose_check, answer_check, renewed_check}
+use Rattle.offer_rules.specs.Answers.{first_round, server_answer, server_buffer, renewed_answer}
 use Rattle.keywrap.specs.Calls.{wrappable}
 use Rattle.key_frame.specs.KeyFrame.{header}
-use Rattle.key_writer.specs.KeyWriter.{attribute, writeCheck, writeAnswer, writeBuffer}
+use Rattle.key_writer.specs.KeyWriter.{attribute, write_check, write_answer, write_buffer}
 use Rattle.checked_cases.specs.CheckedCases.{CheckedCases}
 
-pub checked-cases : CheckedCases
-unfolding text_of input_of usageText blockInput block inputAfter firstRound serverAnswer serverBuffer renewedAnswer chooseCheck answerCheck renewedCheck stands repeats firstSupported isFirst same_list writeAnswer writeBuffer writeCheck attribute header wrappable unless ◌andThen◌ within
-checked-cases =
+pub checked_cases : CheckedCases
+unfolding text_of input_of usage_text blockInput block input_after first_round server_answer server_buffer renewed_answer choose_check answer_check renewed_check stands repeats first_supported is_first same_list write_answer write_buffer write_check attribute header wrappable unless ◌and_then◌ within
+checked_cases =
     record {
       p1 = λ room. refl;
       p2 = λ room. refl;

@@ -2,10 +2,10 @@
 -- 1: only in the first;  2: in both, and the attributes differ;  3: only in the second. The first two come mixed in the first bundle's order, then
 -- the third in the second's.
 use Rattle.std.specs.Prelude.{ℕ, ◌+◌, ◌*◌, cond, List, [], ◌∷◌, ◌++◌, eqb, length}
-use Rattle.refusal.specs.Checks.{Check, pass, refuse, ◌andThen◌, check6}
-use Rattle.refusal.specs.Answers.{Answer, answerTo, bufferAfter}
+use Rattle.refusal.specs.Checks.{Check, pass, refuse, ◌and_then◌, check6}
+use Rattle.refusal.specs.Answers.{Answer, answer_to, buffer_after}
 use Rattle.slices.specs.Same.{same_list}
-use Rattle.bundle_rules.specs.Bundle.{keyIdIn, bodiesOf, bundleCheck}
+use Rattle.bundle_rules.specs.Bundle.{key_id_in, bodies_of, bundle_check}
 
 -- the attribute of a Key ID among those of a bundle
 pub data Found : Type 0 where
@@ -14,16 +14,16 @@ pub data Found : Type 0 where
 
 unfoldable pub lookup : List ℕ → List (List ℕ) → Found
 lookup id [] = missing
-lookup id (b ∷ bodies) = cond (same_list (keyIdIn b) id) (found b) (lookup id bodies)
+lookup id (b ∷ bodies) = cond (same_list (key_id_in b) id) (found b) (lookup id bodies)
 
 -- the kind of an attribute of the first bundle, by what the second has for its Key ID, and of one of the second, by what the first has; 0 where it is not listed
-abbrev pub kindInFirst : List ℕ → Found → ℕ
-kindInFirst b missing = 1
-kindInFirst b (found other) = cond (same_list b other) 0 2
+abbrev pub kind_in_first : List ℕ → Found → ℕ
+kind_in_first b missing = 1
+kind_in_first b (found other) = cond (same_list b other) 0 2
 
-abbrev pub kindInSecond : Found → ℕ
-kindInSecond missing = 3
-kindInSecond (found b) = 0
+abbrev pub kind_in_second : Found → ℕ
+kind_in_second missing = 3
+kind_in_second (found b) = 0
 
 pub record Entry : Type 0 where
   pub kind : ℕ
@@ -33,16 +33,16 @@ pub record Entry : Type 0 where
 unfoldable pub listed : ℕ → List ℕ → List Entry → List Entry
 listed kind id more = cond (eqb kind 0) more (record { kind = kind; id = id } ∷ more)
 
-unfoldable pub firstEntries : List (List ℕ) → List (List ℕ) → List Entry
-firstEntries second [] = []
-firstEntries second (b ∷ bodies) = listed (kindInFirst b (lookup (keyIdIn b) second)) (keyIdIn b) (firstEntries second bodies)
+unfoldable pub first_entries : List (List ℕ) → List (List ℕ) → List Entry
+first_entries second [] = []
+first_entries second (b ∷ bodies) = listed (kind_in_first b (lookup (key_id_in b) second)) (key_id_in b) (first_entries second bodies)
 
-unfoldable pub secondEntries : List (List ℕ) → List (List ℕ) → List Entry
-secondEntries first [] = []
-secondEntries first (b ∷ bodies) = listed (kindInSecond (lookup (keyIdIn b) first)) (keyIdIn b) (secondEntries first bodies)
+unfoldable pub second_entries : List (List ℕ) → List (List ℕ) → List Entry
+second_entries first [] = []
+second_entries first (b ∷ bodies) = listed (kind_in_second (lookup (key_id_in b) first)) (key_id_in b) (second_entries first bodies)
 
 unfoldable pub entries : List (List ℕ) → List (List ℕ) → List Entry
-entries first second = firstEntries second first ++ secondEntries first second
+entries first second = first_entries second first ++ second_entries first second
 
 -- the entries' bytes
 unfoldable pub written : List Entry → List ℕ
@@ -50,37 +50,37 @@ written [] = []
 written (e ∷ more) = (e.kind ∷ e.id) ++ written more
 
 -- how many are of a kind
-unfoldable pub countKind : ℕ → List Entry → ℕ
-countKind k [] = 0
-countKind k (e ∷ more) = cond (eqb e.kind k) 1 0 + countKind k more
+unfoldable pub count_kind : ℕ → List Entry → ℕ
+count_kind k [] = 0
+count_kind k (e ∷ more) = cond (eqb e.kind k) 1 0 + count_kind k more
 
 -- ---- the call, over the two files
 
-unfoldable pub entriesIn : List ℕ → List ℕ → List Entry
-entriesIn first second = entries (bodiesOf first) (bodiesOf second)
+unfoldable pub entries_in : List ℕ → List ℕ → List Entry
+entries_in first second = entries (bodies_of first) (bodies_of second)
 
-abbrev pub entriesLength : List ℕ → List ℕ → ℕ
-entriesLength first second = 17 * length (entriesIn first second)
+abbrev pub entries_length : List ℕ → List ℕ → ℕ
+entries_length first second = 17 * length (entries_in first second)
 
 -- the order: the first bundle's refusals without its 6, the second's likewise, then 6
-unfoldable pub compareCheck : List ℕ → List ℕ → ℕ → Check
-compareCheck first second room = bundleCheck first and_then bundleCheck second and_then check6 (entriesLength first second) room
+unfoldable pub compare_check : List ℕ → List ℕ → ℕ → Check
+compare_check first second room = bundle_check first and_then bundle_check second and_then check6 (entries_length first second) room
 
-unfoldable pub compareAnswer : List ℕ → List ℕ → ℕ → Answer
-compareAnswer first second room = answerTo (compareCheck first second room) (entriesLength first second)
+unfoldable pub compare_answer : List ℕ → List ℕ → ℕ → Answer
+compare_answer first second room = answer_to (compare_check first second room) (entries_length first second)
 
-unfoldable pub compareBuffer : List ℕ → List ℕ → List ℕ → List ℕ
-compareBuffer first second out = bufferAfter (compareCheck first second (length out)) (entriesLength first second) (written (entriesIn first second)) out
+unfoldable pub compare_buffer : List ℕ → List ℕ → List ℕ → List ℕ
+compare_buffer first second out = buffer_after (compare_check first second (length out)) (entries_length first second) (written (entries_in first second)) out
 
 -- the three counts returned beside the answer, zeros on a refusal
 pub record Tally : Type 0 where
-  pub onlyFirst : ℕ
+  pub only_first : ℕ
   pub changed : ℕ
-  pub onlySecond : ℕ
+  pub only_second : ℕ
 
-abbrev pub countsTo : Check → List Entry → Tally
-countsTo pass e = record { onlyFirst = countKind 1 e; changed = countKind 2 e; onlySecond = countKind 3 e }
-countsTo (refuse x) e = record { onlyFirst = 0; changed = 0; onlySecond = 0 }
+abbrev pub counts_to : Check → List Entry → Tally
+counts_to pass e = record { only_first = count_kind 1 e; changed = count_kind 2 e; only_second = count_kind 3 e }
+counts_to (refuse x) e = record { only_first = 0; changed = 0; only_second = 0 }
 
-unfoldable pub compareCounts : List ℕ → List ℕ → ℕ → Tally
-compareCounts first second room = countsTo (compareCheck first second room) (entriesIn first second)
+unfoldable pub compare_counts : List ℕ → List ℕ → ℕ → Tally
+compare_counts first second room = counts_to (compare_check first second room) (entries_in first second)

@@ -11,14 +11,14 @@ use lib.Dec.{eqb, lit<}
 use lib.ListN.{length, get_or, take, drop, set, replicate, length-drop, length-set}
 use lib.Seq.{sets, sets-eq, paste, length-paste, take-length, take_all, drop-drop, length-take-le}
 use Rattle.slices.proofs.Lists.{rest-drop}
-use Rattle.fips180.specs.Hash.{blocksBy, hashBy}
+use Rattle.fips180.specs.Hash.{blocks_by, hash_by}
 use Rattle.fips180.specs.Stream.{Progress, started, absorbByte, absorbedBy, finishedBy}
-use Rattle.fips180.specs.Internal.{closingBy, begunBlock}
+use Rattle.fips180.specs.Internal.{closing_by, begun_block}
 use Rattle.fips180.proofs.Blocks.{one_block}
 use Rattle.fips180.proofs.Stream.{empty, absorbed-append, part, starting, across, finished-closing, stream-is-hash}
 
-paste-sets : (d s : List ℕ) (a : ℕ) → a + length s ≤ length d → paste d a s (length s) ≡ sets d a s
-paste-sets d s a h = ap (λ (l : List ℕ). take a d ++ l ++ drop (a + length s) d) (take-length s) ∙ sym (sets-eq s d a h)
+paste_sets : (d s : List ℕ) (a : ℕ) → a + length s ≤ length d → paste d a s (length s) ≡ sets d a s
+paste_sets d s a h = ap (λ (l : List ℕ). take a d ++ l ++ drop (a + length s) d) (take-length s) ∙ sym (sets-eq s d a h)
 
 -- `begin`: the bytes of xs from j on, where j is the length of its whole blocks, are put into an empty block
 module _ (xs : List ℕ) {d : List ℕ}
@@ -33,21 +33,21 @@ module _ (xs : List ℕ) {d : List ℕ}
       few : (x : ℕ) → 0 + (x - x / 64 * 64) ≤ 64
       few x = omega arith
 
-  pub begun : d ≡ begunBlock xs
-  unfolding begunBlock rest
+  pub begun : d ≡ begun_block xs
+  unfolding begun_block rest
   begun =
       ed ∙ ap (λ (t : List ℕ). paste empty 0 t (length t)) (rest-drop (length xs - length xs % 64) xs ∙ ap (λ (i : ℕ). drop i xs) (cuts (length xs)))
-      ∙ paste-sets empty rest 0 rest-fits
+      ∙ paste_sets empty rest 0 rest-fits
     where
       cuts : (x : ℕ) → x - x % 64 ≡ x / 64 * 64
       cuts x = omega arith
 
-pub begun-length : (xs : List ℕ) → length (begunBlock xs) ≡ 64
-unfolding begunBlock
-begun-length xs =
+pub begun_length : (xs : List ℕ) → length (begun_block xs) ≡ 64
+unfolding begun_block
+begun_length xs =
     let t : List ℕ = drop (length xs / 64 * 64) xs in
     let l : 0 + length t ≤ 64 = simp length-drop (few (length xs)) in
-    ap length (sym (paste-sets empty t 0 l)) ∙ length-paste empty 0 t (length t) l (le_refl (length t))
+    ap length (sym (paste_sets empty t 0 l)) ∙ length-paste empty 0 t (length t) l (le_refl (length t))
   where
     few : (x : ℕ) → 0 + (x - x / 64 * 64) ≤ 64
     few x = omega arith
@@ -57,24 +57,24 @@ module _ (compress : List ℕ → List ℕ → List ℕ) where
   pub part-law : (s : Progress) (xs : List ℕ) → s.count < 2 ^ 64 → length s.block ≡ 64 → length xs < 64 - s.count % 64 → {b : List ℕ} {n : ℕ}
       → b ≡ paste s.block (s.count % 64) xs (length xs) → n ≡ (s.count + length xs) % 2 ^ 64 → record { value = s.value; block = b; count = n } ≡ absorbedBy compress s xs
   part-law s xs f l h eb en =
-      (λ i. record { value = s.value; block = (eb ∙ paste-sets s.block xs (s.count % 64) (omega arith)) i; count = en i }) ∙ sym (part compress s xs f (omega arith))
+      (λ i. record { value = s.value; block = (eb ∙ paste_sets s.block xs (s.count % 64) (omega arith)) i; count = en i }) ∙ sym (part compress s xs f (omega arith))
 
   -- `absorb_into`, where the first k bytes fill the block, and r are the others
   pub over-law : (s : Progress) (xs : List ℕ) (k : ℕ) → s.count < 2 ^ 64 → length s.block ≡ 64 → s.count % 64 + k ≡ 64 → k ≤ length xs
       → {b r e d : List ℕ} {n : ℕ}
       → b ≡ paste s.block (s.count % 64) (take k xs) (length (take k xs))
       → r ≡ drop k xs
-      → e ≡ blocksBy compress (length r / 64) (compress s.value b) r
-      → d ≡ begunBlock r
+      → e ≡ blocks_by compress (length r / 64) (compress s.value b) r
+      → d ≡ begun_block r
       → n ≡ (s.count + length xs) % 2 ^ 64
       → record { value = e; block = d; count = n } ≡ absorbedBy compress s xs
-  unfolding begunBlock
+  unfolding begun_block
   over-law s xs k f l ek hk {b} eb er ee ed en =
       let lk : length (take k xs) ≡ k = length-take-le k xs hk in
       let room : s.count % 64 + length (take k xs) ≤ length s.block = omega arith in
-      let sb : b ≡ sets s.block (s.count % 64) (take k xs) = eb ∙ paste-sets s.block (take k xs) (s.count % 64) room in
+      let sb : b ≡ sets s.block (s.count % 64) (take k xs) = eb ∙ paste_sets s.block (take k xs) (s.count % 64) room in
       (λ i. record {
-        value = (ee ∙ (λ j. blocksBy compress (length (er j) / 64) (compress s.value (sb j)) (er j))) i;
+        value = (ee ∙ (λ j. blocks_by compress (length (er j) / 64) (compress s.value (sb j)) (er j))) i;
         block = (ed ∙ (λ j. sets empty 0 (drop (length (er j) / 64 * 64) (er j)))) i;
         count = en i;
       })
@@ -89,13 +89,13 @@ module _ (compress : List ℕ → List ℕ → List ℕ) where
       ap length eb ∙ length-paste s.block (s.count % 64) (take k xs) (length (take k xs)) room (le_refl (length (take k xs))) ∙ l
 
   -- `digest`: the whole blocks, and the bytes after them in a block of their own
-  pub at_once : (m : List ℕ) (first : List ℕ) (written : List ℕ → List ℕ) → length m < 2 ^ 64 → {b h r : List ℕ} → b ≡ begunBlock m
-      → h ≡ blocksBy compress (length m / 64) first m → r ≡ written (closingBy compress h (take (length m % 64) b) (length m)) → r ≡ hashBy compress first written m
-  unfolding begunBlock
+  pub at_once : (m : List ℕ) (first : List ℕ) (written : List ℕ → List ℕ) → length m < 2 ^ 64 → {b h r : List ℕ} → b ≡ begun_block m
+      → h ≡ blocks_by compress (length m / 64) first m → r ≡ written (closing_by compress h (take (length m % 64) b) (length m)) → r ≡ hash_by compress first written m
+  unfolding begun_block
   at_once m first written f {b} {h} eb eh er =
       let s : Progress = record { value = h; block = b; count = length m } in
       let c : length m ≡ (0 + length m) % 2 ^ 64 = omega arith in
-      er ∙ sym (finished-closing compress written s f (ap length eb ∙ begun-length m))
+      er ∙ sym (finished-closing compress written s f (ap length eb ∙ begun_length m))
       ∙ ap (finishedBy compress written) ((λ i. record { value = eh i; block = eb i; count = c i }) ∙ sym (starting compress (started first) m (lit< tt) refl refl))
       ∙ stream-is-hash compress first written m
 
@@ -115,7 +115,7 @@ module _ (compress : List ℕ → List ℕ → List ℕ) where
     pub block-kept : length b ≡ 64
     block-kept = ap (λ (t : Progress). length t.block) e ∙ absorbed-length s xs l
 
-    pub closed-law : (written : List ℕ → List ℕ) {r : List ℕ} → n < 2 ^ 64 → r ≡ written (closingBy compress h (take (n % 64) b) n) → r ≡ finishedBy compress written (absorbedBy compress s xs)
+    pub closed-law : (written : List ℕ → List ℕ) {r : List ℕ} → n < 2 ^ 64 → r ≡ written (closing_by compress h (take (n % 64) b) n) → r ≡ finishedBy compress written (absorbedBy compress s xs)
     closed-law written f er = er ∙ sym (finished-closing compress written (record { value = h; block = b; count = n }) f block-kept) ∙ ap (finishedBy compress written) e
 
   -- parts in a list, absorbed in turn
@@ -130,9 +130,9 @@ module _ (compress : List ℕ → List ℕ → List ℕ) where
   one_more s (x ∷ l) (suc j) z h = one_more (absorbedBy compress s x) l j z (omega arith)
 
   -- a turn of a loop over parts
-  pub next-part : (s : Progress) (l : List (List ℕ)) (j : ℕ) {t u : Progress} {x : List ℕ} (z : List ℕ) → j < length l → t ≡ absorbedAll s (take j l)
+  pub next_part : (s : Progress) (l : List (List ℕ)) (j : ℕ) {t u : Progress} {x : List ℕ} (z : List ℕ) → j < length l → t ≡ absorbedAll s (take j l)
       → x ≡ get_or l j z → u ≡ absorbedBy compress t x → u ≡ absorbedAll s (take (j + 1) l)
-  next-part s l j z h et ex eu =
+  next_part s l j z h et ex eu =
       eu ∙ (λ i. absorbedBy compress (et i) (ex i)) ∙ one_more s l j z h ∙ ap (λ (k : ℕ). absorbedAll s (take k l)) (sym (add-one j))
 
   pub all-six : (s : Progress) (a b c d e f : List ℕ)

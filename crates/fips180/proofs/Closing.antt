@@ -7,8 +7,8 @@ use native.Mathlib.Omega.{arith}
 use lib.ListN.{length, take, drop, replicate, set, length-set, length-append, length-replicate, get_or-replicate, replicate-append-replicate, drop_of_length-le}
 use lib.Seq.{sets-eq, paste, paste-zero, paste-suc, take-suc-set, take-append-add, take_at, drop_at, take_all, length-take-le}
 use Rattle.slices.specs.Numbers.{be64}
-use Rattle.fips180.specs.Hash.{padding, blocksBy}
-use Rattle.fips180.specs.Internal.{closingBy}
+use Rattle.fips180.specs.Hash.{padding, blocks_by}
+use Rattle.fips180.specs.Internal.{closing_by}
 use Rattle.fips180.proofs.Blocks.{one_block}
 use Rattle.fips180.proofs.Padding.{padding-length}
 
@@ -19,14 +19,14 @@ take-replicate (suc z) (suc m) h = ap (λ (l : List ℕ). 0 ∷ l) (take-replica
 
 -- ---- `mark`: a byte 0x80 at index a, and zeros after it
 
-pub mark-none : (d : List ℕ) (a : ℕ) → d ≡ paste d (a + 1) (replicate (63 - a) 0) (a + 1 - (a + 1))
-mark-none d a =
+pub mark_none : (d : List ℕ) (a : ℕ) → d ≡ paste d (a + 1) (replicate (63 - a) 0) (a + 1 - (a + 1))
+mark_none d a =
     let e : 0 ≡ a + 1 - (a + 1) = omega arith in
     paste-zero d (a + 1) (replicate (63 - a) 0) ∙ ap (paste d (a + 1) (replicate (63 - a) 0)) e
 
-pub mark-turn : (d : List ℕ) (a j : ℕ) {b : List ℕ} → length d ≡ 64 → a < j → j < 64 → b ≡ paste d (a + 1) (replicate (63 - a) 0) (j - (a + 1))
+pub mark_turn : (d : List ℕ) (a j : ℕ) {b : List ℕ} → length d ≡ 64 → a < j → j < 64 → b ≡ paste d (a + 1) (replicate (63 - a) 0) (j - (a + 1))
     → set b j 0 ≡ paste d (a + 1) (replicate (63 - a) 0) (j + 1 - (a + 1))
-mark-turn d a j l h k e =
+mark_turn d a j l h k e =
     let z : List ℕ = replicate (63 - a) 0 in
     let i : ℕ = j - (a + 1) in
     let p : j ≡ a + 1 + i = omega arith in
@@ -45,9 +45,9 @@ mark-turn d a j l h k e =
     inside : (a j x : ℕ) → x ≡ 64 → a < j → j < 64 → a + 1 + (j - (a + 1)) < x
     inside a j x e h k = omega arith
 
-pub mark-done : (d : List ℕ) (a j : ℕ) {b : List ℕ} → length d ≡ 64 → a < 64 → j ≡ 64 → b ≡ paste (set d a 0x80) (a + 1) (replicate (63 - a) 0) (j - (a + 1))
+pub mark_done : (d : List ℕ) (a j : ℕ) {b : List ℕ} → length d ≡ 64 → a < 64 → j ≡ 64 → b ≡ paste (set d a 0x80) (a + 1) (replicate (63 - a) 0) (j - (a + 1))
     → b ≡ take a d ++ (0x80 ∷ replicate (63 - a) 0)
-mark-done d a j l h ej e =
+mark_done d a j l h ej e =
     let z : List ℕ = replicate (63 - a) 0 in
     let t : take (a + 1) (set d a 0x80) ≡ take a d ++ (0x80 ∷ []) = ap (λ (n : ℕ). take n (set d a 0x80)) (add-one a) ∙ take-suc-set d a 0x80 (omega arith) in
     let u : take (j - (a + 1)) z ≡ z = take_all (j - (a + 1)) z (fits (length z) a j (length-replicate (63 - a) 0) ej) in
@@ -77,11 +77,11 @@ by_bytes x =
 bits : (n : ℕ) → n % 2 ^ 61 * 8 ≡ 8 * n % 2 ^ 64
 bits n = omega arith
 
-pub length-put : (b : List ℕ) (n : ℕ) → length b ≡ 64
+pub length_put : (b : List ℕ) (n : ℕ) → length b ≡ 64
     → (let x : ℕ = n % 2 ^ 61 * 8 in
     set (set (set (set (set (set (set (set b 56 (x / 2 ^ 56 % 256)) 57 (x / 2 ^ 48 % 256)) 58 (x / 2 ^ 40 % 256)) 59 (x / 2 ^ 32 % 256)) 60 (x / 2 ^ 24 % 256)) 61 (x / 2 ^ 16 % 256)) 62 (x / 2 ^ 8 % 256)) 63 (x % 256))
     ≡ take 56 b ++ be64 (8 * n % 2 ^ 64)
-length-put b n l =
+length_put b n l =
     let x : ℕ = n % 2 ^ 61 * 8 in
     let v : List ℕ = x / 2 ^ 56 % 256 ∷ x / 2 ^ 48 % 256 ∷ x / 2 ^ 40 % 256 ∷ x / 2 ^ 32 % 256 ∷ x / 2 ^ 24 % 256 ∷ x / 2 ^ 16 % 256 ∷ x / 2 ^ 8 % 256 ∷ x % 256 ∷ [] in
     sets-eq v b 56 (room (length b) l) ∙ (λ i. take 56 b ++ by_bytes x i ++ drop_of_length-le b {i = 56 + length v} (end (length b) l) i)
@@ -93,14 +93,14 @@ length-put b n l =
     end : (k : ℕ) → k ≡ 64 → k ≤ 64
     end k e = omega arith
 
-pub length-kept : (b : List ℕ) (n : ℕ) {c : List ℕ} → length b ≡ 64 → c ≡ take 56 b ++ be64 (8 * n % 2 ^ 64) → length c ≡ 64
-length-kept b n l e = ap length e ∙ length-append (take 56 b) (be64 (8 * n % 2 ^ 64)) ∙ ap (λ (k : ℕ). k + 8) (length-take-le 56 b (room (length b) l))
+pub length_kept : (b : List ℕ) (n : ℕ) {c : List ℕ} → length b ≡ 64 → c ≡ take 56 b ++ be64 (8 * n % 2 ^ 64) → length c ≡ 64
+length_kept b n l e = ap length e ∙ length-append (take 56 b) (be64 (8 * n % 2 ^ 64)) ∙ ap (λ (k : ℕ). k + 8) (length-take-le 56 b (room (length b) l))
   where
     room : (k : ℕ) → k ≡ 64 → 56 ≤ k
     room k e = omega arith
 
-pub mark-kept : (b : List ℕ) (a : ℕ) {c : List ℕ} → a < 64 → length b ≡ 64 → c ≡ take a b ++ (0x80 ∷ replicate (63 - a) 0) → length c ≡ 64
-mark-kept b a h l e =
+pub mark_kept : (b : List ℕ) (a : ℕ) {c : List ℕ} → a < 64 → length b ≡ 64 → c ≡ take a b ++ (0x80 ∷ replicate (63 - a) 0) → length c ≡ 64
+mark_kept b a h l e =
     ap length e ∙ length-append (take a b) (0x80 ∷ replicate (63 - a) 0)
     ∙ (λ i. length-take-le a b (room a (length b) h l) i + suc (length-replicate {A = ℕ} (63 - a) 0 i)) ∙ sum a h
   where
@@ -112,11 +112,11 @@ mark-kept b a h l e =
 
 module _ (compress : List ℕ → List ℕ → List ℕ) where
   -- a message of two blocks
-  two_blocks : (h b c : List ℕ) → length b ≡ 64 → length c ≡ 64 → blocksBy compress (length (b ++ c) / 64) h (b ++ c) ≡ compress (compress h b) c
-  unfolding blocksBy
+  two_blocks : (h b c : List ℕ) → length b ≡ 64 → length c ≡ 64 → blocks_by compress (length (b ++ c) / 64) h (b ++ c) ≡ compress (compress h b) c
+  unfolding blocks_by
   two_blocks h b c lb lc =
       let n : length (b ++ c) / 64 ≡ 2 = simp length-append (half (length b) (length c) lb lc) in
-      ap (λ (k : ℕ). blocksBy compress k h (b ++ c)) n
+      ap (λ (k : ℕ). blocks_by compress k h (b ++ c)) n
       ∙ (λ i. compress (compress h (take_at b c 64 lb i)) (take 64 (drop_at b c 64 lb i)))
       ∙ ap (compress (compress h b)) (take_all 64 c (le lc))
     where
@@ -132,8 +132,8 @@ module _ (compress : List ℕ → List ℕ → List ℕ) where
     held-length = length-take-le (n % 64) b (omega arith)
 
     -- the length fits after the bit 1
-    pub close-one : {r : List ℕ} → n % 64 < 56 → r ≡ compress h (take 56 b' ++ be64 (8 * n % 2 ^ 64)) → r ≡ closingBy compress h (take (n % 64) b) n
-    unfolding closingBy padding
+    pub close-one : {r : List ℕ} → n % 64 < 56 → r ≡ compress h (take 56 b' ++ be64 (8 * n % 2 ^ 64)) → r ≡ closing_by compress h (take (n % 64) b) n
+    unfolding closing_by padding
     close-one {r} l e =
         let x : List ℕ = take (n % 64) b in
         let z : (119 - n % 64) % 64 ≡ 55 - n % 64 = omega arith in
@@ -156,8 +156,8 @@ module _ (compress : List ℕ → List ℕ → List ℕ) where
         sum a l = omega arith
 
     -- it does not: the bit 1 ends this block, and the length the next
-    pub close-two : {g r : List ℕ} → 56 ≤ n % 64 → g ≡ blocksBy compress (length b' / 64) h b' → r ≡ compress g (replicate 56 0 ++ be64 (8 * n % 2 ^ 64)) → r ≡ closingBy compress h (take (n % 64) b) n
-    unfolding closingBy padding
+    pub close-two : {g r : List ℕ} → 56 ≤ n % 64 → g ≡ blocks_by compress (length b' / 64) h b' → r ≡ compress g (replicate 56 0 ++ be64 (8 * n % 2 ^ 64)) → r ≡ closing_by compress h (take (n % 64) b) n
+    unfolding closing_by padding
     close-two {g} {r} l eg e =
         let x : List ℕ = take (n % 64) b in
         let c : List ℕ = replicate 56 0 ++ be64 (8 * n % 2 ^ 64) in
@@ -168,8 +168,8 @@ module _ (compress : List ℕ → List ℕ → List ℕ) where
         append_assoc x (0x80 ∷ replicate (63 - n % 64) 0) c
         ∙ ap (λ (u : List ℕ). x ++ (0x80 ∷ u)) (sym (append_assoc (replicate (63 - n % 64) 0) (replicate 56 0) (be64 (8 * n % 2 ^ 64))))
         ∙ ap (λ (u : List ℕ). x ++ (0x80 ∷ u ++ be64 (8 * n % 2 ^ 64))) (replicate-append-replicate (63 - n % 64) 56 0 ∙ ap (λ (j : ℕ). replicate j 0) (sym z)) in
-        e ∙ ap (λ (u : List ℕ). compress u c) (eg ∙ ap (λ (u : List ℕ). blocksBy compress (length u / 64) h u) eb ∙ one_block compress h d ld)
-        ∙ sym (two_blocks h d c ld refl) ∙ ap (λ (u : List ℕ). blocksBy compress (length u / 64) h u) y
+        e ∙ ap (λ (u : List ℕ). compress u c) (eg ∙ ap (λ (u : List ℕ). blocks_by compress (length u / 64) h u) eb ∙ one_block compress h d ld)
+        ∙ sym (two_blocks h d c ld refl) ∙ ap (λ (u : List ℕ). blocks_by compress (length u / 64) h u) y
       where
         sum : (a : ℕ) → a < 64 → a + suc (63 - a) ≡ 64
         sum a l = omega arith

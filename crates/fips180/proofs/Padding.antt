@@ -8,8 +8,8 @@ use Rattle.slices.specs.Numbers.{be64}
 use Rattle.fips180.specs.Hash.{zeros, padding, padded}
 use Rattle.fips180.specs.Statements.{FewestZeros, PaddedIsBlocks}
 
-pub fewest-zeros : FewestZeros
-fewest-zeros n = (omega arith, λ k e. omega arith)
+pub fewest_zeros : FewestZeros
+fewest_zeros n = (omega arith, λ k e. omega arith)
 
 pub padding-length : (n : ℕ) → length (padding n) ≡ suc (zeros n + 8)
 unfolding padding

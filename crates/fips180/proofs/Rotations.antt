@@ -50,13 +50,13 @@ module _ (n m : ℕ) (e : n + m ≡ 32) where
       ∙ sym (ap₂ bit_and (rot-split x hx) (rot-split y hy))
 
 -- a rotation is a word
-pub rot-lt : (n x : ℕ) → x < 2 ^ 32 → rot n x < 2 ^ 32
+pub rot_lt : (n x : ℕ) → x < 2 ^ 32 → rot n x < 2 ^ 32
 unfolding rot
-rot-lt n x h = or_lt 32 (x / 2 ^ n) (x * 2 ^ (32 - n) % 2 ^ 32) (lt_of_le_of_lt (shr_le x n) h) (mod-lt (x * 2 ^ (32 - n)) (pow_pos 32))
+rot_lt n x h = or_lt 32 (x / 2 ^ n) (x * 2 ^ (32 - n) % 2 ^ 32) (lt_of_le_of_lt (shr_le x n) h) (mod-lt (x * 2 ^ (32 - n)) (pow_pos 32))
 
 -- two rotations are one: the word's three parts p, q, r become r, p, q and then q, r, p
-pub rot-rot : (a b c : ℕ) → a + (b + c) ≡ 32 → (x : ℕ) → x < 2 ^ 32 → rot a (rot b x) ≡ rot (a + b) x
-rot-rot a b c e x h =
+pub rot_rot : (a b c : ℕ) → a + (b + c) ≡ 32 → (x : ℕ) → x < 2 ^ 32 → rot a (rot b x) ≡ rot (a + b) x
+rot_rot a b c e x h =
     let p : ℕ = x / 2 ^ (a + b) in
     let q : ℕ = x / 2 ^ b % 2 ^ a in
     let r : ℕ = x % 2 ^ b in
@@ -94,21 +94,21 @@ unfolding rot
 left x = or_comm (x * 2 ^ 30 % 2 ^ 32) (x / 2 ^ 2)
 
 pub left_lt : (x : ℕ) → x < 2 ^ 32 → ROTL 30 x < 2 ^ 32
-left_lt x h = subst (λ (r : ℕ). r < 2 ^ 32) (sym (left x)) (rot-lt 2 x h)
+left_lt x h = subst (λ (r : ℕ). r < 2 ^ 32) (sym (left x)) (rot_lt 2 x h)
 
-pub left-xor : (x y : ℕ) → x < 2 ^ 32 → y < 2 ^ 32 → ROTL 30 (bit_xor x y) ≡ bit_xor (ROTL 30 x) (ROTL 30 y)
+pub left_xor : (x y : ℕ) → x < 2 ^ 32 → y < 2 ^ 32 → ROTL 30 (bit_xor x y) ≡ bit_xor (ROTL 30 x) (ROTL 30 y)
 unfolding xor
-left-xor x y hx hy = left (bit_xor x y) ∙ rot-xor 2 30 refl x y hx hy ∙ sym (ap₂ bit_xor (left x) (left y))
+left_xor x y hx hy = left (bit_xor x y) ∙ rot-xor 2 30 refl x y hx hy ∙ sym (ap₂ bit_xor (left x) (left y))
 
 pub left_and : (x y : ℕ) → x < 2 ^ 32 → y < 2 ^ 32 → ROTL 30 (bit_and x y) ≡ bit_and (ROTL 30 x) (ROTL 30 y)
 unfolding and
 left_and x y hx hy = left (bit_and x y) ∙ rot-and 2 30 refl x y hx hy ∙ sym (ap₂ bit_and (left x) (left y))
 
 -- a whole turn, by 2 bits and by 30
-pub turned-back : (x : ℕ) → x < 2 ^ 32 → ROTL 30 (ROTL 2 x) ≡ x
+pub turned_back : (x : ℕ) → x < 2 ^ 32 → ROTL 30 (ROTL 2 x) ≡ x
 unfolding rot
-turned-back x h =
-    left (ROTL 2 x) ∙ ap (rot 2) (or_comm (x * 2 ^ 2 % 2 ^ 32) (x / 2 ^ 30)) ∙ rot-rot 2 30 0 refl x h ∙ rot-split 32 0 refl x h ∙ whole x h
+turned_back x h =
+    left (ROTL 2 x) ∙ ap (rot 2) (or_comm (x * 2 ^ 2 % 2 ^ 32) (x / 2 ^ 30)) ∙ rot_rot 2 30 0 refl x h ∙ rot-split 32 0 refl x h ∙ whole x h
   where
     whole : (x : ℕ) → x < 2 ^ 32 → x % 2 ^ 32 * 1 + x / 2 ^ 32 ≡ x
     whole x h = omega arith

@@ -7,8 +7,8 @@ use Rattle.fips180.specs.Words.{Ch, Maj}
 use Rattle.fips180.specs.Sha1.{Parity}
 use Rattle.fips180.specs.Statements.{Has, Sha1RoundByCases}
 
-pub round-by-cases : Sha1RoundByCases
-round-by-cases t = (first, second, third, last)
+pub round_by_cases : Sha1RoundByCases
+round_by_cases t = (first, second, third, last)
   where
     first : t < 20 → Has Ch 0x5a827999 t
     first h = ((λ x y z. simp (lt-ltb t 20 h)), simp (lt-ltb t 20 h))

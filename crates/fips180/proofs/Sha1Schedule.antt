@@ -6,7 +6,7 @@ use native.Mathlib.Omega.{arith}
 use borrow.Author.Tests.{lt-ltb, le-ltb}
 use lib.ListN.{get_or}
 use Rattle.fips180.specs.Words.{word}
-use Rattle.fips180.specs.Hash.{scheduleBy}
+use Rattle.fips180.specs.Hash.{schedule_by}
 use Rattle.fips180.specs.Sha1.{next_w, word_at, W}
 use Rattle.fips180.specs.Statements.{Sha1ScheduleByCases}
 use Rattle.fips180.proofs.Schedule.{is, stable}
@@ -21,11 +21,11 @@ late b t =
     is (word_at b) (t + 16) ∙ simp (le-ltb (t + 16) 16 (omega arith))
     (λ i. next_w (at (t + 16 - 3) (t + 13) (omega arith) (omega arith) i) (at (t + 16 - 8) (t + 8) (omega arith) (omega arith) i) (at (t + 16 - 14) (t + 2) (omega arith) (omega arith) i) (at (t + 16 - 16) t (omega arith) (omega arith) i))
   where
-    at : (j k : ℕ) → j ≡ k → k < t + 16 → get_or (scheduleBy (word_at b) (t + 16)) j 0 ≡ W b k
-    at j k e h = ap (λ (n : ℕ). get_or (scheduleBy (word_at b) (t + 16)) n 0) e ∙ stable (word_at b) (t + 16) k h
+    at : (j k : ℕ) → j ≡ k → k < t + 16 → get_or (schedule_by (word_at b) (t + 16)) j 0 ≡ W b k
+    at j k e h = ap (λ (n : ℕ). get_or (schedule_by (word_at b) (t + 16)) n 0) e ∙ stable (word_at b) (t + 16) k h
 
-pub schedule-by-cases : Sha1ScheduleByCases
-schedule-by-cases b t = (early b t, λ h. let e : t - 16 + 16 ≡ t = omega arith in subst (λ (n : ℕ). W b n ≡ next_w (W b (n - 3)) (W b (n - 8)) (W b (n - 14)) (W b (n - 16))) e (places (t - 16)))
+pub schedule_by_cases : Sha1ScheduleByCases
+schedule_by_cases b t = (early b t, λ h. let e : t - 16 + 16 ≡ t = omega arith in subst (λ (n : ℕ). W b n ≡ next_w (W b (n - 3)) (W b (n - 8)) (W b (n - 14)) (W b (n - 16))) e (places (t - 16)))
   where
     places : (k : ℕ) → W b (k + 16) ≡ next_w (W b (k + 16 - 3)) (W b (k + 16 - 8)) (W b (k + 16 - 14)) (W b (k + 16 - 16))
     places k =

@@ -12,10 +12,10 @@ use lib.Dec.{eqb, lit<}
 use lib.ListN.{length, set, take, drop, replicate, length-append, length-drop, take-append-drop, drop_of_length-le}
 use lib.Seq.{sets, sets-eq, drop-drop, length-take-le, take-append-add, drop-append-add}
 use Rattle.slices.specs.Numbers.{be64}
-use Rattle.fips180.specs.Hash.{padding, padded, blocksBy, hashBy}
-use Rattle.fips180.specs.Stream.{Progress, started, startedAfter, absorbByte, absorbedBy, finishedBy}
+use Rattle.fips180.specs.Hash.{padding, padded, blocks_by, hash_by}
+use Rattle.fips180.specs.Stream.{Progress, started, started_after, absorbByte, absorbedBy, finishedBy}
 use Rattle.fips180.specs.Statements.{StreamIsHash, AfterBlockIsHash}
-use Rattle.fips180.specs.Internal.{closingBy}
+use Rattle.fips180.specs.Internal.{closing_by}
 use Rattle.fips180.proofs.Blocks.{one_block}
 use Rattle.fips180.proofs.Padding.{padding-length}
 
@@ -36,23 +36,23 @@ count-more a k =
     mod-add-mod (a + 1) (2 ^ 64) (suc k) ∙ ap (λ (n : ℕ). n % 2 ^ 64) e
 
 -- a block that is written over whole
-over-written : (d s : List ℕ) → length d ≡ 64 → length s ≡ 64 → sets d 0 s ≡ s
-over-written d s ld ls =
+over_written : (d s : List ℕ) → length d ≡ 64 → length s ≡ 64 → sets d 0 s ≡ s
+over_written d s ld ls =
     sets-eq s d 0 (omega arith) ∙ ap (λ (t : List ℕ). s ++ t) (drop_of_length-le d {i = 0 + length s} (omega arith)) ∙ append-nil s
 
 next_start : (a : ℕ) → a % 64 ≡ 0 → (a + 64) % 2 ^ 64 % 64 ≡ 0
 next_start a h = omega arith
 
-padding-long : (n : ℕ) → 64 ≤ n % 64 + length (padding n)
-padding-long n = subst (λ (k : ℕ). 64 ≤ n % 64 + k) (sym (padding-length n)) (numbers n)
+padding_long : (n : ℕ) → 64 ≤ n % 64 + length (padding n)
+padding_long n = subst (λ (k : ℕ). 64 ≤ n % 64 + k) (sym (padding-length n)) (numbers n)
   where
     numbers : (n : ℕ) → 64 ≤ n % 64 + suc ((119 - n % 64) % 64 + 8)
     numbers n = omega arith
 
 -- the padding goes by the count modulo 2 ^ 64
-padding-mod : (n : ℕ) → padding (n % 2 ^ 64) ≡ padding n
+padding_mod : (n : ℕ) → padding (n % 2 ^ 64) ≡ padding n
 unfolding padding
-padding-mod n =
+padding_mod n =
     let a : n % 2 ^ 64 % 64 ≡ n % 64 = omega arith in
     let b : 8 * (n % 2 ^ 64) % 2 ^ 64 ≡ 8 * n % 2 ^ 64 = omega arith in
     λ i. 0x80 ∷ replicate ((119 - a i) % 64) 0 ++ be64 (b i)
@@ -125,13 +125,13 @@ module _ (compress : List ℕ → List ℕ → List ℕ) where
 
   -- n whole blocks, and r bytes after them
   from_start : (n r : ℕ) (s : Progress) (xs : List ℕ) → s.count < 2 ^ 64 → s.count % 64 ≡ 0 → s.block ≡ empty → r < 64 → length xs ≡ n * 64 + r
-      → absorbedBy compress s xs ≡ record { value = blocksBy compress n s.value xs; block = sets empty 0 (drop (n * 64) xs); count = (s.count + length xs) % 2 ^ 64 }
-  unfolding blocksBy
+      → absorbedBy compress s xs ≡ record { value = blocks_by compress n s.value xs; block = sets empty 0 (drop (n * 64) xs); count = (s.count + length xs) % 2 ^ 64 }
+  unfolding blocks_by
   from_start zero r s xs f z e hr l =
       part s xs f (omega arith) ∙ (λ i. record { value = s.value; block = sets (e i) (z i) xs; count = (s.count + length xs) % 2 ^ 64 })
   from_start (suc n) r s xs f z e hr l =
       let lt : length (take 64 xs) ≡ 64 = length-take-le 64 xs (omega arith) in
-      let one : sets s.block (s.count % 64) (take 64 xs) ≡ take 64 xs = (λ i. sets (e i) (z i) (take 64 xs)) ∙ over-written empty (take 64 xs) refl lt in
+      let one : sets s.block (s.count % 64) (take 64 xs) ≡ take 64 xs = (λ i. sets (e i) (z i) (take 64 xs)) ∙ over_written empty (take 64 xs) refl lt in
       let t : Progress = record { value = compress s.value (take 64 xs); block = empty; count = (s.count + 64) % 2 ^ 64 } in
       let less : length (drop 64 xs) ≡ n * 64 + r = length-drop 64 xs ∙ rest (length xs) n r l in
       let p : 64 + n * 64 ≡ suc n * 64 = omega arith in
@@ -141,7 +141,7 @@ module _ (compress : List ℕ → List ℕ → List ℕ) where
       ∙ ap (λ (u : Progress). absorbedBy compress u (drop 64 xs)) (full s (take 64 xs) f (omega arith) ∙ (λ i. record { value = compress s.value (one i); block = empty; count = (s.count + lt i) % 2 ^ 64 }))
       ∙ from_start n r t (drop 64 xs) (mod-lt (s.count + 64) (lit< tt)) (next_start s.count z) refl hr less
       ∙ (λ i. record {
-        value = blocksBy compress n (compress s.value (take 64 xs)) (drop 64 xs);
+        value = blocks_by compress n (compress s.value (take 64 xs)) (drop 64 xs);
         block = sets empty 0 ((drop-drop (n * 64) 64 xs ∙ ap (λ (j : ℕ). drop j xs) p) i);
         count = (mod-add-mod (s.count + 64) (2 ^ 64) (length (drop 64 xs)) ∙ ap (λ (j : ℕ). j % 2 ^ 64) q) i;
       })
@@ -154,7 +154,7 @@ module _ (compress : List ℕ → List ℕ → List ℕ) where
 
   -- the same by division
   pub starting : (s : Progress) (xs : List ℕ) → s.count < 2 ^ 64 → s.count % 64 ≡ 0 → s.block ≡ empty
-      → absorbedBy compress s xs ≡ record { value = blocksBy compress (length xs / 64) s.value xs; block = sets empty 0 (drop (length xs / 64 * 64) xs); count = (s.count + length xs) % 2 ^ 64 }
+      → absorbedBy compress s xs ≡ record { value = blocks_by compress (length xs / 64) s.value xs; block = sets empty 0 (drop (length xs / 64 * 64) xs); count = (s.count + length xs) % 2 ^ 64 }
   starting s xs f z e = from_start (length xs / 64) (length xs % 64) s xs f z e (mod-lt (length xs) (lit< tt)) (division (length xs))
     where
       division : (x : ℕ) → x ≡ x / 64 * 64 + x % 64
@@ -175,7 +175,7 @@ module _ (compress : List ℕ → List ℕ → List ℕ) where
 
     pub across : absorbedBy compress s xs ≡
         record {
-          value = blocksBy compress (length (drop k xs) / 64) (compress s.value (sets s.block (s.count % 64) (take k xs))) (drop k xs);
+          value = blocks_by compress (length (drop k xs) / 64) (compress s.value (sets s.block (s.count % 64) (take k xs))) (drop k xs);
           block = sets empty 0 (drop (length (drop k xs) / 64 * 64) (drop k xs));
           count = (s.count + length xs) % 2 ^ 64;
         }
@@ -187,7 +187,7 @@ module _ (compress : List ℕ → List ℕ → List ℕ) where
         ∙ ap (λ (u : Progress). absorbedBy compress u (drop k xs)) head
         ∙ starting filled (drop k xs) (mod-lt (s.count + k) (lit< tt)) (aligned s.count k ek) refl
         ∙ (λ i. record {
-          value = blocksBy compress (length (drop k xs) / 64) (compress s.value (sets s.block (s.count % 64) (take k xs))) (drop k xs);
+          value = blocks_by compress (length (drop k xs) / 64) (compress s.value (sets s.block (s.count % 64) (take k xs))) (drop k xs);
           block = sets empty 0 (drop (length (drop k xs) / 64 * 64) (drop k xs));
           count = (mod-add-mod (s.count + k) (2 ^ 64) (length (drop k xs)) ∙ ap (λ (j : ℕ). j % 2 ^ 64) q) i;
         })
@@ -203,8 +203,8 @@ module _ (compress : List ℕ → List ℕ → List ℕ) where
     held : List ℕ
     held = take (s.count % 64) s.block
 
-    joined : (absorbedBy compress s xs).value ≡ blocksBy compress (length (held ++ xs) / 64) s.value (held ++ xs)
-    unfolding held blocksBy
+    joined : (absorbedBy compress s xs).value ≡ blocks_by compress (length (held ++ xs) / 64) s.value (held ++ xs)
+    unfolding held blocks_by
     joined =
         let a : ℕ = s.count % 64 in
         let k : ℕ = 64 - a in
@@ -219,31 +219,31 @@ module _ (compress : List ℕ → List ℕ → List ℕ) where
         let d : drop 64 (take a s.block ++ xs) ≡ drop k xs = ap (λ (j : ℕ). drop j (take a s.block ++ xs)) (sym seam) ∙ drop-append-add (take a s.block) xs k in
         let n : length (take a s.block ++ xs) / 64 ≡ suc (length (drop k xs) / 64) = simp (length-append, length-drop, lx) (one_more a k (length xs) ek hk) in
         ap (λ (u : Progress). u.value) (across s xs k f ek hk)
-        ∙ (λ i. blocksBy compress (length (drop k xs) / 64) (compress s.value ((e ∙ sym t) i)) (sym d i))
-        ∙ ap (λ (j : ℕ). blocksBy compress j s.value (take a s.block ++ xs)) (sym n)
+        ∙ (λ i. blocks_by compress (length (drop k xs) / 64) (compress s.value ((e ∙ sym t) i)) (sym d i))
+        ∙ ap (λ (j : ℕ). blocks_by compress j s.value (take a s.block ++ xs)) (sym n)
       where
         one_more : (a k x : ℕ) → a + k ≡ 64 → k ≤ x → (a + x) / 64 ≡ suc ((x - k) / 64)
         one_more a k x e h = omega arith
 
   -- the digest from the parts of a hash in progress
   pub finished-closing : (written : List ℕ → List ℕ) (s : Progress) → s.count < 2 ^ 64 → length s.block ≡ 64
-      → finishedBy compress written s ≡ written (closingBy compress s.value (take (s.count % 64) s.block) s.count)
-  unfolding finishedBy closingBy held
-  finished-closing written s f lb = ap written (joined s (padding s.count) f lb (padding-long s.count))
+      → finishedBy compress written s ≡ written (closing_by compress s.value (take (s.count % 64) s.block) s.count)
+  unfolding finishedBy closing_by held
+  finished-closing written s f lb = ap written (joined s (padding s.count) f lb (padding_long s.count))
 
   pub stream-is-hash : (first : List ℕ) (written : List ℕ → List ℕ) → StreamIsHash compress first written
-  unfolding finishedBy hashBy padded
+  unfolding finishedBy hash_by padded
   stream-is-hash first written m =
       let p : List ℕ = padding (length m) in
       let s : Progress = started first in
       let c : (absorbedBy compress s m).count ≡ length m % 2 ^ 64 = ap (λ (u : Progress). u.count) (starting s m (lit< tt) refl refl) ∙ ap (λ (n : ℕ). n % 2 ^ 64) (zero-add (length m)) in
       ap written
       (ap (λ (n : ℕ). (absorbedBy compress (absorbedBy compress s m) (padding n)).value) c
-      ∙ ap (λ (q : List ℕ). (absorbedBy compress (absorbedBy compress s m) q).value) (padding-mod (length m))
+      ∙ ap (λ (q : List ℕ). (absorbedBy compress (absorbedBy compress s m) q).value) (padding_mod (length m))
       ∙ ap (λ (t : Progress). t.value) (sym (absorbed-append s m p) ∙ starting s (m ++ p) (lit< tt) refl refl))
 
   -- a block absorbed from the start
-  absorbed-block : (first b : List ℕ) → length b ≡ 64 → absorbedBy compress (started first) b ≡ startedAfter (compress first b)
+  absorbed-block : (first b : List ℕ) → length b ≡ 64 → absorbedBy compress (started first) b ≡ started_after (compress first b)
   absorbed-block first b e =
       let none : drop (length b / 64 * 64) b ≡ [] = drop_of_length-le b {i = length b / 64 * 64} (omega arith) in
       let all : (0 + length b) % 2 ^ 64 ≡ 64 = omega arith in

@@ -21,9 +21,9 @@ listed_at f (suc m) i zero h = ap f (sym (add-zero i))
 listed_at f (suc m) i (suc n) h = listed_at f m (suc i) n (le_of_suc-le-suc h) ∙ ap f (suc-add i n ∙ sym (add-suc i n))
 
 -- place n has the schedule's word t + n
-pub window-at : (f : ℕ → ℕ) (t n : ℕ) → n < 16 → get_or (window f t) n 0 ≡ f (t + n)
+pub window_at : (f : ℕ → ℕ) (t n : ℕ) → n < 16 → get_or (window f t) n 0 ≡ f (t + n)
 unfolding window listed
-window-at f t n h = listed_at (λ (i : ℕ). f (t + i)) 16 0 n h ∙ ap (λ (i : ℕ). f (t + i)) (zero-add n)
+window_at f t n h = listed_at (λ (i : ℕ). f (t + i)) 16 0 n h ∙ ap (λ (i : ℕ). f (t + i)) (zero-add n)
 
 -- the first window: sixteen words that are a block's own, g
 pub loaded : (f g : ℕ → ℕ) → ((t : ℕ) → t < 16 → f t ≡ g t) → (r0 r1 r2 r3 r4 r5 r6 r7 r8 r9 r10 r11 r12 r13 r14 r15 : ℕ)
@@ -56,21 +56,21 @@ unfoldable pub mixed : (ℕ → ℕ) → ℕ → ℕ → List ℕ
 mixed f t n =
     f (t + place n 0) ∷ f (t + place n 1) ∷ f (t + place n 2) ∷ f (t + place n 3) ∷ f (t + place n 4) ∷ f (t + place n 5) ∷ f (t + place n 6) ∷ f (t + place n 7) ∷ f (t + place n 8) ∷ f (t + place n 9) ∷ f (t + place n 10) ∷ f (t + place n 11) ∷ f (t + place n 12) ∷ f (t + place n 13) ∷ f (t + place n 14) ∷ f (t + place n 15) ∷ []
 
-pub mixed-none : (f : ℕ → ℕ) (t : ℕ) {w : List ℕ} → w ≡ window f t → w ≡ mixed f t 0
+pub mixed_none : (f : ℕ → ℕ) (t : ℕ) {w : List ℕ} → w ≡ window f t → w ≡ mixed f t 0
 unfolding mixed window
-mixed-none f t e = e
+mixed_none f t e = e
 
-pub mixed-all : (f : ℕ → ℕ) (t : ℕ) {w : List ℕ} → w ≡ mixed f t 16 → w ≡ window f (t + 16)
+pub mixed_all : (f : ℕ → ℕ) (t : ℕ) {w : List ℕ} → w ≡ mixed f t 16 → w ≡ window f (t + 16)
 unfolding mixed window
-mixed-all f t e =
+mixed_all f t e =
     e ∙ (λ j. f (sym (add_assoc t 16 0) j) ∷ f (sym (add_assoc t 16 1) j) ∷ f (sym (add_assoc t 16 2) j) ∷ f (sym (add_assoc t 16 3) j) ∷ f (sym (add_assoc t 16 4) j) ∷ f (sym (add_assoc t 16 5) j) ∷ f (sym (add_assoc t 16 6) j) ∷ f (sym (add_assoc t 16 7) j) ∷ f (sym (add_assoc t 16 8) j) ∷ f (sym (add_assoc t 16 9) j) ∷ f (sym (add_assoc t 16 10) j) ∷ f (sym (add_assoc t 16 11) j) ∷ f (sym (add_assoc t 16 12) j) ∷ f (sym (add_assoc t 16 13) j) ∷ f (sym (add_assoc t 16 14) j) ∷ f (sym (add_assoc t 16 15) j) ∷ [])
 
 -- where the words p, q, r and 0 after word t + n stand in that window, and that word n + 16 goes to place n
 pub record Places (f : ℕ → ℕ) (p q r t n i j k : ℕ) : Type 0 where
   pub at_p : get_or (mixed f t n) i 0 ≡ f (t + (n + p))
-  pub at-q : get_or (mixed f t n) j 0 ≡ f (t + (n + q))
-  pub at-r : get_or (mixed f t n) k 0 ≡ f (t + (n + r))
-  pub at-0 : get_or (mixed f t n) n 0 ≡ f (t + n)
+  pub at_q : get_or (mixed f t n) j 0 ≡ f (t + (n + q))
+  pub at_r : get_or (mixed f t n) k 0 ≡ f (t + (n + r))
+  pub at_0 : get_or (mixed f t n) n 0 ≡ f (t + n)
   pub put : set (mixed f t n) n (f (t + (n + 16))) ≡ mixed f t (suc n)
 
 module _ (f : ℕ → ℕ) (next : ℕ → ℕ → ℕ → ℕ → ℕ) (p q r : ℕ) (late : (t : ℕ) → f (t + 16) ≡ next (f (t + p)) (f (t + q)) (f (t + r)) (f t)) where
@@ -86,5 +86,5 @@ module _ (f : ℕ → ℕ) (next : ℕ → ℕ → ℕ → ℕ → ℕ) (p q r :
       → v ≡ set w n (next (get_or w i 0) (get_or w j 0) (get_or w k 0) (get_or w n 0)) → v ≡ mixed f t (suc n)
   stored t n i j k {w} s e ev =
       let g : (m : ℕ) → get_or w m 0 ≡ get_or (mixed f t n) m 0 = λ m. ap (λ (l : List ℕ). get_or l m 0) e in
-      let v = fresh t n refl (g i ∙ s.at_p) (g j ∙ s.at-q) (g k ∙ s.at-r) (g n ∙ s.at-0) in
+      let v = fresh t n refl (g i ∙ s.at_p) (g j ∙ s.at_q) (g k ∙ s.at_r) (g n ∙ s.at_0) in
       ev ∙ (λ m. set (e m) n (v m)) ∙ s.put

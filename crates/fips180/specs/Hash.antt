@@ -15,15 +15,15 @@ unfoldable pub padded : List ℕ → List ℕ
 padded m = m ++ padding (length m)
 
 -- 6.1.2 and 6.2.2, 1: the first t words of a schedule; `next` gives a word by the words before it and its place
-unfoldable pub scheduleBy : (List ℕ → ℕ → ℕ) → ℕ → List ℕ
-scheduleBy next zero = []
-scheduleBy next (suc t) = scheduleBy next t ++ (next (scheduleBy next t) t ∷ [])
+unfoldable pub schedule_by : (List ℕ → ℕ → ℕ) → ℕ → List ℕ
+schedule_by next zero = []
+schedule_by next (suc t) = schedule_by next t ++ (next (schedule_by next t) t ∷ [])
 
 -- 6.1.2 and 6.2.2: the hash value after the first n blocks of m, from the hash value h
-unfoldable pub blocksBy : (List ℕ → List ℕ → List ℕ) → ℕ → List ℕ → List ℕ → List ℕ
-blocksBy compress zero h m = h
-blocksBy compress (suc n) h m = blocksBy compress n (compress h (take 64 m)) (drop 64 m)
+unfoldable pub blocks_by : (List ℕ → List ℕ → List ℕ) → ℕ → List ℕ → List ℕ → List ℕ
+blocks_by compress zero h m = h
+blocks_by compress (suc n) h m = blocks_by compress n (compress h (take 64 m)) (drop 64 m)
 
 -- 6.1 and 6.2: the hash of a message: the last hash value, from the first one, written as bytes
-unfoldable pub hashBy : (List ℕ → List ℕ → List ℕ) → List ℕ → (List ℕ → List ℕ) → List ℕ → List ℕ
-hashBy compress first written m = written (blocksBy compress (length (padded m) / 64) first (padded m))
+unfoldable pub hash_by : (List ℕ → List ℕ → List ℕ) → List ℕ → (List ℕ → List ℕ) → List ℕ → List ℕ
+hash_by compress first written m = written (blocks_by compress (length (padded m) / 64) first (padded m))

@@ -5,7 +5,7 @@ use Rattle.std.specs.Prelude.{cond, List, [], ◌∷◌, ◌++◌, ℕ, zero, su
 use Rattle.std.specs.Int.Bits.{bit_xor}
 use Rattle.slices.specs.Numbers.{be32}
 use Rattle.fips180.specs.Words.{ROTL, Ch, Maj, word}
-use Rattle.fips180.specs.Hash.{scheduleBy, blocksBy, hashBy}
+use Rattle.fips180.specs.Hash.{schedule_by, blocks_by, hash_by}
 
 -- 4.1.1: the function of round t, (4.1): Ch, Parity, Maj and Parity, for twenty rounds each
 abbrev pub Parity : ℕ → ℕ → ℕ → ℕ
@@ -32,7 +32,7 @@ word_at b w t = cond (ltb t 16) (word b t) (next_w (get_or w (t - 3) 0) (get_or 
 
 -- W t, which the standard defines by its two cases: `Sha1ScheduleByCases` of Statements.antt is its text
 unfoldable pub W : List ℕ → ℕ → ℕ
-W b t = get_or (scheduleBy (word_at b) (suc t)) t 0
+W b t = get_or (schedule_by (word_at b) (suc t)) t 0
 
 -- 6.1.2, 3: the sum of a round, whose function gives v, and the working variables a b c d e after it
 unfoldable pub T : ℕ → ℕ → ℕ → ℕ → ℕ → ℕ
@@ -62,7 +62,7 @@ compress h b = sums h (rounds h b 80)
 
 -- 6.1.2: the hash value after the first n blocks of m, from h
 abbrev pub blocks : ℕ → List ℕ → List ℕ → List ℕ
-blocks = blocksBy compress
+blocks = blocks_by compress
 
 -- 6.1.2, the end: the digest is the last hash value's words, one after another
 unfoldable pub digest : List ℕ → List ℕ
@@ -70,4 +70,4 @@ digest h = be32 (get_or h 0 0) ++ (be32 (get_or h 1 0) ++ (be32 (get_or h 2 0) +
 
 -- 6.1: the hash of a message
 unfoldable pub sha1 : List ℕ → List ℕ
-sha1 = hashBy compress H0 digest
+sha1 = hash_by compress H0 digest

@@ -5,7 +5,7 @@ use Rattle.std.specs.Prelude.{cond, List, [], ◌∷◌, ◌++◌, ℕ, zero, su
 use Rattle.std.specs.Int.Bits.{bit_xor}
 use Rattle.slices.specs.Numbers.{be32}
 use Rattle.fips180.specs.Words.{SHR, ROTR, Ch, Maj, word}
-use Rattle.fips180.specs.Hash.{scheduleBy, blocksBy, hashBy}
+use Rattle.fips180.specs.Hash.{schedule_by, blocks_by, hash_by}
 
 -- 4.1.2: the functions (4.4) to (4.7); Ch and Maj, (4.2) and (4.3), are those of SHA-1 too
 abbrev pub Σ0 : ℕ → ℕ
@@ -46,7 +46,7 @@ word_at b w t = cond (ltb t 16) (word b t) (next_w (get_or w (t - 2) 0) (get_or 
 
 -- W t, which the standard defines by its two cases: `ScheduleByCases` of Statements.antt is its text
 unfoldable pub W : List ℕ → ℕ → ℕ
-W b t = get_or (scheduleBy (word_at b) (suc t)) t 0
+W b t = get_or (schedule_by (word_at b) (suc t)) t 0
 
 -- 6.2.2, 3: a round, on the list of the working variables a b c d e f g h; each sum is taken whole modulo 2 ^ 32
 unfoldable pub T1 : ℕ → ℕ → ℕ → ℕ → ℕ → ℕ → ℕ
@@ -80,7 +80,7 @@ compress h b = sums h (rounds h b 64)
 
 -- 6.2.2: the hash value after the first n blocks of m, from h
 abbrev pub blocks : ℕ → List ℕ → List ℕ → List ℕ
-blocks = blocksBy compress
+blocks = blocks_by compress
 
 -- 6.2.2, the end: the digest is the last hash value's words, one after another
 unfoldable pub digest : List ℕ → List ℕ
@@ -89,4 +89,4 @@ digest h =
 
 -- 6.2: the hash of a message
 unfoldable pub sha256 : List ℕ → List ℕ
-sha256 = hashBy compress H0 digest
+sha256 = hash_by compress H0 digest

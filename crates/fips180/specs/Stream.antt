@@ -15,8 +15,8 @@ abbrev pub started : List ℕ → Progress
 started first = record { value = first; block = replicate 64 0; count = 0 }
 
 -- one block is absorbed, after which the hash value is `value`
-abbrev pub startedAfter : List ℕ → Progress
-startedAfter value = record { value = value; block = replicate 64 0; count = 64 }
+abbrev pub started_after : List ℕ → Progress
+started_after value = record { value = value; block = replicate 64 0; count = 64 }
 
 module _ (compress : List ℕ → List ℕ → List ℕ) where
   -- one byte more: it goes into the block; a full block is compressed, and an empty one begun

@@ -2,7 +2,7 @@
 -- A word is a number below 2 ^ 32 and a byte one below 256.
 use Rattle.std.specs.Prelude.{List, ℕ, ◌+◌, ◌-◌, ◌*◌, ◌/◌, ◌%◌, ◌^◌}
 use Rattle.std.specs.Int.Bits.{bit_and, bit_or, bit_xor}
-use Rattle.slices.specs.Numbers.{be32At}
+use Rattle.slices.specs.Numbers.{be32_at}
 
 -- 3.2, operation 3: the right shift of a word by n bits
 abbrev pub SHR : ℕ → ℕ → ℕ
@@ -25,4 +25,4 @@ Maj x y z = bit_xor (bit_xor (bit_and x y) (bit_and x z)) (bit_and y z)
 
 -- 5.2.1: word t of a block, high byte first (3.1)
 abbrev pub word : List ℕ → ℕ → ℕ
-word b t = be32At b (4 * t)
+word b t = be32_at b (4 * t)

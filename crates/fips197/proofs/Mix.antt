@@ -4,11 +4,11 @@ use Prim.Native.Nat.{ℕ, zero, suc, ◌*◌, ◌/◌, ◌%◌, ◌<◌}
 use native.Mathlib.Nat.{add-zero, zero-lt-suc, zero-mul, one-mul}
 use lib.Bits.{bit_xor, xor_shr, xor_mod, xor_block, xor_comm, xor_zero_r}
 use mathlib.Core.Bool.{Bool}
-use Rattle.fips197.specs.State.{mixByte, invMixByte}
+use Rattle.fips197.specs.State.{mix_byte, inv_mix_byte}
 use lib.Dec.{T, eqb, eqb→eq}
-use Rattle.aes_sbox.specs.Field.{xtime, mulBits, mul}
+use Rattle.aes_sbox.specs.Field.{xtime, mul_bits, mul}
 use Rattle.aes_sbox.proofs.Table.{both, both_left, both_right, below}
-use Rattle.fips197.proofs.Xor.{bit, mod2-lt, xor_assoc, xor-cancel}
+use Rattle.fips197.proofs.Xor.{bit, mod2_lt, xor_assoc, xor_cancel}
 
 -- ---- sums of four, over any operation that is associative and commutative
 
@@ -63,16 +63,16 @@ twice : (a b : ℕ) → bit_xor a b * 2 ≡ bit_xor (a * 2) (b * 2)
 twice a b =
     sym (ap₂ bit_xor (sym (add-zero (a * 2))) (sym (add-zero (b * 2))) ∙ xor_block 1 a b 0 0 (zero-lt-suc 1) (zero-lt-suc 1) ∙ add-zero (bit_xor a b * 2))
 
-xtime-linear : Lin xtime
+xtime_linear : Lin xtime
 unfolding xtime
-xtime-linear a b =
+xtime_linear a b =
     ap₂ bit_xor
     (ap (λ (x : ℕ). x % 256) (twice a b) ∙ xor_mod (a * 2) (b * 2) 8)
     (ap (λ (x : ℕ). x % 2 * 0x1b) (xor_shr a b 7) ∙ ap (λ (x : ℕ). x * 0x1b) (xor_mod (a / 128) (b / 128) 1)
     ∙ bit (λ (n : ℕ). bit_xor n (b / 128 % 2) * 0x1b ≡ bit_xor (n * 0x1b) (b / 128 % 2 * 0x1b))
     refl
-    (bit (λ (n : ℕ). bit_xor 1 n * 0x1b ≡ bit_xor 0x1b (n * 0x1b)) refl refl (b / 128 % 2) (mod2-lt (b / 128)))
-    (a / 128 % 2) (mod2-lt (a / 128)))
+    (bit (λ (n : ℕ). bit_xor 1 n * 0x1b ≡ bit_xor 0x1b (n * 0x1b)) refl refl (b / 128 % 2) (mod2_lt (b / 128)))
+    (a / 128 % 2) (mod2_lt (a / 128)))
     ∙ exchange bit_xor xor_comm xor_assoc (a * 2 % 256) (b * 2 % 256) (a / 128 % 2 * 0x1b) (b / 128 % 2 * 0x1b)
 
 -- ---- the products that the mixing takes, by xtime
@@ -100,64 +100,64 @@ by14 a = bit_xor (xtime (xtime (xtime a))) (bit_xor (xtime (xtime a)) (xtime a))
 
 -- ---- and that they are the products of FIPS 197
 
-product-zero : (n a : ℕ) → mulBits n a 0 ≡ 0
-unfolding mulBits
-product-zero zero a = refl
-product-zero (suc n) a = ap₂ bit_xor (zero-mul a) (product-zero n (xtime a))
+product_zero : (n a : ℕ) → mul_bits n a 0 ≡ 0
+unfolding mul_bits
+product_zero zero a = refl
+product_zero (suc n) a = ap₂ bit_xor (zero-mul a) (product_zero n (xtime a))
 
 -- a bit of the factor that is not set, and one that is
 module _ (n a b : ℕ) where
-  product-off : b % 2 ≡ 0 → mulBits (suc n) a b ≡ mulBits n (xtime a) (b / 2)
-  unfolding mulBits
-  product-off e = ap (λ (x : ℕ). bit_xor x (mulBits n (xtime a) (b / 2))) (ap (λ (x : ℕ). x * a) e ∙ zero-mul a)
+  product-off : b % 2 ≡ 0 → mul_bits (suc n) a b ≡ mul_bits n (xtime a) (b / 2)
+  unfolding mul_bits
+  product-off e = ap (λ (x : ℕ). bit_xor x (mul_bits n (xtime a) (b / 2))) (ap (λ (x : ℕ). x * a) e ∙ zero-mul a)
 
-  product-on : b % 2 ≡ 1 → mulBits (suc n) a b ≡ bit_xor (mulBits n (xtime a) (b / 2)) a
-  unfolding mulBits
+  product-on : b % 2 ≡ 1 → mul_bits (suc n) a b ≡ bit_xor (mul_bits n (xtime a) (b / 2)) a
+  unfolding mul_bits
   product-on e =
-      ap (λ (x : ℕ). bit_xor x (mulBits n (xtime a) (b / 2))) (ap (λ (x : ℕ). x * a) e ∙ one-mul a) ∙ xor_comm a (mulBits n (xtime a) (b / 2))
+      ap (λ (x : ℕ). bit_xor x (mul_bits n (xtime a) (b / 2))) (ap (λ (x : ℕ). x * a) e ∙ one-mul a) ∙ xor_comm a (mul_bits n (xtime a) (b / 2))
 
-product-1 : (n a : ℕ) → mulBits (suc n) a 1 ≡ a
-product-1 n a = product-on n a 1 refl ∙ ap (λ (x : ℕ). bit_xor x a) (product-zero n (xtime a))
+product_1 : (n a : ℕ) → mul_bits (suc n) a 1 ≡ a
+product_1 n a = product-on n a 1 refl ∙ ap (λ (x : ℕ). bit_xor x a) (product_zero n (xtime a))
 
-mul-2 : (a : ℕ) → mul a 2 ≡ by2 a
+mul_2 : (a : ℕ) → mul a 2 ≡ by2 a
 unfolding mul
-mul-2 a = product-off 7 a 2 refl ∙ product-1 6 (xtime a)
+mul_2 a = product-off 7 a 2 refl ∙ product_1 6 (xtime a)
 
-mul-3 : (a : ℕ) → mul a 3 ≡ by3 a
+mul_3 : (a : ℕ) → mul a 3 ≡ by3 a
 unfolding mul
-mul-3 a = product-on 7 a 3 refl ∙ ap (λ (x : ℕ). bit_xor x a) (product-1 6 (xtime a))
+mul_3 a = product-on 7 a 3 refl ∙ ap (λ (x : ℕ). bit_xor x a) (product_1 6 (xtime a))
 
 -- {04} and {08} in the factor, after its two lowest bits
-product-2 : (a : ℕ) → mulBits 6 a 2 ≡ by2 a
-product-2 a = product-off 5 a 2 refl ∙ product-1 4 (xtime a)
+product_2 : (a : ℕ) → mul_bits 6 a 2 ≡ by2 a
+product_2 a = product-off 5 a 2 refl ∙ product_1 4 (xtime a)
 
-product-3 : (a : ℕ) → mulBits 6 a 3 ≡ by3 a
-product-3 a = product-on 5 a 3 refl ∙ ap (λ (x : ℕ). bit_xor x a) (product-1 4 (xtime a))
+product_3 : (a : ℕ) → mul_bits 6 a 3 ≡ by3 a
+product_3 a = product-on 5 a 3 refl ∙ ap (λ (x : ℕ). bit_xor x a) (product_1 4 (xtime a))
 
-mul-9 : (a : ℕ) → mul a 9 ≡ by9 a
+mul_9 : (a : ℕ) → mul a 9 ≡ by9 a
 unfolding mul
-mul-9 a = product-on 7 a 9 refl ∙ ap (λ (x : ℕ). bit_xor x a) (product-off 6 (xtime a) 4 refl ∙ product-2 (xtime (xtime a)))
+mul_9 a = product-on 7 a 9 refl ∙ ap (λ (x : ℕ). bit_xor x a) (product-off 6 (xtime a) 4 refl ∙ product_2 (xtime (xtime a)))
 
-mul-11 : (a : ℕ) → mul a 11 ≡ by11 a
+mul_11 : (a : ℕ) → mul a 11 ≡ by11 a
 unfolding mul
-mul-11 a =
+mul_11 a =
     product-on 7 a 11 refl
-    ∙ ap (λ (x : ℕ). bit_xor x a) (product-on 6 (xtime a) 5 refl ∙ ap (λ (x : ℕ). bit_xor x (xtime a)) (product-2 (xtime (xtime a))))
+    ∙ ap (λ (x : ℕ). bit_xor x a) (product-on 6 (xtime a) 5 refl ∙ ap (λ (x : ℕ). bit_xor x (xtime a)) (product_2 (xtime (xtime a))))
     ∙ xor_assoc (xtime (xtime (xtime a))) (xtime a) a
 
-mul-13 : (a : ℕ) → mul a 13 ≡ by13 a
+mul_13 : (a : ℕ) → mul a 13 ≡ by13 a
 unfolding mul
-mul-13 a =
+mul_13 a =
     product-on 7 a 13 refl
-    ∙ ap (λ (x : ℕ). bit_xor x a) (product-off 6 (xtime a) 6 refl ∙ product-3 (xtime (xtime a)))
+    ∙ ap (λ (x : ℕ). bit_xor x a) (product-off 6 (xtime a) 6 refl ∙ product_3 (xtime (xtime a)))
     ∙ xor_assoc (xtime (xtime (xtime a))) (xtime (xtime a)) a
 
-mul-14 : (a : ℕ) → mul a 14 ≡ by14 a
+mul_14 : (a : ℕ) → mul a 14 ≡ by14 a
 unfolding mul
-mul-14 a =
+mul_14 a =
     product-off 7 a 14 refl
     ∙ product-on 6 (xtime a) 7 refl
-    ∙ ap (λ (x : ℕ). bit_xor x (xtime a)) (product-3 (xtime (xtime a)))
+    ∙ ap (λ (x : ℕ). bit_xor x (xtime a)) (product_3 (xtime (xtime a)))
     ∙ xor_assoc (xtime (xtime (xtime a))) (xtime (xtime a)) (xtime a)
 
 -- ---- the maps that the mixing takes are linear
@@ -172,25 +172,25 @@ same : Lin (λ a. a)
 same a b = refl
 
 four : Lin (λ a. xtime (xtime a))
-four = after xtime xtime xtime-linear xtime-linear
+four = after xtime xtime xtime_linear xtime_linear
 
 eight : Lin (λ a. xtime (xtime (xtime a)))
-eight = after xtime (λ a. xtime (xtime a)) xtime-linear four
+eight = after xtime (λ a. xtime (xtime a)) xtime_linear four
 
 lin3 : Lin by3
-lin3 = add xtime (λ a. a) xtime-linear same
+lin3 = add xtime (λ a. a) xtime_linear same
 
 lin9 : Lin by9
 lin9 = add (λ a. xtime (xtime (xtime a))) (λ a. a) eight same
 
 lin11 : Lin by11
-lin11 = add (λ a. xtime (xtime (xtime a))) by3 eight (add xtime (λ a. a) xtime-linear same)
+lin11 = add (λ a. xtime (xtime (xtime a))) by3 eight (add xtime (λ a. a) xtime_linear same)
 
 lin13 : Lin by13
 lin13 = add (λ a. xtime (xtime (xtime a))) (λ a. bit_xor (xtime (xtime a)) a) eight (add (λ a. xtime (xtime a)) (λ a. a) four same)
 
 lin14 : Lin by14
-lin14 = add (λ a. xtime (xtime (xtime a))) (λ a. bit_xor (xtime (xtime a)) (xtime a)) eight (add (λ a. xtime (xtime a)) xtime four xtime-linear)
+lin14 = add (λ a. xtime (xtime (xtime a))) (λ a. bit_xor (xtime (xtime a)) (xtime a)) eight (add (λ a. xtime (xtime a)) xtime four xtime_linear)
 
 -- ---- a row of four maps after another, each turned by one place from the one before
 
@@ -273,50 +273,50 @@ mixes k h =
     unit4 by2 by3 (λ a. a) (λ a. a) by14 by11 by13 by9 k
     (below (unit by2 by3 (λ a. a) (λ a. a) by14 by11 by13 by9) 256 tt k h)
 
-abbrev mixX : ℕ → ℕ → ℕ → ℕ → ℕ
-mixX a b c d = sum (by2 a) (by3 b) c d
+abbrev mix_x : ℕ → ℕ → ℕ → ℕ → ℕ
+mix_x a b c d = sum (by2 a) (by3 b) c d
 
-abbrev invMixX : ℕ → ℕ → ℕ → ℕ → ℕ
-invMixX a b c d = sum (by14 a) (by11 b) (by13 c) (by9 d)
+abbrev inv_mix_x : ℕ → ℕ → ℕ → ℕ → ℕ
+inv_mix_x a b c d = sum (by14 a) (by11 b) (by13 c) (by9 d)
 
-mix-is : (a b c d : ℕ) → mixByte a b c d ≡ mixX a b c d
-unfolding mixByte
-mix-is a b c d = ap₂ (λ (p q : ℕ). sum p q c d) (mul-2 a) (mul-3 b)
+mix_is : (a b c d : ℕ) → mix_byte a b c d ≡ mix_x a b c d
+unfolding mix_byte
+mix_is a b c d = ap₂ (λ (p q : ℕ). sum p q c d) (mul_2 a) (mul_3 b)
 
-inv-is : (a b c d : ℕ) → invMixByte a b c d ≡ invMixX a b c d
-unfolding invMixByte
-inv-is a b c d = ap₄ bit_xor xor_comm xor_assoc (mul-14 a) (mul-11 b) (mul-13 c) (mul-9 d)
+inv_is : (a b c d : ℕ) → inv_mix_byte a b c d ≡ inv_mix_x a b c d
+unfolding inv_mix_byte
+inv_is a b c d = ap₄ bit_xor xor_comm xor_assoc (mul_14 a) (mul_11 b) (mul_13 c) (mul_9 d)
 
 module _ (a b c d : ℕ) (ha : a < 256) (hb : b < 256) (hc : c < 256) (hd : d < 256) where
-  pub unmix-byte : invMixByte (mixByte a b c d) (mixByte b c d a) (mixByte c d a b) (mixByte d a b c) ≡ a
+  pub unmix-byte : inv_mix_byte (mix_byte a b c d) (mix_byte b c d a) (mix_byte c d a b) (mix_byte d a b c) ≡ a
   unmix-byte =
-      inv-is (mixByte a b c d) (mixByte b c d a) (mixByte c d a b) (mixByte d a b c)
-      ∙ ap₄ bit_xor xor_comm xor_assoc (ap by14 (mix-is a b c d)) (ap by11 (mix-is b c d a)) (ap by13 (mix-is c d a b)) (ap by9 (mix-is d a b c))
+      inv_is (mix_byte a b c d) (mix_byte b c d a) (mix_byte c d a b) (mix_byte d a b c)
+      ∙ ap₄ bit_xor xor_comm xor_assoc (ap by14 (mix_is a b c d)) (ap by11 (mix_is b c d a)) (ap by13 (mix_is c d a b)) (ap by9 (mix_is d a b c))
       ∙ undo by14 by11 by13 by9 by2 by3 (λ a. a) (λ a. a) lin14 lin11 lin13 lin9 unmixes a b c d ha hb hc hd
 
-  pub mix-byte : mixByte (invMixByte a b c d) (invMixByte b c d a) (invMixByte c d a b) (invMixByte d a b c) ≡ a
+  pub mix-byte : mix_byte (inv_mix_byte a b c d) (inv_mix_byte b c d a) (inv_mix_byte c d a b) (inv_mix_byte d a b c) ≡ a
   mix-byte =
-      mix-is (invMixByte a b c d) (invMixByte b c d a) (invMixByte c d a b) (invMixByte d a b c)
-      ∙ ap₄ bit_xor xor_comm xor_assoc (ap by2 (inv-is a b c d)) (ap by3 (inv-is b c d a)) (inv-is c d a b) (inv-is d a b c)
-      ∙ undo by2 by3 (λ a. a) (λ a. a) by14 by11 by13 by9 xtime-linear lin3 same same mixes a b c d ha hb hc hd
+      mix_is (inv_mix_byte a b c d) (inv_mix_byte b c d a) (inv_mix_byte c d a b) (inv_mix_byte d a b c)
+      ∙ ap₄ bit_xor xor_comm xor_assoc (ap by2 (inv_is a b c d)) (ap by3 (inv_is b c d a)) (inv_is c d a b) (inv_is d a b c)
+      ∙ undo by2 by3 (λ a. a) (λ a. a) by14 by11 by13 by9 xtime_linear lin3 same same mixes a b c d ha hb hc hd
 
 -- ---- the mixing with one doubling, as the code takes it: {02}(a + b) + b + (c + d)
 
-pub one-doubling : (a b c d : ℕ) → bit_xor (bit_xor (xtime (bit_xor a b)) b) (bit_xor c d) ≡ mixByte a b c d
-one-doubling a b c d =
-    ap (λ (x : ℕ). bit_xor x (bit_xor c d)) (ap (λ (x : ℕ). bit_xor x b) (xtime-linear a b) ∙ xor_assoc (xtime a) (xtime b) b)
-    ∙ sym (mix-is a b c d)
+pub one_doubling : (a b c d : ℕ) → bit_xor (bit_xor (xtime (bit_xor a b)) b) (bit_xor c d) ≡ mix_byte a b c d
+one_doubling a b c d =
+    ap (λ (x : ℕ). bit_xor x (bit_xor c d)) (ap (λ (x : ℕ). bit_xor x b) (xtime_linear a b) ∙ xor_assoc (xtime a) (xtime b) b)
+    ∙ sym (mix_is a b c d)
 
 -- ---- the inverse mixing by way of the mixing: {04}(a + c) and {04}(b + d) are added first
 
-half-mix : (a b c d u v : ℕ) → u ≡ bit_xor (by4 a) (by4 c) → v ≡ bit_xor (by4 b) (by4 d)
-    → mixX (bit_xor a u) (bit_xor b v) (bit_xor c u) (bit_xor d v) ≡ invMixX a b c d
-half-mix a b c d u v eu ev =
-    ap₂ (λ (p q : ℕ). sum p q (bit_xor c u) (bit_xor d v)) (xtime-linear a u) (lin3 b v)
+half_mix : (a b c d u v : ℕ) → u ≡ bit_xor (by4 a) (by4 c) → v ≡ bit_xor (by4 b) (by4 d)
+    → mix_x (bit_xor a u) (bit_xor b v) (bit_xor c u) (bit_xor d v) ≡ inv_mix_x a b c d
+half_mix a b c d u v eu ev =
+    ap₂ (λ (p q : ℕ). sum p q (bit_xor c u) (bit_xor d v)) (xtime_linear a u) (lin3 b v)
     ∙ sym (add4 bit_xor xor_comm xor_assoc (by2 a) (by3 b) c d (by2 u) (by3 v) u v)
     ∙ ap (bit_xor (sum (by2 a) (by3 b) c d))
     (exchange bit_xor xor_comm xor_assoc (by2 u) (by3 v) u v
-    ∙ ap₂ bit_xor (ap by3 eu ∙ lin3 (by4 a) (by4 c)) (xor-cancel (by2 v) v ∙ ap by2 ev ∙ xtime-linear (by4 b) (by4 d))
+    ∙ ap₂ bit_xor (ap by3 eu ∙ lin3 (by4 a) (by4 c)) (xor_cancel (by2 v) v ∙ ap by2 ev ∙ xtime_linear (by4 b) (by4 d))
     ∙ exchange bit_xor xor_comm xor_assoc (by3 (by4 a)) (by3 (by4 c)) (by2 (by4 b)) (by2 (by4 d)))
     ∙ add4 bit_xor xor_comm xor_assoc (by2 a) (by3 b) c d (by3 (by4 a)) (by2 (by4 b)) (by3 (by4 c)) (by2 (by4 d))
     ∙ ap₄ bit_xor xor_comm xor_assoc
@@ -327,20 +327,20 @@ half-mix a b c d u v eu ev =
 
 -- {04}(a + c) added to a and to c, {04}(b + d) to b and to d: the mixing of this is the inverse mixing
 pub premix : (a b c d : ℕ)
-    → mixByte (bit_xor a (by4 (bit_xor a c))) (bit_xor b (by4 (bit_xor b d))) (bit_xor c (by4 (bit_xor c a))) (bit_xor d (by4 (bit_xor d b)))
-    ≡ invMixByte a b c d
+    → mix_byte (bit_xor a (by4 (bit_xor a c))) (bit_xor b (by4 (bit_xor b d))) (bit_xor c (by4 (bit_xor c a))) (bit_xor d (by4 (bit_xor d b)))
+    ≡ inv_mix_byte a b c d
 premix a b c d =
-    mix-is _ _ _ _
-    ∙ ap₂ (λ (p q : ℕ). mixX (bit_xor a (by4 (bit_xor a c))) (bit_xor b (by4 (bit_xor b d))) (bit_xor c (by4 p)) (bit_xor d (by4 q))) (xor_comm c a) (xor_comm d b)
-    ∙ half-mix a b c d (by4 (bit_xor a c)) (by4 (bit_xor b d)) (four a c) (four b d)
-    ∙ sym (inv-is a b c d)
+    mix_is _ _ _ _
+    ∙ ap₂ (λ (p q : ℕ). mix_x (bit_xor a (by4 (bit_xor a c))) (bit_xor b (by4 (bit_xor b d))) (bit_xor c (by4 p)) (bit_xor d (by4 q))) (xor_comm c a) (xor_comm d b)
+    ∙ half_mix a b c d (by4 (bit_xor a c)) (by4 (bit_xor b d)) (four a c) (four b d)
+    ∙ sym (inv_is a b c d)
 
 -- ---- the inverse mixing of a sum
 
-pub inv-mix-add : (a b c d e f g h : ℕ)
-    → invMixByte (bit_xor a e) (bit_xor b f) (bit_xor c g) (bit_xor d h) ≡ bit_xor (invMixByte a b c d) (invMixByte e f g h)
-inv-mix-add a b c d e f g h =
-    inv-is (bit_xor a e) (bit_xor b f) (bit_xor c g) (bit_xor d h)
+pub inv_mix_add : (a b c d e f g h : ℕ)
+    → inv_mix_byte (bit_xor a e) (bit_xor b f) (bit_xor c g) (bit_xor d h) ≡ bit_xor (inv_mix_byte a b c d) (inv_mix_byte e f g h)
+inv_mix_add a b c d e f g h =
+    inv_is (bit_xor a e) (bit_xor b f) (bit_xor c g) (bit_xor d h)
     ∙ ap₄ bit_xor xor_comm xor_assoc (lin14 a e) (lin11 b f) (lin13 c g) (lin9 d h)
     ∙ sym (add4 bit_xor xor_comm xor_assoc (by14 a) (by11 b) (by13 c) (by9 d) (by14 e) (by11 f) (by13 g) (by9 h))
-    ∙ sym (ap₂ bit_xor (inv-is a b c d) (inv-is e f g h))
+    ∙ sym (ap₂ bit_xor (inv_is a b c d) (inv_is e f g h))

@@ -5,35 +5,35 @@ use mathlib.Core.List.{List, []}
 use Prim.Native.Nat.{ℕ, zero, suc, ◌<◌}
 use native.Mathlib.Omega.{arith}
 use lib.ListN.{get_or}
-use Rattle.fips197.specs.State.{State, Column, column, Block, block, invSubBytes, shiftRows, invShiftRows, mixColumns, invMixColumns, addRoundKey}
-use Rattle.fips197.specs.Cipher.{round, lastRound, invRound, invLastRound, rounds, invRounds, cipher, invCipher}
-use Rattle.fips197.specs.KeyExpansion.{rcon, keyCore, nextKey, roundKey, expandKey}
+use Rattle.fips197.specs.State.{State, Column, column, Block, block, inv_sub_bytes, shift_rows, inv_shift_rows, mix_columns, inv_mix_columns, add_round_key}
+use Rattle.fips197.specs.Cipher.{round, last_round, inv_round, inv_last_round, rounds, inv_rounds, cipher, inv_cipher}
+use Rattle.fips197.specs.KeyExpansion.{rcon, key_core, next_key, round_key, expand_key}
 use Rattle.fips197.specs.Statements.{CipherUndone}
-use Rattle.fips197.proofs.Steps.{subBytes-block, invSubBytes-block, unsub, resub, shiftRows-block, invShiftRows-block, unshift, reshift, mixColumns-block, invMixColumns-block, unmix, remix, addColumn-column, addRoundKey-block, unadd, xor-byte, xtime-byte}
-use Rattle.aes_sbox.proofs.Tables.{sboxOf-byte}
+use Rattle.fips197.proofs.Steps.{sub_bytes-block, inv_sub_bytes-block, unsub, resub, shift_rows-block, inv_shift_rows-block, unshift, reshift, mix_columns-block, inv_mix_columns-block, unmix, remix, add_column-column, add_round_key-block, unadd, xor_byte, xtime_byte}
+use Rattle.aes_sbox.proofs.Tables.{sbox_of_byte}
 
 -- ---- the inverse cipher, grouped from one look-up to the next
 
 abbrev pub begun : State → State
-begun s = invSubBytes (invShiftRows s)
+begun s = inv_sub_bytes (inv_shift_rows s)
 
 -- the rest of a round, and the beginning of the next
-unfoldable pub goneOn : State → State → State
-goneOn k s = begun (invMixColumns (addRoundKey s k))
+unfoldable pub gone_on : State → State → State
+gone_on k s = begun (inv_mix_columns (add_round_key s k))
 
 unfoldable pub turns : List State → ℕ → State → State
 turns ks zero s = s
-turns ks (suc n) s = turns ks n (goneOn (get_or ks (suc n) []) s)
+turns ks (suc n) s = turns ks n (gone_on (get_or ks (suc n) []) s)
 
-regroup : (ks : List State) (n : ℕ) (s : State) → begun (invRounds ks n s) ≡ turns ks n (begun s)
-unfolding invRounds turns goneOn invRound
+regroup : (ks : List State) (n : ℕ) (s : State) → begun (inv_rounds ks n s) ≡ turns ks n (begun s)
+unfolding inv_rounds turns gone_on inv_round
 regroup ks zero s = refl
-regroup ks (suc n) s = regroup ks n (invRound (get_or ks (suc n) []) s)
+regroup ks (suc n) s = regroup ks n (inv_round (get_or ks (suc n) []) s)
 
 pub regrouped : (ks : List State) (s : State)
-    → invCipher ks s ≡ addRoundKey (turns ks 9 (begun (addRoundKey s (get_or ks 10 [])))) (get_or ks 0 [])
-unfolding invCipher invLastRound
-regrouped ks s = ap (λ (x : State). addRoundKey x (get_or ks 0 [])) (regroup ks 9 (addRoundKey s (get_or ks 10 [])))
+    → inv_cipher ks s ≡ add_round_key (turns ks 9 (begun (add_round_key s (get_or ks 10 [])))) (get_or ks 0 [])
+unfolding inv_cipher inv_last_round
+regrouped ks s = ap (λ (x : State). add_round_key x (get_or ks 0 [])) (regroup ks 9 (add_round_key s (get_or ks 10 [])))
 
 abbrev pub Keys : List State → Type 0
 Keys ks = (n : ℕ) → n < 11 → Block (get_or ks n [])
@@ -43,45 +43,45 @@ Keys ks = (n : ℕ) → n < 11 → Block (get_or ks n [])
 module _ {s k : State} (b : Block s) (h : Block k) where
   round-block : Block (round k s)
   unfolding round
-  round-block = addRoundKey-block (mixColumns-block (shiftRows-block (subBytes-block b))) h
+  round-block = add_round_key-block (mix_columns-block (shift_rows-block (sub_bytes-block b))) h
 
-  lastRound-block : Block (lastRound k s)
-  unfolding lastRound
-  lastRound-block = addRoundKey-block (shiftRows-block (subBytes-block b)) h
+  lastRound-block : Block (last_round k s)
+  unfolding last_round
+  lastRound-block = add_round_key-block (shift_rows-block (sub_bytes-block b)) h
 
-  begun-block : Block (begun (addRoundKey s k))
-  begun-block = invSubBytes-block (invShiftRows-block (addRoundKey-block b h))
+  begun-block : Block (begun (add_round_key s k))
+  begun-block = inv_sub_bytes-block (inv_shift_rows-block (add_round_key-block b h))
 
-  goneOn-block : Block (goneOn k s)
-  unfolding goneOn
-  goneOn-block = invSubBytes-block (invShiftRows-block (invMixColumns-block (addRoundKey-block b h)))
+  goneOn-block : Block (gone_on k s)
+  unfolding gone_on
+  goneOn-block = inv_sub_bytes-block (inv_shift_rows-block (inv_mix_columns-block (add_round_key-block b h)))
 
-  unround : goneOn k (round k s) ≡ s
-  unfolding round goneOn
+  unround : gone_on k (round k s) ≡ s
+  unfolding round gone_on
   unround =
-      let u = subBytes-block b in
-      let v = shiftRows-block u in
-      ap (λ (x : State). begun (invMixColumns x)) (unadd (mixColumns-block v) h) ∙ ap begun (unmix v) ∙ ap invSubBytes (unshift u) ∙ unsub b
+      let u = sub_bytes-block b in
+      let v = shift_rows-block u in
+      ap (λ (x : State). begun (inv_mix_columns x)) (unadd (mix_columns-block v) h) ∙ ap begun (unmix v) ∙ ap inv_sub_bytes (unshift u) ∙ unsub b
 
-  reround : round k (goneOn k s) ≡ s
-  unfolding round goneOn
+  reround : round k (gone_on k s) ≡ s
+  unfolding round gone_on
   reround =
-      let u = addRoundKey-block b h in
-      let v = invMixColumns-block u in
-      ap (λ (x : State). addRoundKey (mixColumns (shiftRows x)) k) (resub (invShiftRows-block v))
-      ∙ ap (λ (x : State). addRoundKey (mixColumns x) k) (reshift v)
-      ∙ ap (λ (x : State). addRoundKey x k) (remix u)
+      let u = add_round_key-block b h in
+      let v = inv_mix_columns-block u in
+      ap (λ (x : State). add_round_key (mix_columns (shift_rows x)) k) (resub (inv_shift_rows-block v))
+      ∙ ap (λ (x : State). add_round_key (mix_columns x) k) (reshift v)
+      ∙ ap (λ (x : State). add_round_key x k) (remix u)
       ∙ unadd b h
 
-  unlast : begun (addRoundKey (lastRound k s) k) ≡ s
-  unfolding lastRound
-  unlast = let u = subBytes-block b in ap begun (unadd (shiftRows-block u) h) ∙ ap invSubBytes (unshift u) ∙ unsub b
+  unlast : begun (add_round_key (last_round k s) k) ≡ s
+  unfolding last_round
+  unlast = let u = sub_bytes-block b in ap begun (unadd (shift_rows-block u) h) ∙ ap inv_sub_bytes (unshift u) ∙ unsub b
 
-  relast : lastRound k (begun (addRoundKey s k)) ≡ s
-  unfolding lastRound
+  relast : last_round k (begun (add_round_key s k)) ≡ s
+  unfolding last_round
   relast =
-      let u = addRoundKey-block b h in
-      ap (λ (x : State). addRoundKey (shiftRows x) k) (resub (invShiftRows-block u)) ∙ ap (λ (x : State). addRoundKey x k) (reshift u) ∙ unadd b h
+      let u = add_round_key-block b h in
+      ap (λ (x : State). add_round_key (shift_rows x) k) (resub (inv_shift_rows-block u)) ∙ ap (λ (x : State). add_round_key x k) (reshift u) ∙ unadd b h
 
 -- ---- the rounds 1 to n
 
@@ -114,76 +114,76 @@ module _ (ks : List State) (keys : Keys ks) where
 
   pub cipher-block : {s : State} → Block s → Block (cipher ks s)
   unfolding cipher
-  cipher-block b = lastRound-block (rounds-block 9 (omega arith) (addRoundKey-block b key0)) key10
+  cipher-block b = lastRound-block (rounds-block 9 (omega arith) (add_round_key-block b key0)) key10
 
-  pub invCipher-block : {s : State} → Block s → Block (invCipher ks s)
-  invCipher-block {s} b = rw regrouped (addRoundKey-block (turns-block 9 (omega arith) (begun-block b key10)) key0)
+  pub invCipher-block : {s : State} → Block s → Block (inv_cipher ks s)
+  invCipher-block {s} b = rw regrouped (add_round_key-block (turns-block 9 (omega arith) (begun-block b key10)) key0)
 
   -- what is encrypted is decrypted again
-  pub uncipher : {s : State} → Block s → invCipher ks (cipher ks s) ≡ s
+  pub uncipher : {s : State} → Block s → inv_cipher ks (cipher ks s) ≡ s
   unfolding cipher
   uncipher {s} b =
-      let u = addRoundKey-block b key0 in
-      regrouped ks (lastRound (get_or ks 10 []) (rounds ks 9 (addRoundKey s (get_or ks 0 []))))
-      ∙ ap (λ (x : State). addRoundKey (turns ks 9 x) (get_or ks 0 [])) (unlast (rounds-block 9 (omega arith) u) key10)
-      ∙ ap (λ (x : State). addRoundKey x (get_or ks 0 [])) (unrounds 9 (omega arith) u)
+      let u = add_round_key-block b key0 in
+      regrouped ks (last_round (get_or ks 10 []) (rounds ks 9 (add_round_key s (get_or ks 0 []))))
+      ∙ ap (λ (x : State). add_round_key (turns ks 9 x) (get_or ks 0 [])) (unlast (rounds-block 9 (omega arith) u) key10)
+      ∙ ap (λ (x : State). add_round_key x (get_or ks 0 [])) (unrounds 9 (omega arith) u)
       ∙ unadd b key0
 
   -- what is decrypted is encrypted again
-  pub recipher : {s : State} → Block s → cipher ks (invCipher ks s) ≡ s
+  pub recipher : {s : State} → Block s → cipher ks (inv_cipher ks s) ≡ s
   unfolding cipher
   recipher {s} b =
       let u = begun-block b key10 in
       let v = turns-block 9 (omega arith) u in
-      ap (λ (x : State). lastRound (get_or ks 10 []) (rounds ks 9 (addRoundKey x (get_or ks 0 [])))) (regrouped ks s)
-      ∙ ap (λ (x : State). lastRound (get_or ks 10 []) (rounds ks 9 x)) (unadd v key0)
-      ∙ ap (lastRound (get_or ks 10 [])) (rerounds 9 (omega arith) u)
+      ap (λ (x : State). last_round (get_or ks 10 []) (rounds ks 9 (add_round_key x (get_or ks 0 [])))) (regrouped ks s)
+      ∙ ap (λ (x : State). last_round (get_or ks 10 []) (rounds ks 9 x)) (unadd v key0)
+      ∙ ap (last_round (get_or ks 10 [])) (rerounds 9 (omega arith) u)
       ∙ relast b key10
 
 -- ---- the round keys
 
-rcon-byte : (n : ℕ) → rcon n < 256
+rcon_byte : (n : ℕ) → rcon n < 256
 unfolding rcon
-rcon-byte zero = omega arith
-rcon-byte (suc n) = xtime-byte (rcon n)
+rcon_byte zero = omega arith
+rcon_byte (suc n) = xtime_byte (rcon n)
 
-keyCore-column : (r : ℕ) → r < 256 → {w : List ℕ} → Column w → Column (keyCore w r)
-unfolding keyCore
-keyCore-column r h (column a b c d) =
-    column (xor-byte (sboxOf-byte _ b) h) (sboxOf-byte _ c) (sboxOf-byte _ d) (sboxOf-byte _ a)
+key_core-column : (r : ℕ) → r < 256 → {w : List ℕ} → Column w → Column (key_core w r)
+unfolding key_core
+key_core-column r h (column a b c d) =
+    column (xor_byte (sbox_of_byte _ b) h) (sbox_of_byte _ c) (sbox_of_byte _ d) (sbox_of_byte _ a)
 
-nextKey-block : (r : ℕ) → r < 256 → {k : State} → Block k → Block (nextKey k r)
-unfolding nextKey
-nextKey-block r h (block p q u v) =
-    let w0 = addColumn-column p (keyCore-column r h v) in
-    let w1 = addColumn-column q w0 in
-    let w2 = addColumn-column u w1 in
-    block w0 w1 w2 (addColumn-column v w2)
+next_key-block : (r : ℕ) → r < 256 → {k : State} → Block k → Block (next_key k r)
+unfolding next_key
+next_key-block r h (block p q u v) =
+    let w0 = add_column-column p (key_core-column r h v) in
+    let w1 = add_column-column q w0 in
+    let w2 = add_column-column u w1 in
+    block w0 w1 w2 (add_column-column v w2)
 
-roundKey-block : (k : State) → Block k → (n : ℕ) → Block (roundKey k n)
-unfolding roundKey
-roundKey-block k b zero = b
-roundKey-block k b (suc n) = nextKey-block (rcon n) (rcon-byte n) (roundKey-block k b n)
+round_key-block : (k : State) → Block k → (n : ℕ) → Block (round_key k n)
+unfolding round_key
+round_key-block k b zero = b
+round_key-block k b (suc n) = next_key-block (rcon n) (rcon_byte n) (round_key-block k b n)
 
 -- round key n stands at place n
-pub expandKey-at : (k : State) (n : ℕ) → n < 11 → get_or (expandKey k) n [] ≡ roundKey k n
-unfolding expandKey
-expandKey-at k zero h = refl
-expandKey-at k (suc zero) h = refl
-expandKey-at k (suc (suc zero)) h = refl
-expandKey-at k (suc (suc (suc zero))) h = refl
-expandKey-at k (suc (suc (suc (suc zero)))) h = refl
-expandKey-at k (suc (suc (suc (suc (suc zero))))) h = refl
-expandKey-at k (suc (suc (suc (suc (suc (suc zero)))))) h = refl
-expandKey-at k (suc (suc (suc (suc (suc (suc (suc zero))))))) h = refl
-expandKey-at k (suc (suc (suc (suc (suc (suc (suc (suc zero)))))))) h = refl
-expandKey-at k (suc (suc (suc (suc (suc (suc (suc (suc (suc zero))))))))) h = refl
-expandKey-at k (suc (suc (suc (suc (suc (suc (suc (suc (suc (suc zero)))))))))) h = refl
-expandKey-at k (suc (suc (suc (suc (suc (suc (suc (suc (suc (suc (suc n))))))))))) h = absurd (omega arith)
+pub expand_key_at : (k : State) (n : ℕ) → n < 11 → get_or (expand_key k) n [] ≡ round_key k n
+unfolding expand_key
+expand_key_at k zero h = refl
+expand_key_at k (suc zero) h = refl
+expand_key_at k (suc (suc zero)) h = refl
+expand_key_at k (suc (suc (suc zero))) h = refl
+expand_key_at k (suc (suc (suc (suc zero)))) h = refl
+expand_key_at k (suc (suc (suc (suc (suc zero))))) h = refl
+expand_key_at k (suc (suc (suc (suc (suc (suc zero)))))) h = refl
+expand_key_at k (suc (suc (suc (suc (suc (suc (suc zero))))))) h = refl
+expand_key_at k (suc (suc (suc (suc (suc (suc (suc (suc zero)))))))) h = refl
+expand_key_at k (suc (suc (suc (suc (suc (suc (suc (suc (suc zero))))))))) h = refl
+expand_key_at k (suc (suc (suc (suc (suc (suc (suc (suc (suc (suc zero)))))))))) h = refl
+expand_key_at k (suc (suc (suc (suc (suc (suc (suc (suc (suc (suc (suc n))))))))))) h = absurd (omega arith)
 
-pub expandKey-keys : (k : State) → Block k → Keys (expandKey k)
-expandKey-keys k b n h = subst Block (sym (expandKey-at k n h)) (roundKey-block k b n)
+pub expand_key_keys : (k : State) → Block k → Keys (expand_key k)
+expand_key_keys k b n h = subst Block (sym (expand_key_at k n h)) (round_key-block k b n)
 
 -- under the round keys of any key each cipher undoes the other
-pub cipher-undone : CipherUndone
-cipher-undone k b s h = (uncipher (expandKey k) (expandKey-keys k b) h, recipher (expandKey k) (expandKey-keys k b) h)
+pub cipher_undone : CipherUndone
+cipher_undone k b s h = (uncipher (expand_key k) (expand_key_keys k b) h, recipher (expand_key k) (expand_key_keys k b) h)

@@ -4,40 +4,40 @@ use mathlib.Core.List.{List}
 use Prim.Native.Nat.{ℕ, zero, suc, ◌*◌, ◌/◌, ◌%◌, ◌<◌}
 use native.Mathlib.Omega.{arith}
 use lib.Bits.{bit_xor, xor_lt}
-use Rattle.aes_sbox.specs.Field.{xtime, mulBits, mul}
-use Rattle.aes_sbox.specs.Sbox.{sboxOf, invSboxOf}
-use Rattle.fips197.specs.State.{State, Column, column, Block, block, columns, bytes, subBytes, invSubBytes, shiftRows, invShiftRows, mixByte, invMixByte, mixColumn, invMixColumn, mixColumns, invMixColumns, addColumn, addRoundKey}
+use Rattle.aes_sbox.specs.Field.{xtime, mul_bits, mul}
+use Rattle.aes_sbox.specs.Sbox.{sbox_of, inv_sbox_of}
+use Rattle.fips197.specs.State.{State, Column, column, Block, block, columns, bytes, sub_bytes, inv_sub_bytes, shift_rows, inv_shift_rows, mix_byte, inv_mix_byte, mix_column, inv_mix_column, mix_columns, inv_mix_columns, add_column, add_round_key}
 use Rattle.fips197.proofs.Four.{four}
 use Rattle.fips197.proofs.Mix.{mix-byte, unmix-byte}
-use Rattle.aes_sbox.proofs.Tables.{sboxOf-byte, invSboxOf-byte, sbox-undone}
-use Rattle.fips197.proofs.Xor.{bit, mod2-lt, xor-cancel}
+use Rattle.aes_sbox.proofs.Tables.{sbox_of_byte, inv_sbox_of_byte, sbox_undone}
+use Rattle.fips197.proofs.Xor.{bit, mod2_lt, xor_cancel}
 
 -- ---- bytes stay bytes
 
-pub xor-byte : {a b : ℕ} → a < 256 → b < 256 → bit_xor a b < 256
-xor-byte {a} {b} ha hb = xor_lt 8 a b ha hb
+pub xor_byte : {a b : ℕ} → a < 256 → b < 256 → bit_xor a b < 256
+xor_byte {a} {b} ha hb = xor_lt 8 a b ha hb
 
-pub xtime-byte : (a : ℕ) → xtime a < 256
+pub xtime_byte : (a : ℕ) → xtime a < 256
 unfolding xtime
-xtime-byte a = xor_lt 8 (a * 2 % 256) (a / 128 % 2 * 0x1b) (omega arith) (omega arith)
+xtime_byte a = xor_lt 8 (a * 2 % 256) (a / 128 % 2 * 0x1b) (omega arith) (omega arith)
 
-mulBits-byte : (n : ℕ) {a : ℕ} → a < 256 → (b : ℕ) → mulBits n a b < 256
-unfolding mulBits
-mulBits-byte zero h b = omega arith
-mulBits-byte (suc n) {a} h b =
-    xor-byte (bit (λ (x : ℕ). x * a < 256) (omega arith) (omega arith) (b % 2) (mod2-lt b)) (mulBits-byte n (xtime-byte a) (b / 2))
+mul_bits_byte : (n : ℕ) {a : ℕ} → a < 256 → (b : ℕ) → mul_bits n a b < 256
+unfolding mul_bits
+mul_bits_byte zero h b = omega arith
+mul_bits_byte (suc n) {a} h b =
+    xor_byte (bit (λ (x : ℕ). x * a < 256) (omega arith) (omega arith) (b % 2) (mod2_lt b)) (mul_bits_byte n (xtime_byte a) (b / 2))
 
-pub mul-byte : {a : ℕ} → a < 256 → (b : ℕ) → mul a b < 256
+pub mul_byte : {a : ℕ} → a < 256 → (b : ℕ) → mul a b < 256
 unfolding mul
-mul-byte h b = mulBits-byte 8 h b
+mul_byte h b = mul_bits_byte 8 h b
 
-mixByte-byte : {a b c d : ℕ} → a < 256 → b < 256 → c < 256 → d < 256 → mixByte a b c d < 256
-unfolding mixByte
-mixByte-byte {a} {b} {c} {d} ha hb hc hd = xor-byte (xor-byte (mul-byte ha 2) (mul-byte hb 3)) (xor-byte hc hd)
+mix_byte_byte : {a b c d : ℕ} → a < 256 → b < 256 → c < 256 → d < 256 → mix_byte a b c d < 256
+unfolding mix_byte
+mix_byte_byte {a} {b} {c} {d} ha hb hc hd = xor_byte (xor_byte (mul_byte ha 2) (mul_byte hb 3)) (xor_byte hc hd)
 
-invMixByte-byte : {a b c d : ℕ} → a < 256 → b < 256 → c < 256 → d < 256 → invMixByte a b c d < 256
-unfolding invMixByte
-invMixByte-byte ha hb hc hd = xor-byte (xor-byte (mul-byte ha 0x0e) (mul-byte hb 0x0b)) (xor-byte (mul-byte hc 0x0d) (mul-byte hd 0x09))
+inv_mix_byte_byte : {a b c d : ℕ} → a < 256 → b < 256 → c < 256 → d < 256 → inv_mix_byte a b c d < 256
+unfolding inv_mix_byte
+inv_mix_byte_byte ha hb hc hd = xor_byte (xor_byte (mul_byte ha 0x0e) (mul_byte hb 0x0b)) (xor_byte (mul_byte hc 0x0d) (mul_byte hd 0x09))
 
 -- ---- a step that works on each column
 
@@ -45,102 +45,102 @@ module _ (f : List ℕ → List ℕ) (keeps : (w : List ℕ) → Column w → Co
   columns-block : {s : State} → Block s → Block (columns f s)
   columns-block (block p q r t) = block (keeps _ p) (keeps _ q) (keeps _ r) (keeps _ t)
 
-columns-undo : (f g : List ℕ → List ℕ) → ((w : List ℕ) → Column w → g (f w) ≡ w)
+columns_undo : (f g : List ℕ → List ℕ) → ((w : List ℕ) → Column w → g (f w) ≡ w)
     → (s : State) → Block s → columns g (columns f s) ≡ s
-columns-undo f g e s (block p q r t) = four (e _ p) (e _ q) (e _ r) (e _ t)
+columns_undo f g e s (block p q r t) = four (e _ p) (e _ q) (e _ r) (e _ t)
 
 bytes-column : (f : ℕ → ℕ) → ((a : ℕ) → a < 256 → f a < 256) → (w : List ℕ) → Column w → Column (bytes f w)
 bytes-column f h w (column a b c d) = column (h _ a) (h _ b) (h _ c) (h _ d)
 
-bytes-undo : (f g : ℕ → ℕ) → ((a : ℕ) → a < 256 → g (f a) ≡ a) → (w : List ℕ) → Column w → bytes g (bytes f w) ≡ w
-bytes-undo f g e w (column a b c d) = four (e _ a) (e _ b) (e _ c) (e _ d)
+bytes_undo : (f g : ℕ → ℕ) → ((a : ℕ) → a < 256 → g (f a) ≡ a) → (w : List ℕ) → Column w → bytes g (bytes f w) ≡ w
+bytes_undo f g e w (column a b c d) = four (e _ a) (e _ b) (e _ c) (e _ d)
 
 -- ---- the substitution
 
-pub subBytes-block : {s : State} → Block s → Block (subBytes s)
-unfolding subBytes
-subBytes-block b = columns-block (bytes sboxOf) (bytes-column sboxOf sboxOf-byte) b
+pub sub_bytes-block : {s : State} → Block s → Block (sub_bytes s)
+unfolding sub_bytes
+sub_bytes-block b = columns-block (bytes sbox_of) (bytes-column sbox_of sbox_of_byte) b
 
-pub invSubBytes-block : {s : State} → Block s → Block (invSubBytes s)
-unfolding invSubBytes
-invSubBytes-block b = columns-block (bytes invSboxOf) (bytes-column invSboxOf invSboxOf-byte) b
+pub inv_sub_bytes-block : {s : State} → Block s → Block (inv_sub_bytes s)
+unfolding inv_sub_bytes
+inv_sub_bytes-block b = columns-block (bytes inv_sbox_of) (bytes-column inv_sbox_of inv_sbox_of_byte) b
 
-pub unsub : {s : State} → Block s → invSubBytes (subBytes s) ≡ s
-unfolding subBytes invSubBytes
-unsub {s} b = columns-undo (bytes sboxOf) (bytes invSboxOf) (bytes-undo sboxOf invSboxOf (λ a h. (sbox-undone a h).0)) s b
+pub unsub : {s : State} → Block s → inv_sub_bytes (sub_bytes s) ≡ s
+unfolding sub_bytes inv_sub_bytes
+unsub {s} b = columns_undo (bytes sbox_of) (bytes inv_sbox_of) (bytes_undo sbox_of inv_sbox_of (λ a h. (sbox_undone a h).0)) s b
 
-pub resub : {s : State} → Block s → subBytes (invSubBytes s) ≡ s
-unfolding subBytes invSubBytes
-resub {s} b = columns-undo (bytes invSboxOf) (bytes sboxOf) (bytes-undo invSboxOf sboxOf (λ a h. (sbox-undone a h).1)) s b
+pub resub : {s : State} → Block s → sub_bytes (inv_sub_bytes s) ≡ s
+unfolding sub_bytes inv_sub_bytes
+resub {s} b = columns_undo (bytes inv_sbox_of) (bytes sbox_of) (bytes_undo inv_sbox_of sbox_of (λ a h. (sbox_undone a h).1)) s b
 
 -- ---- the rows
 
-pub shiftRows-block : {s : State} → Block s → Block (shiftRows s)
-shiftRows-block (block (column a b c d) (column e f g h) (column i j k l) (column m n o p)) =
+pub shift_rows-block : {s : State} → Block s → Block (shift_rows s)
+shift_rows-block (block (column a b c d) (column e f g h) (column i j k l) (column m n o p)) =
     block (column a f k p) (column e j o d) (column i n c h) (column m b g l)
 
-pub invShiftRows-block : {s : State} → Block s → Block (invShiftRows s)
-invShiftRows-block (block (column a b c d) (column e f g h) (column i j k l) (column m n o p)) =
+pub inv_shift_rows-block : {s : State} → Block s → Block (inv_shift_rows s)
+inv_shift_rows-block (block (column a b c d) (column e f g h) (column i j k l) (column m n o p)) =
     block (column a n k h) (column e b o l) (column i f c p) (column m j g d)
 
-pub unshift : {s : State} → Block s → invShiftRows (shiftRows s) ≡ s
+pub unshift : {s : State} → Block s → inv_shift_rows (shift_rows s) ≡ s
 unshift (block (column a b c d) (column e f g h) (column i j k l) (column m n o p)) = refl
 
-pub reshift : {s : State} → Block s → shiftRows (invShiftRows s) ≡ s
+pub reshift : {s : State} → Block s → shift_rows (inv_shift_rows s) ≡ s
 reshift (block (column a b c d) (column e f g h) (column i j k l) (column m n o p)) = refl
 
 -- ---- the columns
 
-mixColumn-column : (w : List ℕ) → Column w → Column (mixColumn w)
-unfolding mixColumn
-mixColumn-column w (column a b c d) =
-    column (mixByte-byte a b c d) (mixByte-byte b c d a) (mixByte-byte c d a b) (mixByte-byte d a b c)
+mix_column-column : (w : List ℕ) → Column w → Column (mix_column w)
+unfolding mix_column
+mix_column-column w (column a b c d) =
+    column (mix_byte_byte a b c d) (mix_byte_byte b c d a) (mix_byte_byte c d a b) (mix_byte_byte d a b c)
 
-invMixColumn-column : (w : List ℕ) → Column w → Column (invMixColumn w)
-unfolding invMixColumn
-invMixColumn-column w (column a b c d) =
-    column (invMixByte-byte a b c d) (invMixByte-byte b c d a) (invMixByte-byte c d a b) (invMixByte-byte d a b c)
+inv_mix_column-column : (w : List ℕ) → Column w → Column (inv_mix_column w)
+unfolding inv_mix_column
+inv_mix_column-column w (column a b c d) =
+    column (inv_mix_byte_byte a b c d) (inv_mix_byte_byte b c d a) (inv_mix_byte_byte c d a b) (inv_mix_byte_byte d a b c)
 
-unmixColumn : (w : List ℕ) → Column w → invMixColumn (mixColumn w) ≡ w
-unfolding mixColumn invMixColumn
-unmixColumn w (column a b c d) =
+unmix_column : (w : List ℕ) → Column w → inv_mix_column (mix_column w) ≡ w
+unfolding mix_column inv_mix_column
+unmix_column w (column a b c d) =
     four (unmix-byte _ _ _ _ a b c d) (unmix-byte _ _ _ _ b c d a) (unmix-byte _ _ _ _ c d a b) (unmix-byte _ _ _ _ d a b c)
 
-remixColumn : (w : List ℕ) → Column w → mixColumn (invMixColumn w) ≡ w
-unfolding mixColumn invMixColumn
-remixColumn w (column a b c d) =
+remix_column : (w : List ℕ) → Column w → mix_column (inv_mix_column w) ≡ w
+unfolding mix_column inv_mix_column
+remix_column w (column a b c d) =
     four (mix-byte _ _ _ _ a b c d) (mix-byte _ _ _ _ b c d a) (mix-byte _ _ _ _ c d a b) (mix-byte _ _ _ _ d a b c)
 
-pub mixColumns-block : {s : State} → Block s → Block (mixColumns s)
-unfolding mixColumns
-mixColumns-block b = columns-block mixColumn mixColumn-column b
+pub mix_columns-block : {s : State} → Block s → Block (mix_columns s)
+unfolding mix_columns
+mix_columns-block b = columns-block mix_column mix_column-column b
 
-pub invMixColumns-block : {s : State} → Block s → Block (invMixColumns s)
-unfolding invMixColumns
-invMixColumns-block b = columns-block invMixColumn invMixColumn-column b
+pub inv_mix_columns-block : {s : State} → Block s → Block (inv_mix_columns s)
+unfolding inv_mix_columns
+inv_mix_columns-block b = columns-block inv_mix_column inv_mix_column-column b
 
-pub unmix : {s : State} → Block s → invMixColumns (mixColumns s) ≡ s
-unfolding mixColumns invMixColumns
-unmix {s} b = columns-undo mixColumn invMixColumn unmixColumn s b
+pub unmix : {s : State} → Block s → inv_mix_columns (mix_columns s) ≡ s
+unfolding mix_columns inv_mix_columns
+unmix {s} b = columns_undo mix_column inv_mix_column unmix_column s b
 
-pub remix : {s : State} → Block s → mixColumns (invMixColumns s) ≡ s
-unfolding mixColumns invMixColumns
-remix {s} b = columns-undo invMixColumn mixColumn remixColumn s b
+pub remix : {s : State} → Block s → mix_columns (inv_mix_columns s) ≡ s
+unfolding mix_columns inv_mix_columns
+remix {s} b = columns_undo inv_mix_column mix_column remix_column s b
 
 -- ---- the round key
 
-pub addColumn-column : {w k : List ℕ} → Column w → Column k → Column (addColumn w k)
-addColumn-column (column a b c d) (column e f g h) = column (xor-byte a e) (xor-byte b f) (xor-byte c g) (xor-byte d h)
+pub add_column-column : {w k : List ℕ} → Column w → Column k → Column (add_column w k)
+add_column-column (column a b c d) (column e f g h) = column (xor_byte a e) (xor_byte b f) (xor_byte c g) (xor_byte d h)
 
-addColumn-twice : (w k : List ℕ) → Column w → Column k → addColumn (addColumn w k) k ≡ w
-addColumn-twice w k (column a b c d) (column e f g h) = four (xor-cancel _ _) (xor-cancel _ _) (xor-cancel _ _) (xor-cancel _ _)
+add_column_twice : (w k : List ℕ) → Column w → Column k → add_column (add_column w k) k ≡ w
+add_column_twice w k (column a b c d) (column e f g h) = four (xor_cancel _ _) (xor_cancel _ _) (xor_cancel _ _) (xor_cancel _ _)
 
-pub addRoundKey-block : {s k : State} → Block s → Block k → Block (addRoundKey s k)
-unfolding addRoundKey
-addRoundKey-block (block p q r t) (block u v w x) =
-    block (addColumn-column p u) (addColumn-column q v) (addColumn-column r w) (addColumn-column t x)
+pub add_round_key-block : {s k : State} → Block s → Block k → Block (add_round_key s k)
+unfolding add_round_key
+add_round_key-block (block p q r t) (block u v w x) =
+    block (add_column-column p u) (add_column-column q v) (add_column-column r w) (add_column-column t x)
 
-pub unadd : {s k : State} → Block s → Block k → addRoundKey (addRoundKey s k) k ≡ s
-unfolding addRoundKey
+pub unadd : {s k : State} → Block s → Block k → add_round_key (add_round_key s k) k ≡ s
+unfolding add_round_key
 unadd (block p q r t) (block u v w x) =
-    four (addColumn-twice _ _ p u) (addColumn-twice _ _ q v) (addColumn-twice _ _ r w) (addColumn-twice _ _ t x)
+    four (add_column_twice _ _ p u) (add_column_twice _ _ q v) (add_column_twice _ _ r w) (add_column_twice _ _ t x)

@@ -11,11 +11,11 @@ bit P p0 p1 zero h = p0
 bit P p0 p1 (suc zero) h = p1
 bit P p0 p1 (suc (suc x)) h = absurd (not-suc-le-zero (le_of_suc-le-suc (le_of_suc-le-suc h)))
 
-pub mod2-lt : (a : ℕ) → a % 2 < 2
-mod2-lt a = mod-lt a (zero-lt-suc 1)
+pub mod2_lt : (a : ℕ) → a % 2 < 2
+mod2_lt a = mod-lt a (zero-lt-suc 1)
 
-bit-assoc : (x y z : ℕ) → x < 2 → y < 2 → z < 2 → differ (bit_xor x y) z ≡ differ x (bit_xor y z)
-bit-assoc x y z hx hy hz =
+bit_assoc : (x y z : ℕ) → x < 2 → y < 2 → z < 2 → differ (bit_xor x y) z ≡ differ x (bit_xor y z)
+bit_assoc x y z hx hy hz =
     bit (λ (n : ℕ). differ (bit_xor n y) z ≡ differ n (bit_xor y z))
     (bit (λ (n : ℕ). differ n z ≡ bit_xor n z) refl (bit (λ (n : ℕ). differ 1 n ≡ bit_xor 1 n) refl refl z hz) y hy)
     (bit (λ (n : ℕ). differ (bit_xor 1 n) z ≡ differ 1 (bit_xor n z))
@@ -31,11 +31,11 @@ xor_assoc a =
     (λ n ih b c.
     xor_step (bit_xor n b) c
     ∙ ap₂ (λ (p q : ℕ). bit_xor p (c / 2) * 2 + differ q (c % 2)) (xor_shr n b 1) (xor_mod n b 1)
-    ∙ ap₂ (λ (p q : ℕ). p * 2 + q) (ih (b / 2) (c / 2)) (bit-assoc (n % 2) (b % 2) (c % 2) (mod2-lt n) (mod2-lt b) (mod2-lt c))
+    ∙ ap₂ (λ (p q : ℕ). p * 2 + q) (ih (b / 2) (c / 2)) (bit_assoc (n % 2) (b % 2) (c % 2) (mod2_lt n) (mod2_lt b) (mod2_lt c))
     ∙ sym (ap₂ (λ (p q : ℕ). bit_xor (n / 2) p * 2 + differ (n % 2) q) (xor_shr b c 1) (xor_mod b c 1))
     ∙ sym (xor_step n (bit_xor b c)))
     a
 
 -- a xor b xor b is a
-pub xor-cancel : (a b : ℕ) → bit_xor (bit_xor a b) b ≡ a
-xor-cancel a b = xor_assoc a b b ∙ ap (bit_xor a) (xor_self b) ∙ xor_zero_r a
+pub xor_cancel : (a b : ℕ) → bit_xor (bit_xor a b) b ≡ a
+xor_cancel a b = xor_assoc a b b ∙ ap (bit_xor a) (xor_self b) ∙ xor_zero_r a

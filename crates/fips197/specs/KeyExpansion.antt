@@ -2,53 +2,53 @@
 use Rattle.std.specs.Prelude.{List, [], ◌∷◌, ℕ, zero, suc, get_or}
 use Rattle.std.specs.Int.Bits.{bit_xor}
 use Rattle.aes_sbox.specs.Field.{xtime}
-use Rattle.aes_sbox.specs.Sbox.{sboxOf}
-use Rattle.fips197.specs.State.{State, bytes, addColumn}
+use Rattle.aes_sbox.specs.Sbox.{sbox_of}
+use Rattle.fips197.specs.State.{State, bytes, add_column}
 
 -- The first byte of Rcon[n + 1], {02} to the power n. The other three are zero.
 unfoldable pub rcon : ℕ → ℕ
 rcon zero = 1
 rcon (suc n) = xtime (rcon n)
 
-abbrev pub rotWord : List ℕ → List ℕ
-rotWord w = get_or w 1 0 ∷ get_or w 2 0 ∷ get_or w 3 0 ∷ get_or w 0 0 ∷ []
+abbrev pub rot_word : List ℕ → List ℕ
+rot_word w = get_or w 1 0 ∷ get_or w 2 0 ∷ get_or w 3 0 ∷ get_or w 0 0 ∷ []
 
-abbrev pub subWord : List ℕ → List ℕ
-subWord w = bytes sboxOf w
+abbrev pub sub_word : List ℕ → List ℕ
+sub_word w = bytes sbox_of w
 
 -- SubWord(RotWord(w)), with r added to its first byte.
-unfoldable pub keyCore : List ℕ → ℕ → List ℕ
-keyCore w r =
-    let t : List ℕ = subWord (rotWord w) in
+unfoldable pub key_core : List ℕ → ℕ → List ℕ
+key_core w r =
+    let t : List ℕ = sub_word (rot_word w) in
     bit_xor (get_or t 0 0) r ∷ get_or t 1 0 ∷ get_or t 2 0 ∷ get_or t 3 0 ∷ []
 
 -- The round key after k, with the round constant r: w[i] = w[i - 4] + w[i - 1], and where i is a multiple of 4, SubWord(RotWord(w[i - 1])) + Rcon[i / 4] in
 -- place of w[i - 1].
-unfoldable pub nextKey : State → ℕ → State
-nextKey k r =
-    let w0 : List ℕ = addColumn (get_or k 0 []) (keyCore (get_or k 3 []) r) in
-    let w1 : List ℕ = addColumn (get_or k 1 []) w0 in
-    let w2 : List ℕ = addColumn (get_or k 2 []) w1 in
-    let w3 : List ℕ = addColumn (get_or k 3 []) w2 in
+unfoldable pub next_key : State → ℕ → State
+next_key k r =
+    let w0 : List ℕ = add_column (get_or k 0 []) (key_core (get_or k 3 []) r) in
+    let w1 : List ℕ = add_column (get_or k 1 []) w0 in
+    let w2 : List ℕ = add_column (get_or k 2 []) w1 in
+    let w3 : List ℕ = add_column (get_or k 3 []) w2 in
     w0 ∷ w1 ∷ w2 ∷ w3 ∷ []
 
 -- Round key n of the key k.
-unfoldable pub roundKey : State → ℕ → State
-roundKey k zero = k
-roundKey k (suc n) = nextKey (roundKey k n) (rcon n)
+unfoldable pub round_key : State → ℕ → State
+round_key k zero = k
+round_key k (suc n) = next_key (round_key k n) (rcon n)
 
 -- The eleven round keys.
-unfoldable pub expandKey : State → List State
-expandKey k =
-    roundKey k 0
-    ∷ roundKey k 1
-    ∷ roundKey k 2
-    ∷ roundKey k 3
-    ∷ roundKey k 4
-    ∷ roundKey k 5
-    ∷ roundKey k 6
-    ∷ roundKey k 7
-    ∷ roundKey k 8
-    ∷ roundKey k 9
-    ∷ roundKey k 10
+unfoldable pub expand_key : State → List State
+expand_key k =
+    round_key k 0
+    ∷ round_key k 1
+    ∷ round_key k 2
+    ∷ round_key k 3
+    ∷ round_key k 4
+    ∷ round_key k 5
+    ∷ round_key k 6
+    ∷ round_key k 7
+    ∷ round_key k 8
+    ∷ round_key k 9
+    ∷ round_key k 10
     ∷ []

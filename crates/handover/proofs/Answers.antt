@@ -7,46 +7,46 @@ use native.Mathlib.Omega.{arith}
 use lib.Dec.{eqb}
 use lib.ListN.{length, take, drop, replicate, length-replicate, drop_of_length-le}
 use lib.Seq.{take_all}
-use Rattle.refusal.specs.Checks.{Reason, Check, pass, refuse, bare, unless, ◌andThen◌, check6}
+use Rattle.refusal.specs.Checks.{Reason, Check, pass, refuse, bare, unless, ◌and_then◌, check6}
 use Rattle.slices.proofs.Lists.{copied-front}
-use Rattle.handover_rules.specs.Handover.{check33, r0Check, r1Check, r0NameCheck}
+use Rattle.handover_rules.specs.Handover.{check33, r0_check, r1_check, r0_name_check}
 
 -- two tests with one refusal, made at once
-both-tested : (a : Check) (x y : Bool) (r : Reason) → (a and_then unless (x && y) r) ≡ (a and_then unless x r and_then unless y r)
-unfolding unless ◌andThen◌
-both-tested pass true y r = refl
-both-tested pass false y r = refl
-both-tested (refuse z) x y r = refl
+both_tested : (a : Check) (x y : Bool) (r : Reason) → (a and_then unless (x && y) r) ≡ (a and_then unless x r and_then unless y r)
+unfolding unless ◌and_then◌
+both_tested pass true y r = refl
+both_tested pass false y r = refl
+both_tested (refuse z) x y r = refl
 
 -- the tests as each call makes them, all identifiers at once
-pub r0-tested : (rrk ad spa : List ℕ) (room : ℕ) {c : Check}
-    → c ≡ (check33 64 rrk and_then unless (eqb (length ad) 16 && eqb (length spa) 6) (bare 34) and_then check6 32 room) → c ≡ r0Check rrk ad spa room
-unfolding r0Check
-r0-tested rrk ad spa room e =
-    e ∙ ap (λ (c : Check). c and_then check6 32 room) (both-tested (check33 64 rrk) (eqb (length ad) 16) (eqb (length spa) 6) (bare 34))
+pub r0_tested : (rrk ad spa : List ℕ) (room : ℕ) {c : Check}
+    → c ≡ (check33 64 rrk and_then unless (eqb (length ad) 16 && eqb (length spa) 6) (bare 34) and_then check6 32 room) → c ≡ r0_check rrk ad spa room
+unfolding r0_check
+r0_tested rrk ad spa room e =
+    e ∙ ap (λ (c : Check). c and_then check6 32 room) (both_tested (check33 64 rrk) (eqb (length ad) 16) (eqb (length spa) 6) (bare 34))
 
-pub r1-tested : (r0 ad an spa : List ℕ) (room : ℕ) {c : Check}
+pub r1_tested : (r0 ad an spa : List ℕ) (room : ℕ) {c : Check}
     → c ≡ (check33 32 r0 and_then unless (eqb (length ad) 16 && eqb (length an) 16 && eqb (length spa) 6) (bare 34) and_then check6 32 room)
-    → c ≡ r1Check r0 ad an spa room
-unfolding r1Check
-r1-tested r0 ad an spa room e =
-    e ∙ ap (λ (c : Check). c and_then check6 32 room) (both-tested (check33 32 r0) (eqb (length ad) 16 && eqb (length an) 16) (eqb (length spa) 6) (bare 34))
+    → c ≡ r1_check r0 ad an spa room
+unfolding r1_check
+r1_tested r0 ad an spa room e =
+    e ∙ ap (λ (c : Check). c and_then check6 32 room) (both_tested (check33 32 r0) (eqb (length ad) 16 && eqb (length an) 16) (eqb (length spa) 6) (bare 34))
     ∙ ap (λ (c : Check). c and_then unless (eqb (length spa) 6) (bare 34) and_then check6 32 room)
-    (both-tested (check33 32 r0) (eqb (length ad) 16) (eqb (length an) 16) (bare 34))
+    (both_tested (check33 32 r0) (eqb (length ad) 16) (eqb (length an) 16) (bare 34))
 
-pub name-tested : (r0 ad spa : List ℕ) (room : ℕ) {c : Check}
-    → c ≡ (check33 32 r0 and_then unless (eqb (length ad) 16 && eqb (length spa) 6) (bare 34) and_then check6 16 room) → c ≡ r0NameCheck r0 ad spa room
-unfolding r0NameCheck
-name-tested r0 ad spa room e =
-    e ∙ ap (λ (c : Check). c and_then check6 16 room) (both-tested (check33 32 r0) (eqb (length ad) 16) (eqb (length spa) 6) (bare 34))
+pub name_tested : (r0 ad spa : List ℕ) (room : ℕ) {c : Check}
+    → c ≡ (check33 32 r0 and_then unless (eqb (length ad) 16 && eqb (length spa) 6) (bare 34) and_then check6 16 room) → c ≡ r0_name_check r0 ad spa room
+unfolding r0_name_check
+name_tested r0 ad spa room e =
+    e ∙ ap (λ (c : Check). c and_then check6 16 room) (both_tested (check33 32 r0) (eqb (length ad) 16) (eqb (length spa) 6) (bare 34))
 
 -- n bytes copied to the start of a buffer
 pub front_of : (n : ℕ) (s buffer : List ℕ) {after : List ℕ} → length s ≡ n → after ≡ take (length s) s ++ drop (length s) buffer → after ≡ s ++ drop n buffer
 front_of n s buffer l e = copied-front s buffer e ∙ ap (λ (k : ℕ). s ++ drop k buffer) l
 
 -- an identifier of n bytes, copied to an array of as many
-pub copied-whole : (n : ℕ) (s : List ℕ) {r : List ℕ} → length s ≡ n → r ≡ take (length (take n s)) (take n s) ++ drop (length (take n s)) (replicate n 0) → r ≡ s
-copied-whole n s l e =
+pub copied_whole : (n : ℕ) (s : List ℕ) {r : List ℕ} → length s ≡ n → r ≡ take (length (take n s)) (take n s) ++ drop (length (take n s)) (replicate n 0) → r ≡ s
+copied_whole n s l e =
     let whole : take n s ≡ s = take_all n s (omega arith) in
     let none : drop {A = ℕ} n (replicate n 0) ≡ [] = drop_of_length-le (replicate n 0) {i = n} (omega (arith, length-replicate {A = ℕ} n 0)) in
     e ∙ (λ i. take (length (whole i)) (whole i) ++ drop (length (whole i)) (replicate n 0))

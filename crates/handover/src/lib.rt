@@ -2,17 +2,17 @@
 // and the R0Name. A refusal alters nothing, and nothing is derived before all tests have passed.
 ghost use Rattle.std.specs.Prelude.{◌≡◌, ◌++◌, ◌≤◌, length, drop};
 ghost use Rattle.refusal.specs.Checks as Checks;
-ghost use Rattle.refusal.specs.Checks.{bare, ◌andThen◌, check6};
-ghost use Rattle.refusal.specs.Answers.{checkedAs, answer_of};
+ghost use Rattle.refusal.specs.Checks.{bare, ◌and_then◌, check6};
+ghost use Rattle.refusal.specs.Answers.{checked_as, answer_of};
 ghost use Rattle.handover_rules.specs.Handover.{
-  r0Answer,
-  r1Answer,
-  r0NameAnswer,
-  r0Buffer,
-  r1Buffer,
-  r0NameBuffer,
+  r0_answer,
+  r1_answer,
+  r0_name_answer,
+  r0_buffer,
+  r1_buffer,
+  r0_name_buffer,
 };
-ghost use Rattle.handover.specs.Internal.{twoMacs};
+ghost use Rattle.handover.specs.Internal.{two_macs};
 
 mod texts; // what is hashed
 
@@ -34,7 +34,7 @@ const SPA: usize = 6;
 
 // The tests of a call that writes n bytes: 33, 34, 6. The caller says whether its key and whether all its identifiers have their lengths.
 fn check_call(key: bool, identifiers: bool, n: usize, room: usize) -> Checked
-    ensures { checkedAs result ≡ (Checks.unless key (bare 33) and_then Checks.unless identifiers (bare 34) and_then check6 n room) }
+    ensures { checked_as result ≡ (Checks.unless key (bare 33) and_then Checks.unless identifiers (bare 34) and_then check6 n room) }
 {
     let c33 = refusal::unless(key, Refusal::HandoverKeyLength);
     let c34 = refusal::then_check(c33, refusal::unless(identifiers, Refusal::IdentifierLength));
@@ -65,7 +65,7 @@ fn address(s: &[u8]) -> [u8; SPA]
 fn derive(keyed: Keyed, text: &mut [u8], out: &mut [u8])
     requires in_bounds { 1 ≤ length text.old }
     requires in_bounds_2 { 32 ≤ length out.old }
-    ensures { out.new ≡ twoMacs keyed.inner keyed.outer text.old ++ drop 32 out.old }
+    ensures { out.new ≡ two_macs keyed.inner keyed.outer text.old ++ drop 32 out.old }
 {
     let first = keyed.mac_of(text);
     bytes::copy(&first, out);
@@ -76,8 +76,8 @@ fn derive(keyed: Keyed, text: &mut [u8], out: &mut [u8])
 
 // Writes the R0-Key of an access domain and a supplicant under an rRK: 32 bytes at the start of out.
 pub fn r0_key(rrk: &[u8], ad_id: &[u8], spa: &[u8], out: &mut [u8]) -> Answered
-    ensures answer { answer_of result ≡ r0Answer rrk.now ad_id.now spa.now (length out.old) }
-    ensures buffer { out.new ≡ r0Buffer rrk.now ad_id.now spa.now out.old }
+    ensures answer { answer_of result ≡ r0_answer rrk.now ad_id.now spa.now (length out.old) }
+    ensures buffer { out.new ≡ r0_buffer rrk.now ad_id.now spa.now out.old }
 {
     let ids = (ad_id.len() == ID) & (spa.len() == SPA);
     match check_call(rrk.len() == RRK, ids, KEY, out.len()) {
@@ -92,8 +92,8 @@ pub fn r0_key(rrk: &[u8], ad_id: &[u8], spa: &[u8], out: &mut [u8]) -> Answered
 
 // Writes the R1-Key of an access node and a supplicant under an R0-Key: 32 bytes at the start of out.
 pub fn r1_key(r0_key: &[u8], ad_id: &[u8], an_id: &[u8], spa: &[u8], out: &mut [u8]) -> Answered
-    ensures answer { answer_of result ≡ r1Answer r0_key.now ad_id.now an_id.now spa.now (length out.old) }
-    ensures buffer { out.new ≡ r1Buffer r0_key.now ad_id.now an_id.now spa.now out.old }
+    ensures answer { answer_of result ≡ r1_answer r0_key.now ad_id.now an_id.now spa.now (length out.old) }
+    ensures buffer { out.new ≡ r1_buffer r0_key.now ad_id.now an_id.now spa.now out.old }
 {
     let ids = (ad_id.len() == ID) & (an_id.len() == ID) & (spa.len() == SPA);
     match check_call(r0_key.len() == KEY, ids, KEY, out.len()) {
@@ -108,8 +108,8 @@ pub fn r1_key(r0_key: &[u8], ad_id: &[u8], an_id: &[u8], spa: &[u8], out: &mut [
 
 // Writes the R0Name of an R0-Key: 16 bytes at the start of out.
 pub fn r0_name<'a>(r0_key: &'a [u8], ad_id: &'a [u8], spa: &'a [u8], out: &mut [u8]) -> Answered
-    ensures answer { answer_of result ≡ r0NameAnswer r0_key.now ad_id.now spa.now (length out.old) }
-    ensures buffer { out.new ≡ r0NameBuffer r0_key.now ad_id.now spa.now out.old }
+    ensures answer { answer_of result ≡ r0_name_answer r0_key.now ad_id.now spa.now (length out.old) }
+    ensures buffer { out.new ≡ r0_name_buffer r0_key.now ad_id.now spa.now out.old }
 {
     let ids = (ad_id.len() == ID) & (spa.len() == SPA);
     match check_call(r0_key.len() == KEY, ids, NAME, out.len()) {

@@ -2,11 +2,11 @@
 // the KDF hands to HMAC-SHA-1 for an R0-Key and for an R1-Key, and what a name's hash takes after the R0-Key.
 ghost use Rattle.std.specs.Prelude.{◌≡◌, ◌++◌};
 ghost use Rattle.slices.specs.Ascii.{ascii};
-ghost use Rattle.handover_rules.specs.Handover.{r0Input, r1Input};
+ghost use Rattle.handover_rules.specs.Handover.{r0_input, r1_input};
 
 // The text of an R0-Key: 1 in two bytes, the label, a zero byte, AD-ID, SPA, and 256 in two bytes.
 pub(crate) fn r0_text(ad_id: [u8; 16], spa: [u8; 6]) -> [u8; 44]
-    ensures { result ≡ r0Input ad_id spa 1 }
+    ensures { result ≡ r0_input ad_id spa 1 }
 {
     let mut text = [0u8; 44];
     bytes::copy(b"\x01\x00R0 Key derivation\x00", &mut text);
@@ -18,7 +18,7 @@ pub(crate) fn r0_text(ad_id: [u8; 16], spa: [u8; 6]) -> [u8; 44]
 
 // The text of an R1-Key, whose identifiers are AD-ID, AN-ID and SPA.
 pub(crate) fn r1_text(ad_id: [u8; 16], an_id: [u8; 16], spa: [u8; 6]) -> [u8; 60]
-    ensures { result ≡ r1Input ad_id an_id spa 1 }
+    ensures { result ≡ r1_input ad_id an_id spa 1 }
 {
     let mut text = [0u8; 60];
     bytes::copy(b"\x01\x00R1 Key derivation\x00", &mut text);

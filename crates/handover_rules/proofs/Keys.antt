@@ -5,41 +5,41 @@ use mathlib.Core.List.{List, ◌++◌}
 use native.Mathlib.Omega.{arith}
 use lib.ListN.{length, take, length-append}
 use lib.Seq.{length-take-le}
-use Rattle.refusal.specs.Checks.{unless, ◌andThen◌}
-use Rattle.hmac_sha1.specs.Rfc2104.{hmacSha1}
-use Rattle.hmac_sha1.proofs.Laws.{hmacSha1-length}
-use Rattle.handover_rules.specs.Kdf.{kdfInput, iterations, resultAfter, kdf}
-use Rattle.handover_rules.specs.Handover.{r0Label, r1Label, r0Input, r1Input, r0Key, r1Key, r0Check, r1Check, r0NameCheck}
+use Rattle.refusal.specs.Checks.{unless, ◌and_then◌}
+use Rattle.hmac_sha1.specs.Rfc2104.{hmac_sha1}
+use Rattle.hmac_sha1.proofs.Laws.{hmac_sha1-length}
+use Rattle.handover_rules.specs.Kdf.{kdf_input, iterations, resultAfter, kdf}
+use Rattle.handover_rules.specs.Handover.{r0_label, r1_label, r0_input, r1_input, r0_key, r1_key, r0_check, r1_check, r0_name_check}
 use Rattle.handover_rules.specs.Statements.{InputBytes, KeyOfBlocks, SomeAccepted}
 
-pub input-bytes : InputBytes
-unfolding r0Input r1Input kdfInput r0Label r1Label
-input-bytes ad an spa = (refl, refl)
+pub input_bytes : InputBytes
+unfolding r0_input r1_input kdf_input r0_label r1_label
+input_bytes ad an spa = (refl, refl)
 
 -- 32 of the 40 bytes of two MACs
-two-macs : (key x y : List ℕ) → length (take 32 (hmacSha1 key x ++ hmacSha1 key y)) ≡ 32
-two-macs key x y =
-    length-take-le 32 (hmacSha1 key x ++ hmacSha1 key y)
-    (omega (arith, length-append (hmacSha1 key x) (hmacSha1 key y), hmacSha1-length key x, hmacSha1-length key y))
+two_macs : (key x y : List ℕ) → length (take 32 (hmac_sha1 key x ++ hmac_sha1 key y)) ≡ 32
+two_macs key x y =
+    length-take-le 32 (hmac_sha1 key x ++ hmac_sha1 key y)
+    (omega (arith, length-append (hmac_sha1 key x) (hmac_sha1 key y), hmac_sha1-length key x, hmac_sha1-length key y))
 
-pub r0-of-blocks : (rrk ad spa : List ℕ) → r0Key rrk ad spa ≡ take 32 (hmacSha1 (take 32 rrk) (r0Input ad spa 1) ++ hmacSha1 (take 32 rrk) (r0Input ad spa 2))
-unfolding r0Key r0Input kdf iterations resultAfter
-r0-of-blocks rrk ad spa = refl
+pub r0_of_blocks : (rrk ad spa : List ℕ) → r0_key rrk ad spa ≡ take 32 (hmac_sha1 (take 32 rrk) (r0_input ad spa 1) ++ hmac_sha1 (take 32 rrk) (r0_input ad spa 2))
+unfolding r0_key r0_input kdf iterations resultAfter
+r0_of_blocks rrk ad spa = refl
 
-pub r1-of-blocks : (r0 ad an spa : List ℕ) → r1Key r0 ad an spa ≡ take 32 (hmacSha1 r0 (r1Input ad an spa 1) ++ hmacSha1 r0 (r1Input ad an spa 2))
-unfolding r1Key r1Input kdf iterations resultAfter
-r1-of-blocks r0 ad an spa = refl
+pub r1_of_blocks : (r0 ad an spa : List ℕ) → r1_key r0 ad an spa ≡ take 32 (hmac_sha1 r0 (r1_input ad an spa 1) ++ hmac_sha1 r0 (r1_input ad an spa 2))
+unfolding r1_key r1_input kdf iterations resultAfter
+r1_of_blocks r0 ad an spa = refl
 
-pub key-of-blocks : KeyOfBlocks
+pub key_of_blocks : KeyOfBlocks
 unfolding iterations
-key-of-blocks = (
+key_of_blocks = (
   refl,
-  r0-of-blocks,
-  r1-of-blocks,
-  λ rrk ad spa. ap length (r0-of-blocks rrk ad spa) ∙ two-macs _ _ _,
-  λ r0 ad an spa. ap length (r1-of-blocks r0 ad an spa) ∙ two-macs _ _ _,
+  r0_of_blocks,
+  r1_of_blocks,
+  λ rrk ad spa. ap length (r0_of_blocks rrk ad spa) ∙ two_macs _ _ _,
+  λ r0 ad an spa. ap length (r1_of_blocks r0 ad an spa) ∙ two_macs _ _ _,
 )
 
-pub some-accepted : SomeAccepted
-unfolding r0Check r1Check r0NameCheck ◌andThen◌ unless
-some-accepted = (refl, refl, refl, refl, refl, refl, refl)
+pub some_accepted : SomeAccepted
+unfolding r0_check r1_check r0_name_check ◌and_then◌ unless
+some_accepted = (refl, refl, refl, refl, refl, refl, refl)

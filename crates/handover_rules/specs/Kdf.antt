@@ -7,8 +7,8 @@ abbrev pub le16 : ℕ → List ℕ
 le16 x = x % 256 ∷ x / 2 ^ 8 % 256 ∷ []
 
 -- what iteration i hands to the MAC: i || label || 0x00 || Context || Length, the length in bits
-unfoldable pub kdfInput : List ℕ → List ℕ → ℕ → ℕ → List ℕ
-kdfInput label context bits i = le16 i ++ (label ++ (0 ∷ (context ++ le16 bits)))
+unfoldable pub kdf_input : List ℕ → List ℕ → ℕ → ℕ → List ℕ
+kdf_input label context bits i = le16 i ++ (label ++ (0 ∷ (context ++ le16 bits)))
 
 -- iterations = (Length + 159) / 160
 unfoldable pub iterations : ℕ → ℕ
@@ -18,7 +18,7 @@ module _ (mac : List ℕ → List ℕ → List ℕ) where
   -- result after i iterations: it is "" at first, and each iteration appends its MAC
   unfoldable pub resultAfter : List ℕ → List ℕ → List ℕ → ℕ → ℕ → List ℕ
   resultAfter key label context bits zero = []
-  resultAfter key label context bits (suc i) = resultAfter key label context bits i ++ mac key (kdfInput label context bits (suc i))
+  resultAfter key label context bits (suc i) = resultAfter key label context bits i ++ mac key (kdf_input label context bits (suc i))
 
   -- KDF-Length (K, label, Context): the first Length bits of result, for a length of whole bytes
   unfoldable pub kdf : List ℕ → List ℕ → List ℕ → ℕ → List ℕ

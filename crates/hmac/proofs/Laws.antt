@@ -5,43 +5,43 @@ use mathlib.Core.List.{List, [], ◌++◌, append-nil}
 use native.Mathlib.Omega.{arith}
 use lib.Dec.{lit≤}
 use lib.ListN.{length}
-use Rattle.fips180.specs.Stream.{Progress, startedAfter}
+use Rattle.fips180.specs.Stream.{Progress, started_after}
 use Rattle.rfc2104.specs.Rfc2104.{masked, keyBlock, ipad, opad, hmac}
 use Rattle.rfc2104.proofs.Laws as laws
 use Rattle.fips180.specs.Sha256.{sha256, compress, H0, digest}
 use Rattle.sha256.specs.Stream.{absorbed, finished, joined}
 use Rattle.sha256.proofs.Stream.{sha256-length}
-use Rattle.hmac.specs.Rfc2104.{hmacSha256}
-use Rattle.hmac.specs.Keyed.{keyValue, hashAfter, macByValues}
+use Rattle.hmac.specs.Rfc2104.{hmac_sha256}
+use Rattle.hmac.specs.Keyed.{key_value, hash_after, mac_by_values}
 
 -- the hash value that the code computes from a key's block
-pub key-value : (key : List ℕ) (pad : ℕ) {block v : List ℕ} → block ≡ keyBlock sha256 key → v ≡ compress H0 (masked block pad) → v ≡ keyValue key pad
+pub key-value : (key : List ℕ) (pad : ℕ) {block v : List ℕ} → block ≡ keyBlock sha256 key → v ≡ compress H0 (masked block pad) → v ≡ key_value key pad
 unfolding sha256
 key-value = laws.key-value compress H0 digest
 
-digest-fits : (value : List ℕ) → length (digest value) ≤ 64
+digest_fits : (value : List ℕ) → length (digest value) ≤ 64
 unfolding digest
-digest-fits value = lit≤ tt
+digest_fits value = lit≤ tt
 
-pub kept-values-give-mac : (key message : List ℕ) → macByValues (keyValue key ipad) (keyValue key opad) message ≡ hmacSha256 key message
-unfolding hmacSha256 sha256
-kept-values-give-mac = laws.kept-values-give-mac compress H0 digest digest-fits
+pub kept_values_give_mac : (key message : List ℕ) → mac_by_values (key_value key ipad) (key_value key opad) message ≡ hmac_sha256 key message
+unfolding hmac_sha256 sha256
+kept_values_give_mac = laws.kept_values_give_mac compress H0 digest digest_fits
 
-pub hmacSha256-length : (key message : List ℕ) → length (hmacSha256 key message) ≡ 32
-unfolding hmacSha256 hmac
-hmacSha256-length key message = sha256-length (masked (keyBlock sha256 key) opad ++ sha256 (masked (keyBlock sha256 key) ipad ++ message))
+pub hmac_sha256-length : (key message : List ℕ) → length (hmac_sha256 key message) ≡ 32
+unfolding hmac_sha256 hmac
+hmac_sha256-length key message = sha256-length (masked (keyBlock sha256 key) opad ++ sha256 (masked (keyBlock sha256 key) ipad ++ message))
 
 -- a digest fits in a block
-pub digest-short : (m : List ℕ) {d : List ℕ} → d ≡ sha256 m → length d ≤ 64
-digest-short m e = let l = ap length e ∙ sha256-length m in omega arith
+pub digest_short : (m : List ℕ) {d : List ℕ} → d ≡ sha256 m → length d ≤ 64
+digest_short m e = let l = ap length e ∙ sha256-length m in omega arith
 
 -- five parts are six, the last one empty
-pub five-parts : (outer : List ℕ) (s : Progress) (a b c d e : List ℕ) {r : List ℕ} → r ≡ hashAfter outer (finished (absorbed s (joined a b c d e [])))
-    → r ≡ hashAfter outer (finished (absorbed s (a ++ (b ++ (c ++ (d ++ e))))))
-five-parts outer s a b c d e h = h ∙ ap (λ (x : List ℕ). hashAfter outer (finished (absorbed s (a ++ (b ++ (c ++ (d ++ x))))))) (append-nil e)
+pub five_parts : (outer : List ℕ) (s : Progress) (a b c d e : List ℕ) {r : List ℕ} → r ≡ hash_after outer (finished (absorbed s (joined a b c d e [])))
+    → r ≡ hash_after outer (finished (absorbed s (a ++ (b ++ (c ++ (d ++ e))))))
+five_parts outer s a b c d e h = h ∙ ap (λ (x : List ℕ). hash_after outer (finished (absorbed s (a ++ (b ++ (c ++ (d ++ x))))))) (append-nil e)
 
 -- the MAC of a text from the two hash values of a key: s is the inner hash begun, and r the outer hash of what the text brings it to
-pub mac-from-values : (key text : List ℕ) {inner outer r : List ℕ} {s : Progress} → inner ≡ keyValue key ipad → outer ≡ keyValue key opad
-    → s ≡ startedAfter inner → r ≡ hashAfter outer (finished (absorbed s text)) → r ≡ hmacSha256 key text
-mac-from-values key text {outer = outer} ei eo es er =
-    laws.mac-by-hashes compress digest outer text es refl er ∙ (λ i. macByValues (ei i) (eo i) text) ∙ kept-values-give-mac key text
+pub mac-from_values : (key text : List ℕ) {inner outer r : List ℕ} {s : Progress} → inner ≡ key_value key ipad → outer ≡ key_value key opad
+    → s ≡ started_after inner → r ≡ hash_after outer (finished (absorbed s text)) → r ≡ hmac_sha256 key text
+mac-from_values key text {outer = outer} ei eo es er =
+    laws.mac_by_hashes compress digest outer text es refl er ∙ (λ i. mac_by_values (ei i) (eo i) text) ∙ kept_values_give_mac key text

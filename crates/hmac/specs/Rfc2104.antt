@@ -3,5 +3,5 @@ use Rattle.std.specs.Prelude.{List, ℕ}
 use Rattle.rfc2104.specs.Rfc2104.{hmac}
 use Rattle.fips180.specs.Sha256.{sha256}
 
-unfoldable pub hmacSha256 : List ℕ → List ℕ → List ℕ
-hmacSha256 = hmac sha256
+unfoldable pub hmac_sha256 : List ℕ → List ℕ → List ℕ
+hmac_sha256 = hmac sha256

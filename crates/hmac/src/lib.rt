@@ -6,8 +6,8 @@ ghost use Rattle.fips180.specs.Sha256.{sha256, compress, H0};
 ghost use Rattle.sha256.specs.Stream.{progress, absorbed, finished, joined};
 ghost use Rattle.rfc2104.specs.Rfc2104 as Rfc2104;
 ghost use Rattle.rfc2104.specs.Rfc2104.{keyBlock, ipad, opad};
-ghost use Rattle.hmac.specs.Rfc2104.{hmacSha256};
-ghost use Rattle.hmac.specs.Keyed.{keyValue, hashAfter};
+ghost use Rattle.hmac.specs.Rfc2104.{hmac_sha256};
+ghost use Rattle.hmac.specs.Keyed.{key_value, hash_after};
 
 use sha256::Sha256;
 
@@ -44,8 +44,8 @@ pub struct Keyed {
 impl Keyed {
     // The hash values of a key. The key's block is not kept beside them.
     pub fn new(key: &[u8]) -> Self
-        ensures inner { result.inner ≡ keyValue key.now ipad }
-        ensures outer { result.outer ≡ keyValue key.now opad }
+        ensures inner { result.inner ≡ key_value key.now ipad }
+        ensures outer { result.outer ≡ key_value key.now opad }
     {
         let block = key_block(key);
         let inner = key_value(block, IPAD);
@@ -64,7 +64,7 @@ impl Keyed {
         e: &'a [u8],
         f: &'a [u8],
     ) -> [u8; Sha256::DIGEST]
-        ensures { result ≡ hashAfter self.outer (finished (absorbed (progress begun) (joined a.now b.now c.now d.now e.now f.now))) }
+        ensures { result ≡ hash_after self.outer (finished (absorbed (progress begun) (joined a.now b.now c.now d.now e.now f.now))) }
     {
         let digest = begun.finish_with(a, b, c, d, e, f);
         let outer = self.outer;
@@ -81,7 +81,7 @@ pub fn mac_of_parts<'a>(
     d: &'a [u8],
     e: &'a [u8],
 ) -> [u8; Sha256::DIGEST]
-    ensures { result ≡ hmacSha256 key.now (a.now ++ (b.now ++ (c.now ++ (d.now ++ e.now)))) }
+    ensures { result ≡ hmac_sha256 key.now (a.now ++ (b.now ++ (c.now ++ (d.now ++ e.now)))) }
 {
     let k = Keyed::new(key);
     let inner = k.inner;
@@ -90,7 +90,7 @@ pub fn mac_of_parts<'a>(
 
 // The MAC of a message.
 pub fn mac(key: &[u8], message: &[u8]) -> [u8; Sha256::DIGEST]
-    ensures { result ≡ hmacSha256 key.now message.now }
+    ensures { result ≡ hmac_sha256 key.now message.now }
 {
     mac_of_parts(key, message, b"", b"", b"", b"")
 }

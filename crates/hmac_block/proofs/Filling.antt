@@ -11,8 +11,8 @@ use Rattle.rfc2104.proofs.Blocks.{drop-replicate}
 pub part_length : (s : List ℕ) (n : ℕ) → n ≡ min (length s) 64 → length (take n s) ≡ n
 part_length s n e = length-take-le n s (omega arith)
 
-pub part-fits : (s : List ℕ) (n : ℕ) → n ≡ min (length s) 64 → length (take n s) ≤ 64
-part-fits s n e = omega (arith, part_length s n e)
+pub part_fits : (s : List ℕ) (n : ℕ) → n ≡ min (length s) 64 → length (take n s) ≤ 64
+part_fits s n e = omega (arith, part_length s n e)
 
 pub part_filled : (s : List ℕ) (n : ℕ) {r : List ℕ} → n ≡ min (length s) 64 → r ≡ take (length (take n s)) (take n s) ++ drop (length (take n s)) (replicate 64 0)
     → r ≡ take 64 s ++ replicate (64 - length s) 0
@@ -23,5 +23,5 @@ part_filled s n e copy =
     ∙ ap (λ (l : List ℕ). take 64 s ++ l) (drop-replicate (length s) 64)
 
 -- bytes that fit in a block stand there whole
-pub filled-short : (s : List ℕ) {r : List ℕ} → length s ≤ 64 → r ≡ take 64 s ++ replicate (64 - length s) 0 → r ≡ s ++ replicate (64 - length s) 0
-filled-short s h e = e ∙ ap (λ (l : List ℕ). l ++ replicate (64 - length s) 0) (take_all 64 s h)
+pub filled_short : (s : List ℕ) {r : List ℕ} → length s ≤ 64 → r ≡ take 64 s ++ replicate (64 - length s) 0 → r ≡ s ++ replicate (64 - length s) 0
+filled_short s h e = e ∙ ap (λ (l : List ℕ). l ++ replicate (64 - length s) 0) (take_all 64 s h)

@@ -9,15 +9,15 @@ use Rattle.rfc2104.specs.Rfc2104.{masked, keyBlock, ipad, opad, hmac}
 use Rattle.rfc2104.specs.Keyed.{hashAfterBy, macByValuesBy}
 use Rattle.rfc2104.proofs.Laws as laws
 use Rattle.rfc2104.proofs.Blocks.{masked-length}
-use Rattle.fips180.specs.Hash.{hashBy}
+use Rattle.fips180.specs.Hash.{hash_by}
 use Rattle.fips180.specs.Sha1.{sha1, compress, blocks, H0, digest}
 use Rattle.fips180.proofs.Blocks.{one_block}
-use Rattle.sha1.specs.Stream.{digestAfter}
-use Rattle.hmac_sha1.specs.Rfc2104.{hmacSha1}
-use Rattle.hmac_sha1.specs.Keyed.{keyValue, macByValues}
+use Rattle.sha1_hash.specs.Stream.{digest_after}
+use Rattle.hmac_sha1.specs.Rfc2104.{hmac_sha1}
+use Rattle.hmac_sha1.specs.Keyed.{key_value, mac_by_values}
 
 -- the hash value that the code computes from a key's block
-pub key-value : (key : List ℕ) (pad : ℕ) {block v : List ℕ} → block ≡ keyBlock sha1 key → v ≡ compress H0 (masked block pad) → v ≡ keyValue key pad
+pub key-value : (key : List ℕ) (pad : ℕ) {block v : List ℕ} → block ≡ keyBlock sha1 key → v ≡ compress H0 (masked block pad) → v ≡ key_value key pad
 unfolding sha1
 key-value = laws.key-value compress H0 digest
 
@@ -29,33 +29,33 @@ pub masked-value : (block : List ℕ) (pad : ℕ) {m v : List ℕ} → length bl
 masked-value block pad l em ev =
     ev ∙ ap (λ (b : List ℕ). blocks (length b / 64) H0 b) em ∙ one_block compress H0 (masked block pad) (masked-length block pad ∙ l)
 
-digest-fits : (value : List ℕ) → length (digest value) ≤ 64
+digest_fits : (value : List ℕ) → length (digest value) ≤ 64
 unfolding digest
-digest-fits value = lit≤ tt
+digest_fits value = lit≤ tt
 
-pub kept-values-give-mac : (key message : List ℕ) → macByValues (keyValue key ipad) (keyValue key opad) message ≡ hmacSha1 key message
-unfolding hmacSha1 sha1
-kept-values-give-mac = laws.kept-values-give-mac compress H0 digest digest-fits
+pub kept_values_give_mac : (key message : List ℕ) → mac_by_values (key_value key ipad) (key_value key opad) message ≡ hmac_sha1 key message
+unfolding hmac_sha1 sha1
+kept_values_give_mac = laws.kept_values_give_mac compress H0 digest digest_fits
 
 -- the MAC that a program makes of a message with the two hash values of a key
-pub mac-by-values : (key message : List ℕ) {inner outer m : List ℕ} → inner ≡ keyValue key ipad → outer ≡ keyValue key opad → m ≡ macByValues inner outer message
-    → m ≡ hmacSha1 key message
-mac-by-values key message ei eo e = e ∙ (λ i. macByValues (ei i) (eo i) message) ∙ kept-values-give-mac key message
+pub mac_by_values_lem : (key message : List ℕ) {inner outer m : List ℕ} → inner ≡ key_value key ipad → outer ≡ key_value key opad → m ≡ mac_by_values inner outer message
+    → m ≡ hmac_sha1 key message
+mac_by_values_lem key message ei eo e = e ∙ (λ i. mac_by_values (ei i) (eo i) message) ∙ kept_values_give_mac key message
 
 -- the MAC as the code computes it: the outer hash of the inner one
-pub mac-of-law : (inner outer message : List ℕ) {h m : List ℕ} → h ≡ digestAfter inner message → m ≡ digestAfter outer h → m ≡ macByValues inner outer message
+pub mac_of_law : (inner outer message : List ℕ) {h m : List ℕ} → h ≡ digest_after inner message → m ≡ digest_after outer h → m ≡ mac_by_values inner outer message
 unfolding macByValuesBy hashAfterBy
-mac-of-law inner outer message eh em = em ∙ ap (digestAfter outer) eh
+mac_of_law inner outer message eh em = em ∙ ap (digest_after outer) eh
 
 -- a digest has 20 bytes
 pub sha1-length : (m : List ℕ) → length (sha1 m) ≡ 20
-unfolding sha1 hashBy digest
+unfolding sha1 hash_by digest
 sha1-length m = refl
 
 -- and so it fits in a block
-pub digest-short : (m : List ℕ) {d : List ℕ} → d ≡ sha1 m → length d ≤ 64
-digest-short m e = let l = ap length e ∙ sha1-length m in omega arith
+pub digest_short : (m : List ℕ) {d : List ℕ} → d ≡ sha1 m → length d ≤ 64
+digest_short m e = let l = ap length e ∙ sha1-length m in omega arith
 
-pub hmacSha1-length : (key message : List ℕ) → length (hmacSha1 key message) ≡ 20
-unfolding hmacSha1 hmac
-hmacSha1-length key message = sha1-length _
+pub hmac_sha1-length : (key message : List ℕ) → length (hmac_sha1 key message) ≡ 20
+unfolding hmac_sha1 hmac
+hmac_sha1-length key message = sha1-length _

@@ -3,5 +3,5 @@ use Rattle.std.specs.Prelude.{List, ℕ}
 use Rattle.rfc2104.specs.Rfc2104.{hmac}
 use Rattle.fips180.specs.Sha1.{sha1}
 
-unfoldable pub hmacSha1 : List ℕ → List ℕ → List ℕ
-hmacSha1 = hmac sha1
+unfoldable pub hmac_sha1 : List ℕ → List ℕ → List ℕ
+hmac_sha1 = hmac sha1

@@ -4,11 +4,11 @@ ghost use Rattle.std.specs.Prelude.{◌≡◌, ◌+◌, ◌<◌, length};
 ghost use Rattle.fips180.specs.Sha1.{sha1};
 ghost use Rattle.rfc2104.specs.Rfc2104 as Rfc2104;
 ghost use Rattle.rfc2104.specs.Rfc2104.{keyBlock, ipad, opad};
-ghost use Rattle.hmac_sha1.specs.Rfc2104.{hmacSha1};
-ghost use Rattle.hmac_sha1.specs.Keyed.{keyValue, macByValues};
-ghost use Rattle.hmac_sha1.specs.Internal.{wordMasked};
+ghost use Rattle.hmac_sha1.specs.Rfc2104.{hmac_sha1};
+ghost use Rattle.hmac_sha1.specs.Keyed.{key_value, mac_by_values};
+ghost use Rattle.hmac_sha1.specs.Internal.{word_masked};
 
-use sha1::{BLOCK, DIGEST};
+use sha1_hash::{BLOCK, DIGEST};
 
 // The bytes that the key's block is masked with, for the inner hash and for the outer one.
 const IPAD: u8 = 0x36;
@@ -22,14 +22,14 @@ fn key_block(key: &[u8]) -> [u8; BLOCK]
     if key.len() <= BLOCK {
         return hmac_block::filled(key);
     }
-    let short = sha1::digest(key);
+    let short = sha1_hash::digest(key);
     hmac_block::filled(&short)
 }
 
 // Masks the four bytes from index i on, as one word: a core of 32 bits takes no longer for four bytes than for one.
 fn mask_word(block: &mut [u8], i: usize, pad: u8)
     requires { i + 3 < length block.old }
-    ensures { block.new ≡ wordMasked block.old i pad }
+    ensures { block.new ≡ word_masked block.old i pad }
 {
     let word = slices::from_be32(block[i], block[i + 1], block[i + 2], block[i + 3]);
     let masked = slices::be32(word ^ slices::from_be32(pad, pad, pad, pad));
@@ -59,33 +59,33 @@ pub struct Keyed {
 impl Keyed {
     // The hash values of a key. The key's block is not kept beside them.
     pub fn new(key: &[u8]) -> Self
-        ensures inner { result.inner ≡ keyValue key.now ipad }
-        ensures outer { result.outer ≡ keyValue key.now opad }
+        ensures inner { result.inner ≡ key_value key.now ipad }
+        ensures outer { result.outer ≡ key_value key.now opad }
     {
         let block = key_block(key);
         let mut masked = block;
         mask(&mut masked, IPAD);
-        let inner = sha1::value_after(&masked);
+        let inner = sha1_hash::value_after(&masked);
         masked = block;
         mask(&mut masked, OPAD);
-        let outer = sha1::value_after(&masked);
+        let outer = sha1_hash::value_after(&masked);
         Keyed { inner, outer }
     }
 
     // The MAC of a message: the outer hash of its inner hash.
     pub fn mac_of(self, message: &[u8]) -> [u8; DIGEST]
-        ensures { result ≡ macByValues self.inner self.outer message.now }
+        ensures { result ≡ mac_by_values self.inner self.outer message.now }
     {
         let inner = self.inner;
         let outer = self.outer;
-        let hash = sha1::digest_after(inner, message);
-        sha1::digest_after(outer, &hash)
+        let hash = sha1_hash::digest_after(inner, message);
+        sha1_hash::digest_after(outer, &hash)
     }
 }
 
 // The MAC of a message under a key that is used once.
 pub fn mac(key: &[u8], message: &[u8]) -> [u8; DIGEST]
-    ensures { result ≡ hmacSha1 key.now message.now }
+    ensures { result ≡ hmac_sha1 key.now message.now }
 {
     Keyed::new(key).mac_of(message)
 }

@@ -1,8 +1,8 @@
 // The exported functions: bundles of Key attributes.
 ghost use Rattle.std.specs.Prelude.{◌≡◌, length};
-ghost use Rattle.outcome.specs.Outcomes.{outcomeOf};
+ghost use Rattle.outcome.specs.Outcomes.{outcome_of};
 ghost use Rattle.bundle_rules.specs.Bundle as Bundle;
-ghost use Rattle.compare_rules.specs.Compare.{compareBuffer};
+ghost use Rattle.compare_rules.specs.Compare.{compare_buffer};
 ghost use Rattle.ketvaulo.specs.Calls.{compared};
 
 use outcome::Outcome;
@@ -11,8 +11,8 @@ use outcome::comparisons::Comparison;
 // Document 02, request 9: the file of Key attributes that are packed end to end.
 #[unsafe(no_mangle)]
 pub extern "C" fn kv_write_bundle(attributes: &[u8], out: &mut [u8]) -> Outcome
-    ensures answer { result ≡ outcomeOf (Bundle.writeAnswer attributes.now (length out.old)) }
-    ensures buffer { out.new ≡ Bundle.writeBuffer attributes.now out.old }
+    ensures answer { result ≡ outcome_of (Bundle.write_answer attributes.now (length out.old)) }
+    ensures buffer { out.new ≡ Bundle.write_buffer attributes.now out.old }
 {
     outcome::returned(bundle_writer::write(attributes, out))
 }
@@ -20,8 +20,8 @@ pub extern "C" fn kv_write_bundle(attributes: &[u8], out: &mut [u8]) -> Outcome
 // Document 02, request 9: the Key attributes of a file, packed end to end.
 #[unsafe(no_mangle)]
 pub extern "C" fn kv_read_bundle(file: &[u8], out: &mut [u8]) -> Outcome
-    ensures answer { result ≡ outcomeOf (Bundle.readAnswer file.now (length out.old)) }
-    ensures buffer { out.new ≡ Bundle.readBuffer file.now out.old }
+    ensures answer { result ≡ outcome_of (Bundle.read_answer file.now (length out.old)) }
+    ensures buffer { out.new ≡ Bundle.read_buffer file.now out.old }
 {
     outcome::returned(bundle_reader::read(file, out))
 }
@@ -30,7 +30,7 @@ pub extern "C" fn kv_read_bundle(file: &[u8], out: &mut [u8]) -> Outcome
 #[unsafe(no_mangle)]
 pub extern "C" fn kv_compare_bundles(first: &[u8], second: &[u8], out: &mut [u8]) -> Comparison
     ensures answer { result ≡ compared first.now second.now (length out.old) }
-    ensures buffer { out.new ≡ compareBuffer first.now second.now out.old }
+    ensures buffer { out.new ≡ compare_buffer first.now second.now out.old }
 {
     outcome::comparisons::returned(bundle_compare::compare_bundles(first, second, out))
 }

@@ -1,15 +1,15 @@
 // The exported functions: the keys of a handover.
 ghost use Rattle.std.specs.Prelude.{◌≡◌, length};
-ghost use Rattle.outcome.specs.Outcomes.{outcomeOf};
-ghost use Rattle.handover_rules.specs.Handover.{r0Answer, r1Answer, r0NameAnswer, r0Buffer, r1Buffer, r0NameBuffer};
+ghost use Rattle.outcome.specs.Outcomes.{outcome_of};
+ghost use Rattle.handover_rules.specs.Handover.{r0_answer, r1_answer, r0_name_answer, r0_buffer, r1_buffer, r0_name_buffer};
 
 use outcome::Outcome;
 
 // Source document 003: the R0-Key of an access domain and a supplicant under an rRK, 32 bytes.
 #[unsafe(no_mangle)]
 pub extern "C" fn kv_r0_key(rrk: &[u8], ad_id: &[u8], spa: &[u8], out: &mut [u8]) -> Outcome
-    ensures answer { result ≡ outcomeOf (r0Answer rrk.now ad_id.now spa.now (length out.old)) }
-    ensures buffer { out.new ≡ r0Buffer rrk.now ad_id.now spa.now out.old }
+    ensures answer { result ≡ outcome_of (r0_answer rrk.now ad_id.now spa.now (length out.old)) }
+    ensures buffer { out.new ≡ r0_buffer rrk.now ad_id.now spa.now out.old }
 {
     outcome::returned(handover::r0_key(rrk, ad_id, spa, out))
 }
@@ -23,8 +23,8 @@ pub extern "C" fn kv_r1_key(
     spa: &[u8],
     out: &mut [u8],
 ) -> Outcome
-    ensures answer { result ≡ outcomeOf (r1Answer r0_key.now ad_id.now an_id.now spa.now (length out.old)) }
-    ensures buffer { out.new ≡ r1Buffer r0_key.now ad_id.now an_id.now spa.now out.old }
+    ensures answer { result ≡ outcome_of (r1_answer r0_key.now ad_id.now an_id.now spa.now (length out.old)) }
+    ensures buffer { out.new ≡ r1_buffer r0_key.now ad_id.now an_id.now spa.now out.old }
 {
     outcome::returned(handover::r1_key(r0_key, ad_id, an_id, spa, out))
 }
@@ -37,8 +37,8 @@ pub extern "C" fn kv_r0_name<'a>(
     spa: &'a [u8],
     out: &mut [u8],
 ) -> Outcome
-    ensures answer { result ≡ outcomeOf (r0NameAnswer r0_key.now ad_id.now spa.now (length out.old)) }
-    ensures buffer { out.new ≡ r0NameBuffer r0_key.now ad_id.now spa.now out.old }
+    ensures answer { result ≡ outcome_of (r0_name_answer r0_key.now ad_id.now spa.now (length out.old)) }
+    ensures buffer { out.new ≡ r0_name_buffer r0_key.now ad_id.now spa.now out.old }
 {
     outcome::returned(handover::r0_name(r0_key, ad_id, spa, out))
 }

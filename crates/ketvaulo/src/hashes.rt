@@ -1,9 +1,9 @@
 // The exported functions: SHA-256 and HMAC-SHA-256. Nothing is hashed where there is no room for the digest.
 ghost use Rattle.std.specs.Prelude.{◌≡◌, length};
 ghost use Rattle.fips180.specs.Sha256.{sha256};
-ghost use Rattle.hmac.specs.Rfc2104.{hmacSha256};
-ghost use Rattle.outcome.specs.Outcomes.{outcomeOf};
-ghost use Rattle.ketvaulo.specs.Hashes.{digestAnswer, digestBuffer};
+ghost use Rattle.hmac.specs.Rfc2104.{hmac_sha256};
+ghost use Rattle.outcome.specs.Outcomes.{outcome_of};
+ghost use Rattle.ketvaulo.specs.Hashes.{digest_answer, digest_buffer};
 
 use outcome::Outcome;
 use refusal::{Checked, check_room};
@@ -11,8 +11,8 @@ use sha256::Sha256;
 
 // Puts a digest at the start of a buffer that has room for it.
 fn put_digest(digest: [u8; Sha256::DIGEST], out: &mut [u8]) -> Outcome
-    ensures answer { result ≡ outcomeOf (digestAnswer (length out.old)) }
-    ensures buffer { out.new ≡ digestBuffer digest out.old }
+    ensures answer { result ≡ outcome_of (digest_answer (length out.old)) }
+    ensures buffer { out.new ≡ digest_buffer digest out.old }
 {
     outcome::returned(refusal::put(Checked::Passed, &digest, out))
 }
@@ -20,8 +20,8 @@ fn put_digest(digest: [u8; Sha256::DIGEST], out: &mut [u8]) -> Outcome
 // FIPS 180-4: the SHA-256 digest of a message, 32 bytes.
 #[unsafe(no_mangle)]
 pub extern "C" fn kv_sha256(message: &[u8], out: &mut [u8]) -> Outcome
-    ensures answer { result ≡ outcomeOf (digestAnswer (length out.old)) }
-    ensures buffer { out.new ≡ digestBuffer (sha256 message.now) out.old }
+    ensures answer { result ≡ outcome_of (digest_answer (length out.old)) }
+    ensures buffer { out.new ≡ digest_buffer (sha256 message.now) out.old }
 {
     match check_room(Sha256::DIGEST, out.len()) {
         Checked::Failed(why) => outcome::refused(why),
@@ -32,8 +32,8 @@ pub extern "C" fn kv_sha256(message: &[u8], out: &mut [u8]) -> Outcome
 // RFC 2104: the HMAC-SHA-256 of a message under a key, 32 bytes.
 #[unsafe(no_mangle)]
 pub extern "C" fn kv_hmac_sha256(key: &[u8], message: &[u8], out: &mut [u8]) -> Outcome
-    ensures answer { result ≡ outcomeOf (digestAnswer (length out.old)) }
-    ensures buffer { out.new ≡ digestBuffer (hmacSha256 key.now message.now) out.old }
+    ensures answer { result ≡ outcome_of (digest_answer (length out.old)) }
+    ensures buffer { out.new ≡ digest_buffer (hmac_sha256 key.now message.now) out.old }
 {
     match check_room(Sha256::DIGEST, out.len()) {
         Checked::Failed(why) => outcome::refused(why),

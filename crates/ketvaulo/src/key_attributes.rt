@@ -1,8 +1,8 @@
 // The exported functions: Key attributes.
 ghost use Rattle.std.specs.Prelude.{◌≡◌, length};
-ghost use Rattle.key_reader.specs.KeyReader.{reading, readBuffer};
-ghost use Rattle.outcome.specs.KeyAttributes.{keyOutcome};
-ghost use Rattle.ketvaulo.specs.Calls.{keyWritten, keyBuffer};
+ghost use Rattle.key_reader.specs.KeyReader.{reading, read_buffer};
+ghost use Rattle.outcome.specs.KeyAttributes.{key_outcome};
+ghost use Rattle.ketvaulo.specs.Calls.{key_written, key_buffer};
 
 use outcome::Outcome;
 use outcome::key_attributes::KeyAttributeOutcome;
@@ -19,8 +19,8 @@ pub extern "C" fn kv_write_key_attribute(
     key: &[u8],
     out: &mut [u8],
 ) -> Outcome
-    ensures answer { result ≡ keyWritten attribute_type app_id kek_id.now key_id.now lifetime kek.now key.now (length out.old) }
-    ensures buffer { out.new ≡ keyBuffer attribute_type app_id kek_id.now key_id.now lifetime kek.now key.now out.old }
+    ensures answer { result ≡ key_written attribute_type app_id kek_id.now key_id.now lifetime kek.now key.now (length out.old) }
+    ensures buffer { out.new ≡ key_buffer attribute_type app_id kek_id.now key_id.now lifetime kek.now key.now out.old }
 {
     outcome::returned(key_writer::write(
         attribute_type,
@@ -41,8 +41,8 @@ pub extern "C" fn kv_read_key_attribute(
     attribute: &[u8],
     out: &mut [u8],
 ) -> KeyAttributeOutcome
-    ensures answer { result ≡ keyOutcome (reading kek.now attribute.now (length out.old)) }
-    ensures buffer { out.new ≡ readBuffer kek.now attribute.now out.old }
+    ensures answer { result ≡ key_outcome (reading kek.now attribute.now (length out.old)) }
+    ensures buffer { out.new ≡ read_buffer kek.now attribute.now out.old }
 {
     outcome::key_attributes::returned(key_reader::read(kek, attribute, out))
 }

@@ -1,11 +1,11 @@
 // The exported functions: usage keys, the keys of the visited domain, the keys of a domain, the keys of EAP-AKA', key names.
 ghost use Rattle.std.specs.Prelude.{◌≡◌, length};
-ghost use Rattle.outcome.specs.Outcomes.{outcomeOf};
-ghost use Rattle.requests.specs.Requests.{forUsage, forVrk, forDomain, requestAnswer, requestBuffer};
-ghost use Rattle.visited.specs.Visited.{vmskAnswer, vmskBuffer, reauthAnswer, reauthBuffer};
-ghost use Rattle.domain_keys.specs.Rfc5296.{rrkAnswer, rrkBuffer};
-ghost use Rattle.aka_keys.specs.Rfc5448.{akaAnswer, akaBuffer};
-ghost use Rattle.key_name.specs.Ndf64.{nameAnswer, nameBuffer};
+ghost use Rattle.outcome.specs.Outcomes.{outcome_of};
+ghost use Rattle.requests.specs.Requests.{for_usage, for_vrk, for_domain, request_answer, request_buffer};
+ghost use Rattle.visited.specs.Visited.{vmsk_answer, vmsk_buffer, reauth_answer, reauth_buffer};
+ghost use Rattle.domain_keys.specs.Rfc5296.{rrk_answer, rrk_buffer};
+ghost use Rattle.aka_keys.specs.Rfc5448.{aka_answer, aka_buffer};
+ghost use Rattle.key_name.specs.Ndf64.{name_answer, name_buffer};
 
 use outcome::Outcome;
 
@@ -18,8 +18,8 @@ pub extern "C" fn kv_usage_key<'a>(
     n: u64,
     out: &mut [u8],
 ) -> Outcome
-    ensures answer { result ≡ outcomeOf (requestAnswer emsk.now (forUsage label.now «data».now n (length out.old))) }
-    ensures buffer { out.new ≡ requestBuffer emsk.now (forUsage label.now «data».now n (length out.old)) out.old }
+    ensures answer { result ≡ outcome_of (request_answer emsk.now (for_usage label.now «data».now n (length out.old))) }
+    ensures buffer { out.new ≡ request_buffer emsk.now (for_usage label.now «data».now n (length out.old)) out.old }
 {
     outcome::returned(usage::usage_key(emsk, label, data, n as usize, out))
 }
@@ -27,8 +27,8 @@ pub extern "C" fn kv_usage_key<'a>(
 // Source document 001: the VRK under an EMSK, 64 bytes.
 #[unsafe(no_mangle)]
 pub extern "C" fn kv_visited_root_key(emsk: &[u8], out: &mut [u8]) -> Outcome
-    ensures answer { result ≡ outcomeOf (requestAnswer emsk.now (forVrk (length out.old))) }
-    ensures buffer { out.new ≡ requestBuffer emsk.now (forVrk (length out.old)) out.old }
+    ensures answer { result ≡ outcome_of (request_answer emsk.now (for_vrk (length out.old))) }
+    ensures buffer { out.new ≡ request_buffer emsk.now (for_vrk (length out.old)) out.old }
 {
     outcome::returned(visited::visited_root_key(emsk, out))
 }
@@ -41,8 +41,8 @@ pub extern "C" fn kv_visited_master_key<'a>(
     domain: &'a [u8],
     out: &mut [u8],
 ) -> Outcome
-    ensures answer { result ≡ outcomeOf (vmskAnswer vrk.now server_id.now domain.now (length out.old)) }
-    ensures buffer { out.new ≡ vmskBuffer vrk.now server_id.now domain.now out.old }
+    ensures answer { result ≡ outcome_of (vmsk_answer vrk.now server_id.now domain.now (length out.old)) }
+    ensures buffer { out.new ≡ vmsk_buffer vrk.now server_id.now domain.now out.old }
 {
     outcome::returned(visited::visited_master_key(vrk, server_id, domain, out))
 }
@@ -50,8 +50,8 @@ pub extern "C" fn kv_visited_master_key<'a>(
 // Source document 001: the V-rRK under a VMSK, 64 bytes.
 #[unsafe(no_mangle)]
 pub extern "C" fn kv_visited_reauth_key(vmsk: &[u8], out: &mut [u8]) -> Outcome
-    ensures answer { result ≡ outcomeOf (reauthAnswer vmsk.now (length out.old)) }
-    ensures buffer { out.new ≡ reauthBuffer vmsk.now out.old }
+    ensures answer { result ≡ outcome_of (reauth_answer vmsk.now (length out.old)) }
+    ensures buffer { out.new ≡ reauth_buffer vmsk.now out.old }
 {
     outcome::returned(visited::visited_reauth_key(vmsk, out))
 }
@@ -59,8 +59,8 @@ pub extern "C" fn kv_visited_reauth_key(vmsk: &[u8], out: &mut [u8]) -> Outcome
 // RFC 5295: the root key of a domain under an EMSK, 64 bytes.
 #[unsafe(no_mangle)]
 pub extern "C" fn kv_domain_root_key<'a>(emsk: &[u8], domain: &'a [u8], out: &mut [u8]) -> Outcome
-    ensures answer { result ≡ outcomeOf (requestAnswer emsk.now (forDomain domain.now (length out.old))) }
-    ensures buffer { out.new ≡ requestBuffer emsk.now (forDomain domain.now (length out.old)) out.old }
+    ensures answer { result ≡ outcome_of (request_answer emsk.now (for_domain domain.now (length out.old))) }
+    ensures buffer { out.new ≡ request_buffer emsk.now (for_domain domain.now (length out.old)) out.old }
 {
     outcome::returned(domain_keys::domain_root_key(emsk, domain, out))
 }
@@ -68,8 +68,8 @@ pub extern "C" fn kv_domain_root_key<'a>(emsk: &[u8], domain: &'a [u8], out: &mu
 // RFC 5296: the re-authentication root key under the root key of a domain, 64 bytes.
 #[unsafe(no_mangle)]
 pub extern "C" fn kv_domain_reauth_key(dsrk: &[u8], out: &mut [u8]) -> Outcome
-    ensures answer { result ≡ outcomeOf (rrkAnswer dsrk.now (length out.old)) }
-    ensures buffer { out.new ≡ rrkBuffer dsrk.now out.old }
+    ensures answer { result ≡ outcome_of (rrk_answer dsrk.now (length out.old)) }
+    ensures buffer { out.new ≡ rrk_buffer dsrk.now out.old }
 {
     outcome::returned(domain_keys::domain_reauth_key(dsrk, out))
 }
@@ -84,8 +84,8 @@ pub extern "C" fn kv_aka_keys<'a>(
     identity: &'a [u8],
     out: &mut [u8],
 ) -> Outcome
-    ensures answer { result ≡ outcomeOf (akaAnswer ck.now ik.now name.now sqn_xor_ak.now identity.now (length out.old)) }
-    ensures buffer { out.new ≡ akaBuffer ck.now ik.now name.now sqn_xor_ak.now identity.now out.old }
+    ensures answer { result ≡ outcome_of (aka_answer ck.now ik.now name.now sqn_xor_ak.now identity.now (length out.old)) }
+    ensures buffer { out.new ≡ aka_buffer ck.now ik.now name.now sqn_xor_ak.now identity.now out.old }
 {
     outcome::returned(aka_keys::aka_keys(ck, ik, name, sqn_xor_ak, identity, out))
 }
@@ -93,8 +93,8 @@ pub extern "C" fn kv_aka_keys<'a>(
 // Source document 001: the name of a Session-ID and a label, 8 bytes.
 #[unsafe(no_mangle)]
 pub extern "C" fn kv_key_name(session_id: &[u8], label: &[u8], out: &mut [u8]) -> Outcome
-    ensures answer { result ≡ outcomeOf (nameAnswer session_id.now label.now (length out.old)) }
-    ensures buffer { out.new ≡ nameBuffer session_id.now label.now out.old }
+    ensures answer { result ≡ outcome_of (name_answer session_id.now label.now (length out.old)) }
+    ensures buffer { out.new ≡ name_buffer session_id.now label.now out.old }
 {
     outcome::returned(key_name::key_name(session_id, label, out))
 }

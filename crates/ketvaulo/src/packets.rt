@@ -1,16 +1,16 @@
 // The exported functions: RADIUS packets.
 ghost use Rattle.std.specs.Prelude.{◌≡◌};
-ghost use Rattle.hmac.specs.Rfc2104.{hmacSha256};
-ghost use Rattle.outcome.specs.Outcomes.{outcomeOf, checkOutcome};
-ghost use Rattle.packet_rules.specs.Mac.{signAnswer, signBuffer, checkCheck};
+ghost use Rattle.hmac.specs.Rfc2104.{hmac_sha256};
+ghost use Rattle.outcome.specs.Outcomes.{outcome_of, check_outcome};
+ghost use Rattle.packet_rules.specs.Mac.{sign_answer, signBuffer, checkCheck};
 
 use outcome::Outcome;
 
 // Source document 004, section 3.3: the MAC of a packet written into its attribute of the type, 32 bytes.
 #[unsafe(no_mangle)]
 pub extern "C" fn kv_sign_packet(mac_key: &[u8], attribute_type: u8, packet: &mut [u8]) -> Outcome
-    ensures answer { result ≡ outcomeOf (signAnswer mac_key.now attribute_type packet.old) }
-    ensures buffer { packet.new ≡ signBuffer hmacSha256 mac_key.now attribute_type packet.old }
+    ensures answer { result ≡ outcome_of (sign_answer mac_key.now attribute_type packet.old) }
+    ensures buffer { packet.new ≡ signBuffer hmac_sha256 mac_key.now attribute_type packet.old }
 {
     outcome::returned(packet_mac::sign(mac_key, attribute_type, packet))
 }
@@ -18,7 +18,7 @@ pub extern "C" fn kv_sign_packet(mac_key: &[u8], attribute_type: u8, packet: &mu
 // Source document 004, section 3.3: the MAC in a packet's attribute of the type is checked; 0.
 #[unsafe(no_mangle)]
 pub extern "C" fn kv_check_packet(mac_key: &[u8], attribute_type: u8, packet: &[u8]) -> Outcome
-    ensures { result ≡ checkOutcome (checkCheck hmacSha256 mac_key.now attribute_type packet.now) }
+    ensures { result ≡ check_outcome (checkCheck hmac_sha256 mac_key.now attribute_type packet.now) }
 {
     outcome::checked(packet_mac::check(mac_key, attribute_type, packet))
 }

@@ -1,10 +1,10 @@
 // The exported functions: slots.
 ghost use Rattle.std.specs.Prelude.{◌≡◌};
-ghost use Rattle.outcome.specs.Outcomes.{outcomeOf};
+ghost use Rattle.outcome.specs.Outcomes.{outcome_of};
 ghost use Rattle.slot_rules.specs.Table.{liveCount};
-ghost use Rattle.slot_rules.specs.Calls.{putAnswer, dropAnswer};
-ghost use Rattle.slot_rules.specs.Stored.{table_of, putStored, dropStored};
-ghost use Rattle.outcome.specs.SlotTables.{parentFor, slotsOutcome};
+ghost use Rattle.slot_rules.specs.Calls.{put_answer, drop_answer};
+ghost use Rattle.slot_rules.specs.Stored.{table_of, put_stored, drop_stored};
+ghost use Rattle.outcome.specs.SlotTables.{parent_for, slots_outcome};
 
 use outcome::slot_tables::SlotsOutcome;
 use slot_rules::{Name, Slots};
@@ -12,7 +12,7 @@ use slot_rules::{Name, Slots};
 // Document 02, requests 12 and 13: a name is put below a parent into the lowest free slot.
 #[unsafe(no_mangle)]
 pub extern "C" fn kv_put_slot(slots: Slots, name: Name, parent: u64) -> SlotsOutcome
-    ensures { result ≡ slotsOutcome (outcomeOf (putAnswer (table_of slots) (parentFor parent))) (putStored slots name (parentFor parent)) }
+    ensures { result ≡ slots_outcome (outcome_of (put_answer (table_of slots) (parent_for parent))) (put_stored slots name (parent_for parent)) }
 {
     let put = slots::put(slots, name, outcome::slot_tables::parent_for(parent));
     let next = put.slots;
@@ -28,7 +28,7 @@ pub extern "C" fn kv_put_slot(slots: Slots, name: Name, parent: u64) -> SlotsOut
 // Document 02, requests 12 and 13: a slot and all that descend from it are freed.
 #[unsafe(no_mangle)]
 pub extern "C" fn kv_drop_slot(slots: Slots, number: u64) -> SlotsOutcome
-    ensures { result ≡ slotsOutcome (outcomeOf (dropAnswer (table_of slots) number)) (dropStored slots number) }
+    ensures { result ≡ slots_outcome (outcome_of (drop_answer (table_of slots) number)) (drop_stored slots number) }
 {
     let dropped = slots::drop(slots, number);
     let left = dropped.slots;

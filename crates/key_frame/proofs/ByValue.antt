@@ -7,11 +7,11 @@ use native.Mathlib.Omega.{arith}
 use lib.ListN.{length, take, drop, replicate}
 use lib.Seq.{take_all, length-take-le}
 use Rattle.slices.proofs.Lists.{copied-front, copied_all}
-use Rattle.key_frame.specs.KeyFrame.{sixteenOf}
+use Rattle.key_frame.specs.KeyFrame.{sixteen_of}
 
 -- of a list of sixteen they are all
-pub sixteen-whole : (s : List ℕ) → length s ≡ 16 → sixteenOf s ≡ s
-sixteen-whole s h =
+pub sixteen_whole : (s : List ℕ) → length s ≡ 16 → sixteen_of s ≡ s
+sixteen_whole s h =
     let l : length s ≤ 16 = omega arith in
     rw h (append-nil (take 16 s) ∙ take_all 16 s l)
 
@@ -24,6 +24,6 @@ module _ (s : List ℕ) (n : ℕ) (e : n ≡ min (length s) 16) where
   taken-fits = omega (arith, e, taken-count, min-le_right (length s) 16)
 
   -- copied over zeros
-  pub sixteen-copied : {r : List ℕ} → r ≡ take (length (take n s)) (take n s) ++ drop (length (take n s)) (replicate 16 0) → r ≡ sixteenOf s
+  pub sixteen-copied : {r : List ℕ} → r ≡ take (length (take n s)) (take n s) ++ drop (length (take n s)) (replicate 16 0) → r ≡ sixteen_of s
   sixteen-copied c =
       copied-front (take n s) (replicate 16 0) c ∙ ap (λ (k : ℕ). take n s ++ drop k (replicate 16 0)) (sym taken-count) ∙ copied_all (replicate 16 0) s n e

@@ -7,13 +7,13 @@ use native.Mathlib.Omega.{arith}
 use borrow.Author.Tests.{eqb-true, eqb-false, le-leb, lt-leb, not-true}
 use lib.Dec.{leb, eqb}
 use lib.ListN.{length, get_or}
-use Rattle.refusal.specs.Checks.{Check, pass, refuse, bare, unless, ◌andThen◌, within, check20}
-use Rattle.refusal.proofs.Passing.{within_low, within-high, before-passed, last-passed, test-passed}
+use Rattle.refusal.specs.Checks.{Check, pass, refuse, bare, unless, ◌and_then◌, within, check20}
+use Rattle.refusal.proofs.Passing.{within_low, within-high, before-passed, last-passed, test_passed}
 use Rattle.slices.proofs.Truth.{and_left, and_right}
-use Rattle.slices.proofs.Same.{same-equal}
-use Rattle.rfc3394.specs.Rfc3394.{initialValue}
+use Rattle.slices.proofs.Same.{same_equal}
+use Rattle.rfc3394.specs.Rfc3394.{initial_value}
 use Rattle.keywrap.specs.Calls.{wrappable}
-use Rattle.key_frame.specs.KeyFrame.{ivIn, lengthHolds, check25, check26, check27, frameCheck}
+use Rattle.key_frame.specs.KeyFrame.{iv_in, length_holds, check25, check26, check27, frame_check}
 
 -- a length that a key to wrap may have
 pub record KeyLength (n : ℕ) : Type 0 where
@@ -42,8 +42,8 @@ pub record AttributeLength (a : List ℕ) : Type 0 where
   pub sized : wrappable (length a - 60) ≡ true
   pub key : KeyLength (length a - 60)
 
-pub attribute-length : (a : List ℕ) → lengthHolds a ≡ true → AttributeLength a
-unfolding lengthHolds
+pub attribute-length : (a : List ℕ) → length_holds a ≡ true → AttributeLength a
+unfolding length_holds
 attribute-length a e =
     let r : (eqb (get_or a 1 0) (length a) && wrappable (length a - 60)) ≡ true = and_right (leb 2 (length a)) _ e in
     let s : wrappable (length a - 60) ≡ true = and_right (eqb (get_or a 1 0) (length a)) _ r in
@@ -54,26 +54,26 @@ attribute-length a e =
     }
 
 -- the length of fewer than 60 bytes does not hold
-pub no_length : (a : List ℕ) → length a < 60 → false ≡ lengthHolds a
-unfolding lengthHolds
+pub no_length : (a : List ℕ) → length a < 60 → false ≡ length_holds a
+unfolding length_holds
 no_length a h =
     let short : length a - 60 < 16 = omega arith in
     rw (too_short (length a - 60) short, and-false, and-false)
 
 -- of 60 bytes and more it holds where the length byte counts them and the rest can be a key's
-pub length-of : (a : List ℕ) (x : ℕ) (b : Bool) → 60 ≤ length a → x ≡ get_or a 1 0 → b ≡ wrappable (length a - 60) → (eqb x (length a) && b) ≡ lengthHolds a
-unfolding lengthHolds
-length-of a x b h e f =
+pub length_of : (a : List ℕ) (x : ℕ) (b : Bool) → 60 ≤ length a → x ≡ get_or a 1 0 → b ≡ wrappable (length a - 60) → (eqb x (length a) && b) ≡ length_holds a
+unfolding length_holds
+length_of a x b h e f =
     let two : 2 ≤ length a = omega arith in
     rw (e, f, le-leb 2 (length a) two)
 
 -- the tests of the frame, by the length
-pub frame-of : (a : List ℕ) {c : Check} → lengthHolds a ≡ true → c ≡ (check20 (get_or a 0 0) and_then check25 a and_then check26 a and_then check27 a) → c ≡ frameCheck a
-unfolding frameCheck unless ◌andThen◌
-frame-of a h e = rw h e
+pub frame_of : (a : List ℕ) {c : Check} → length_holds a ≡ true → c ≡ (check20 (get_or a 0 0) and_then check25 a and_then check26 a and_then check27 a) → c ≡ frame_check a
+unfolding frame_check unless ◌and_then◌
+frame_of a h e = rw h e
 
-pub frame_refused : (a : List ℕ) → lengthHolds a ≡ false → refuse (bare 24) ≡ frameCheck a
-unfolding frameCheck unless ◌andThen◌
+pub frame_refused : (a : List ℕ) → length_holds a ≡ false → refuse (bare 24) ≡ frame_check a
+unfolding frame_check unless ◌and_then◌
 frame_refused a h = rw h
 
 -- an attribute whose frame passes
@@ -82,19 +82,19 @@ pub record Framed (a : List ℕ) : Type 0 where
   pub kind : get_or a 0 0 ≡ 0 → ⊥
   pub reserved : get_or a 2 0 ≡ 0
   pub method : get_or a 3 0 ≡ 0
-  pub iv : ivIn a ≡ initialValue
+  pub iv : iv_in a ≡ initial_value
 
-pub framed : (a : List ℕ) → frameCheck a ≡ pass → Framed a
-unfolding frameCheck
+pub framed : (a : List ℕ) → frame_check a ≡ pass → Framed a
+unfolding frame_check
 framed a e =
     let c26 = before-passed _ _ e in
     let c25 = before-passed _ _ c26 in
     let c20 = before-passed _ _ c25 in
     let c24 = before-passed _ _ c20 in
     record {
-      size = attribute-length a (test-passed _ _ c24);
-      kind = eqb-false _ _ (not-true _ (test-passed _ _ (last-passed _ _ c20)));
-      reserved = eqb-true _ _ (test-passed _ _ (last-passed _ _ c25));
-      method = eqb-true _ _ (test-passed _ _ (last-passed _ _ c26));
-      iv = same-equal _ _ (test-passed _ _ (last-passed _ _ e));
+      size = attribute-length a (test_passed _ _ c24);
+      kind = eqb-false _ _ (not-true _ (test_passed _ _ (last-passed _ _ c20)));
+      reserved = eqb-true _ _ (test_passed _ _ (last-passed _ _ c25));
+      method = eqb-true _ _ (test_passed _ _ (last-passed _ _ c26));
+      iv = same_equal _ _ (test_passed _ _ (last-passed _ _ e));
     }

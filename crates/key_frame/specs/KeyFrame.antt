@@ -1,10 +1,10 @@
 -- The Key attribute's layout, and the tests that its writer and its reader share: source document 004, section 3.1, as document 01, "Key attribute", reads it.
 -- Byte 0 type, 1 length, 2 reserved 0, 3 Enc Type 0, 4 App ID (4), 8 KEK ID (16), 24 Key ID (16), 40 Lifetime (4), 44 IV (8), 52 the wrapped key.
 use Rattle.std.specs.Prelude.{ℕ, ◌-◌, Bool, ◌&&◌, List, [], ◌∷◌, ◌++◌, leb, eqb, length, take, drop, get_or, replicate}
-use Rattle.refusal.specs.Checks.{Check, bare, unless, ◌andThen◌, check20}
-use Rattle.slices.specs.Numbers.{be32, be32At}
+use Rattle.refusal.specs.Checks.{Check, bare, unless, ◌and_then◌, check20}
+use Rattle.slices.specs.Numbers.{be32, be32_at}
 use Rattle.slices.specs.Same.{same_list}
-use Rattle.rfc3394.specs.Rfc3394.{initialValue}
+use Rattle.rfc3394.specs.Rfc3394.{initial_value}
 use Rattle.keywrap.specs.Calls.{wrappable}
 use Rattle.key_frame.specs.declared.KeyFields.{KeyFields}
 
@@ -17,40 +17,40 @@ fields_of attributeType appId kekId keyId lifetime =
 unfoldable pub header : KeyFields → ℕ → List ℕ
 header f n =
     (f.attribute_type ∷ n ∷ 0 ∷ 0 ∷ [])
-    ++ (be32 f.app_id ++ (f.kek_id ++ (f.key_id ++ (be32 f.lifetime ++ initialValue))))
+    ++ (be32 f.app_id ++ (f.kek_id ++ (f.key_id ++ (be32 f.lifetime ++ initial_value))))
 
 -- the fields that an attribute holds
-unfoldable pub fieldsIn : List ℕ → KeyFields
-fieldsIn a =
+unfoldable pub fields_in : List ℕ → KeyFields
+fields_in a =
     record {
       attribute_type = get_or a 0 0;
-      app_id = be32At a 4;
+      app_id = be32_at a 4;
       kek_id = take 16 (drop 8 a);
       key_id = take 16 (drop 24 a);
-      lifetime = be32At a 40;
+      lifetime = be32_at a 40;
     }
 
 -- its IV, the wrapped key, and the length of the key that is wrapped in it
-abbrev pub ivIn : List ℕ → List ℕ
-ivIn a = take 8 (drop 44 a)
+abbrev pub iv_in : List ℕ → List ℕ
+iv_in a = take 8 (drop 44 a)
 
-abbrev pub wrappedIn : List ℕ → List ℕ
-wrappedIn a = drop 52 a
+abbrev pub wrapped_in : List ℕ → List ℕ
+wrapped_in a = drop 52 a
 
-abbrev pub keyLengthIn : List ℕ → ℕ
-keyLengthIn a = length a - 60
+abbrev pub key_length_in : List ℕ → ℕ
+key_length_in a = length a - 60
 
 -- 22: KEK not 16 bytes
 abbrev pub check22 : List ℕ → Check
 check22 kek = unless (eqb (length kek) 16) (bare 22)
 
 -- the length byte is there and counts the bytes lent, and they are 60 plus a multiple of 8 from 16 to 192
-unfoldable pub lengthHolds : List ℕ → Bool
-lengthHolds a = leb 2 (length a) && (eqb (get_or a 1 0) (length a) && wrappable (length a - 60))
+unfoldable pub length_holds : List ℕ → Bool
+length_holds a = leb 2 (length a) && (eqb (get_or a 1 0) (length a) && wrappable (length a - 60))
 
 -- 24: Key attribute of wrong length
 abbrev pub check24 : List ℕ → Check
-check24 a = unless (lengthHolds a) (bare 24)
+check24 a = unless (length_holds a) (bare 24)
 
 -- 25: reserved byte not zero
 abbrev pub check25 : List ℕ → Check
@@ -62,12 +62,12 @@ check26 a = unless (eqb (get_or a 3 0) 0) (bare 26)
 
 -- 27: IV field not eight bytes A6
 abbrev pub check27 : List ℕ → Check
-check27 a = unless (same_list (ivIn a) initialValue) (bare 27)
+check27 a = unless (same_list (iv_in a) initial_value) (bare 27)
 
 -- the tests of a lent attribute that need no KEK
-unfoldable pub frameCheck : List ℕ → Check
-frameCheck a = check24 a and_then check20 (get_or a 0 0) and_then check25 a and_then check26 a and_then check27 a
+unfoldable pub frame_check : List ℕ → Check
+frame_check a = check24 a and_then check20 (get_or a 0 0) and_then check25 a and_then check26 a and_then check27 a
 
 -- sixteen bytes of a list: its first, and zeros after them where it has fewer
-abbrev pub sixteenOf : List ℕ → List ℕ
-sixteenOf s = take 16 s ++ drop (length s) (replicate 16 0)
+abbrev pub sixteen_of : List ℕ → List ℕ
+sixteen_of s = take 16 s ++ drop (length s) (replicate 16 0)

@@ -1,9 +1,9 @@
 // The frame of the RADIUS Key attribute (source document 004, section 3.1): its fields, the tests of an attribute that need no KEK, and sixteen bytes by value,
 // as IDs and KEKs are.
 ghost use Rattle.std.specs.Prelude.{◌≡◌, ◌≤◌, length, get_or};
-ghost use Rattle.refusal.specs.Checks.{◌andThen◌, check20};
-ghost use Rattle.refusal.specs.Answers.{checkedAs};
-ghost use Rattle.key_frame.specs.KeyFrame.{lengthHolds, check25, check26, check27, frameCheck, sixteenOf};
+ghost use Rattle.refusal.specs.Checks.{◌and_then◌, check20};
+ghost use Rattle.refusal.specs.Answers.{checked_as};
+ghost use Rattle.key_frame.specs.KeyFrame.{length_holds, check25, check26, check27, frame_check, sixteen_of};
 
 use keywrap::is_wrappable;
 use refusal::{Checked, Refusal, then_check, unless};
@@ -28,7 +28,7 @@ fn count(x: u8) -> usize
 
 // Whether the length byte counts the bytes lent, and an attribute can have so many.
 fn length_holds(attribute: &[u8]) -> bool
-    ensures { result ≡ lengthHolds attribute.now }
+    ensures { result ≡ length_holds attribute.now }
 {
     let n = attribute.len();
     if n < 60 {
@@ -40,7 +40,7 @@ fn length_holds(attribute: &[u8]) -> bool
 // The tests of the bytes before the wrapped key, in their order.
 fn check_header(attribute: &[u8]) -> Checked
     requires { 52 ≤ length attribute.now }
-    ensures { checkedAs result ≡ (check20 (get_or attribute.now 0 0) and_then check25 attribute.now and_then check26 attribute.now and_then check27 attribute.now) }
+    ensures { checked_as result ≡ (check20 (get_or attribute.now 0 0) and_then check25 attribute.now and_then check26 attribute.now and_then check27 attribute.now) }
 {
     let c20 = unless(attribute[0] != 0, Refusal::AttributeType);
     let c25 = then_check(c20, unless(attribute[2] == 0, Refusal::ReservedByte));
@@ -53,7 +53,7 @@ fn check_header(attribute: &[u8]) -> Checked
 
 // The tests of an attribute that need no KEK: its length, its type, the two bytes that must be 0, and its IV.
 pub fn check_frame(attribute: &[u8]) -> Checked
-    ensures { checkedAs result ≡ frameCheck attribute.now }
+    ensures { checked_as result ≡ frame_check attribute.now }
 {
     if length_holds(attribute) {
         check_header(attribute)
@@ -64,7 +64,7 @@ pub fn check_frame(attribute: &[u8]) -> Checked
 
 // Sixteen bytes by value: the first of s, and zeros after them where s has fewer.
 pub fn sixteen(s: &[u8]) -> [u8; 16]
-    ensures { result ≡ sixteenOf s.now }
+    ensures { result ≡ sixteen_of s.now }
 {
     let mut r = [0u8; 16];
     let n = least(s.len(), 16);

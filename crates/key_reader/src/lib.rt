@@ -1,9 +1,9 @@
 // The reader of the RADIUS Key attribute (source document 004, section 3.1): it tests an attribute, unwraps the key under a KEK, and returns the fields.
 ghost use Rattle.std.specs.Prelude.{◌≡◌, ◌+◌, ◌≤◌, length};
-ghost use Rattle.refusal.specs.Answers.{Answer, answer_of, reasonOf};
-ghost use Rattle.slices.specs.Numbers.{be32At};
-ghost use Rattle.key_frame.specs.KeyFrame.{fieldsIn};
-ghost use Rattle.key_reader.specs.KeyReader.{reading, readBuffer, answer_in, noFields, fieldsRead};
+ghost use Rattle.refusal.specs.Answers.{Answer, answer_of, reason_of};
+ghost use Rattle.slices.specs.Numbers.{be32_at};
+ghost use Rattle.key_frame.specs.KeyFrame.{fields_in};
+ghost use Rattle.key_reader.specs.KeyReader.{reading, read_buffer, answer_in, no_fields, fields_read};
 
 use key_frame::{KeyFields, check_frame, sixteen};
 use refusal::{Answered, Checked, Refusal, then_check, unless};
@@ -19,7 +19,7 @@ pub struct KeyRead {
 // The number that four bytes of s hold from index `at` on, high byte first.
 fn number_at(s: &[u8], at: usize) -> u32
     requires { at + 4 ≤ length s.now }
-    ensures { result ≡ be32At s.now at }
+    ensures { result ≡ be32_at s.now at }
 {
     from_be32(s[at], s[at + 1], s[at + 2], s[at + 3])
 }
@@ -27,7 +27,7 @@ fn number_at(s: &[u8], at: usize) -> u32
 // The fields of an attribute that is long enough to hold them.
 fn fields(attribute: &[u8]) -> KeyFields
     requires { 52 ≤ length attribute.now }
-    ensures { result ≡ fieldsIn attribute.now }
+    ensures { result ≡ fields_in attribute.now }
 {
     let kek_id = sixteen(&attribute[8..24]);
     let key_id = sixteen(&attribute[24..40]);
@@ -42,7 +42,7 @@ fn fields(attribute: &[u8]) -> KeyFields
 
 // A refusal, with fields that are all zero.
 fn not_read(why: Refusal) -> KeyRead
-    ensures { (answer_of result.answer ≡ Answer.refused (reasonOf why)) × (result.fields ≡ noFields) }
+    ensures { (answer_of result.answer ≡ Answer.refused (reason_of why)) × (result.fields ≡ no_fields) }
 {
     let none = [0u8; 16];
     KeyRead {
@@ -61,8 +61,8 @@ fn not_read(why: Refusal) -> KeyRead
 // initial value.
 pub fn read(kek: &[u8], attribute: &[u8], out: &mut [u8]) -> KeyRead
     ensures answer { answer_of result.answer ≡ answer_in (reading kek.now attribute.now (length out.old)) }
-    ensures fields { result.fields ≡ fieldsRead (reading kek.now attribute.now (length out.old)) }
-    ensures buffer { out.new ≡ readBuffer kek.now attribute.now out.old }
+    ensures fields { result.fields ≡ fields_read (reading kek.now attribute.now (length out.old)) }
+    ensures buffer { out.new ≡ read_buffer kek.now attribute.now out.old }
 {
     let c22 = unless(kek.len() == 16, Refusal::KekLength);
     let check = then_check(c22, check_frame(attribute));

@@ -1,9 +1,9 @@
 // The writer of the RADIUS Key attribute (source document 004, section 3.1): a key, wrapped under a KEK, with the fields that name it.
 ghost use Rattle.std.specs.Prelude.{◌≡◌, ◌++◌, ◌+◌, ◌≤◌, length, take, drop};
-ghost use Rattle.refusal.specs.Checks.{◌andThen◌, check20};
-ghost use Rattle.refusal.specs.Answers.{checkedAs, answer_of};
+ghost use Rattle.refusal.specs.Checks.{◌and_then◌, check20};
+ghost use Rattle.refusal.specs.Answers.{checked_as, answer_of};
 ghost use Rattle.key_frame.specs.KeyFrame.{fields_of, header, check22};
-ghost use Rattle.key_writer.specs.KeyWriter.{check21, writeAnswer, writeBuffer};
+ghost use Rattle.key_writer.specs.KeyWriter.{check21, write_answer, write_buffer};
 
 use key_frame::sixteen;
 use refusal::{Answered, Checked, Refusal, then_check, unless};
@@ -40,7 +40,7 @@ fn put_header(
 
 // The writer's tests before the wrapping: the type, the two IDs, the KEK.
 fn check_named(attribute_type: u8, kek_id: &[u8], key_id: &[u8], kek: &[u8]) -> Checked
-    ensures { checkedAs result ≡ (check20 attribute_type and_then check21 kek_id.now key_id.now and_then check22 kek.now) }
+    ensures { checked_as result ≡ (check20 attribute_type and_then check21 kek_id.now key_id.now and_then check22 kek.now) }
 {
     let c20 = unless(attribute_type != 0, Refusal::AttributeType);
     let c21 = then_check(
@@ -65,8 +65,8 @@ pub fn write(
     key: &[u8],
     out: &mut [u8],
 ) -> Answered
-    ensures answer { answer_of result ≡ writeAnswer (fields_of attribute_type app_id kek_id.now key_id.now lifetime) kek.now key.now (length out.old) }
-    ensures buffer { out.new ≡ writeBuffer (fields_of attribute_type app_id kek_id.now key_id.now lifetime) kek.now key.now out.old }
+    ensures answer { answer_of result ≡ write_answer (fields_of attribute_type app_id kek_id.now key_id.now lifetime) kek.now key.now (length out.old) }
+    ensures buffer { out.new ≡ write_buffer (fields_of attribute_type app_id kek_id.now key_id.now lifetime) kek.now key.now out.old }
 {
     let check = check_named(attribute_type, kek_id, key_id, kek);
     match check {

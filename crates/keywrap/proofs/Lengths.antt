@@ -6,7 +6,7 @@ use native.Mathlib.Omega.{arith}
 use lib.Dec.{eqb}
 use lib.ListN.{length, take, drop, drop_of_length-le}
 use Rattle.refusal.specs.Checks.{pass, within}
-use Rattle.refusal.proofs.Passing.{test-passed, within_low, within-high}
+use Rattle.refusal.proofs.Passing.{test_passed, within_low, within-high}
 use Rattle.slices.proofs.Truth.{and_left}
 use Rattle.slices.proofs.Lists.{copied-front}
 use Rattle.keywrap.specs.Calls.{wrappable, check23}
@@ -14,14 +14,14 @@ use Rattle.keywrap.specs.Calls.{wrappable, check23}
 -- what a length that passes keeps to
 pub passed-high : (n : ℕ) → check23 n ≡ pass → n ≤ 192
 unfolding wrappable
-passed-high n e = within-high 16 192 n (and_left (within 16 192 n) (eqb (n % 8) 0) (test-passed _ _ e))
+passed-high n e = within-high 16 192 n (and_left (within 16 192 n) (eqb (n % 8) 0) (test_passed _ _ e))
 
 pub passed-low : (n : ℕ) → check23 n ≡ pass → 16 ≤ n
 unfolding wrappable
-passed-low n e = within_low 16 192 n (and_left (within 16 192 n) (eqb (n % 8) 0) (test-passed _ _ e))
+passed-low n e = within_low 16 192 n (and_left (within 16 192 n) (eqb (n % 8) 0) (test_passed _ _ e))
 
 -- a copy over a part as long as what is copied
-pub copied-whole : (s d : List ℕ) (r : List ℕ) → length d ≡ length s → r ≡ take (length s) s ++ drop (length s) d → r ≡ s
-copied-whole s d r e h =
+pub copied_whole : (s d : List ℕ) (r : List ℕ) → length d ≡ length s → r ≡ take (length s) s ++ drop (length s) d → r ≡ s
+copied_whole s d r e h =
     let le : length d ≤ length s = omega arith in
     copied-front s d h ∙ ap (λ (l : List ℕ). s ++ l) (drop_of_length-le d le) ∙ append-nil s

@@ -2,16 +2,16 @@
 // of the cipher's state, so that the compiler keeps each column as a word and takes no word apart between two steps.
 ghost use Rattle.std.specs.Prelude.{◌≡◌, ◌++◌, ◌+◌, ◌*◌, ◌≤◌, length};
 ghost use Rattle.fips197.specs.State.{bytes};
-ghost use Rattle.fips197.specs.Cipher.{cipher, eqInvCipher};
-ghost use Rattle.rfc3394.specs.Rfc3394.{joined, high, low, addCount, wrapPass, unwrapPass, wrapPasses, unwrapPasses, keyState};
-ghost use Rattle.keywrap_aes.specs.Internal.{passesOf};
+ghost use Rattle.fips197.specs.Cipher.{cipher, eq_inv_cipher};
+ghost use Rattle.rfc3394.specs.Rfc3394.{joined, high, low, add_count, wrap_pass, unwrap_pass, wrap_passes, unwrap_passes, key_state};
+ghost use Rattle.keywrap_aes.specs.Internal.{passes_of};
 
 use crate::step::{unwrap_step, wrap_step};
 use aes128::{expand_key, invert_keys};
 
 // The KEK as a state of the cipher.
 fn key_state(k: [u8; 16]) -> [[u8; 4]; 4]
-    ensures { result ≡ keyState k }
+    ensures { result ≡ key_state k }
 {
     [
         [k[0], k[1], k[2], k[3]],
@@ -56,7 +56,7 @@ fn put_columns(b: &mut [u8], c: [u8; 4], d: [u8; 4])
 // One step of the wrapping on the block b; the next A is returned.
 fn wrap_block(ks: &[[[u8; 4]; 4]; 11], a: [[u8; 4]; 2], b: &mut [u8], t: u8) -> [[u8; 4]; 2]
     requires { length b.old ≡ 8 }
-    ensures next { high result ≡ addCount t (high (cipher ks.now (joined (high a) b.old))) }
+    ensures next { high result ≡ add_count t (high (cipher ks.now (joined (high a) b.old))) }
     ensures part { b.new ≡ low (cipher ks.now (joined (high a) b.old)) }
 {
     let r = front(&b[..]);
@@ -68,8 +68,8 @@ fn wrap_block(ks: &[[[u8; 4]; 4]; 11], a: [[u8; 4]; 2], b: &mut [u8], t: u8) -> 
 // One step of the unwrapping on the block b; the next A is returned.
 fn unwrap_block(ks: &[[[u8; 4]; 4]; 11], a: [[u8; 4]; 2], b: &mut [u8], t: u8) -> [[u8; 4]; 2]
     requires { length b.old ≡ 8 }
-    ensures next { high result ≡ high (eqInvCipher ks.now (joined (addCount t (high a)) b.old)) }
-    ensures part { b.new ≡ low (eqInvCipher ks.now (joined (addCount t (high a)) b.old)) }
+    ensures next { high result ≡ high (eq_inv_cipher ks.now (joined (add_count t (high a)) b.old)) }
+    ensures part { b.new ≡ low (eq_inv_cipher ks.now (joined (add_count t (high a)) b.old)) }
 {
     let r = front(&b[..]);
     let s = unwrap_step(ks, [a[0], a[1], r[0], r[1]], t);
@@ -87,8 +87,8 @@ fn wrap_pass(
     c: u8,
 ) -> [[u8; 4]; 2]
     requires { (n * 8 ≤ length b.old) × (c + n ≤ 255) }
-    ensures next { high result ≡ (wrapPass (cipher ks.now) c n (high a, b.old)).0 }
-    ensures part { b.new ≡ (wrapPass (cipher ks.now) c n (high a, b.old)).1 }
+    ensures next { high result ≡ (wrap_pass (cipher ks.now) c n (high a, b.old)).0 }
+    ensures part { b.new ≡ (wrap_pass (cipher ks.now) c n (high a, b.old)).1 }
 {
     let mut x0 = a[0];
     let mut x1 = a[1];
@@ -114,8 +114,8 @@ fn unwrap_pass(
     c: u8,
 ) -> [[u8; 4]; 2]
     requires { (n * 8 ≤ length b.old) × (c + n ≤ 255) }
-    ensures next { high result ≡ (unwrapPass (eqInvCipher ks.now) c n (high a, b.old)).0 }
-    ensures part { b.new ≡ (unwrapPass (eqInvCipher ks.now) c n (high a, b.old)).1 }
+    ensures next { high result ≡ (unwrap_pass (eq_inv_cipher ks.now) c n (high a, b.old)).0 }
+    ensures part { b.new ≡ (unwrap_pass (eq_inv_cipher ks.now) c n (high a, b.old)).1 }
 {
     let mut x0 = a[0];
     let mut x1 = a[1];
@@ -135,8 +135,8 @@ fn unwrap_pass(
 // Six passes over the n blocks of b.
 fn wrap_passes(ks: &[[[u8; 4]; 4]; 11], a: [[u8; 4]; 2], b: &mut [u8], n: usize) -> [[u8; 4]; 2]
     requires { (n * 8 ≤ length b.old) × (n ≤ 24) }
-    ensures next { high result ≡ (wrapPasses (cipher ks.now) n 6 (high a, b.old)).0 }
-    ensures part { b.new ≡ (wrapPasses (cipher ks.now) n 6 (high a, b.old)).1 }
+    ensures next { high result ≡ (wrap_passes (cipher ks.now) n 6 (high a, b.old)).0 }
+    ensures part { b.new ≡ (wrap_passes (cipher ks.now) n 6 (high a, b.old)).1 }
 {
     let mut x = a;
     let mut c: u8 = 0;
@@ -153,8 +153,8 @@ fn wrap_passes(ks: &[[[u8; 4]; 4]; 11], a: [[u8; 4]; 2], b: &mut [u8], n: usize)
 // Six passes back over the n blocks of b.
 fn unwrap_passes(ks: &[[[u8; 4]; 4]; 11], a: [[u8; 4]; 2], b: &mut [u8], n: usize) -> [[u8; 4]; 2]
     requires { (n * 8 ≤ length b.old) × (n ≤ 24) }
-    ensures next { high result ≡ (unwrapPasses (eqInvCipher ks.now) n 6 (high a, b.old)).0 }
-    ensures part { b.new ≡ (unwrapPasses (eqInvCipher ks.now) n 6 (high a, b.old)).1 }
+    ensures next { high result ≡ (unwrap_passes (eq_inv_cipher ks.now) n 6 (high a, b.old)).0 }
+    ensures part { b.new ≡ (unwrap_passes (eq_inv_cipher ks.now) n 6 (high a, b.old)).1 }
 {
     let mut x = a;
     let mut c: u8 = 6 * (n as u8);
@@ -172,8 +172,8 @@ fn unwrap_passes(ks: &[[[u8; 4]; 4]; 11], a: [[u8; 4]; 2], b: &mut [u8], n: usiz
 // the round keys take their room on the stack once, and are made those of the inverse cipher in their place.
 pub(crate) fn passes(kek: [u8; 16], back: bool, a: [[u8; 4]; 2], b: &mut [u8]) -> [[u8; 4]; 2]
     requires { length b.old ≤ 192 }
-    ensures next { high result ≡ (passesOf back kek (high a, b.old)).0 }
-    ensures part { b.new ≡ (passesOf back kek (high a, b.old)).1 }
+    ensures next { high result ≡ (passes_of back kek (high a, b.old)).0 }
+    ensures part { b.new ≡ (passes_of back kek (high a, b.old)).1 }
 {
     let mut ks = [[[0u8; 4]; 4]; 11];
     expand_key(key_state(kek), &mut ks);

@@ -1,9 +1,9 @@
 // A key wrapped (RFC 3394, with AES-128 and the default initial value) under a key encryption key (KEK), with document 01's tests. A wrapped key is 8 bytes
 // longer than the key.
 ghost use Rattle.std.specs.Prelude.{◌≡◌, ◌++◌, ◌+◌, ◌≤◌, length, drop};
-ghost use Rattle.refusal.specs.Answers.{checkedAs, answer_of, answerTo, bufferAfter};
+ghost use Rattle.refusal.specs.Answers.{checked_as, answer_of, answer_to, buffer_after};
 ghost use Rattle.rfc3394.specs.Rfc3394.{wrapped};
-ghost use Rattle.keywrap.specs.Calls.{wrapCheck};
+ghost use Rattle.keywrap.specs.Calls.{wrap_check};
 
 use crate::passes::{eight_bytes, passes};
 use bytes::copy;
@@ -12,7 +12,7 @@ use refusal::{Answered, Checked, Refusal, check_room, unless};
 
 // The tests of a wrapping.
 fn check_wrap(n: usize, room: usize) -> Checked
-    ensures { checkedAs result ≡ wrapCheck n room }
+    ensures { checked_as result ≡ wrap_check n room }
 {
     let length = unless(is_wrappable(n), Refusal::KeyToWrapLength);
     match length {
@@ -34,8 +34,8 @@ fn wrap_into(kek: [u8; 16], key: &[u8], out: &mut [u8])
 
 // Wraps the key under the KEK. The wrapped key, 8 bytes longer, is written at the start of out, and its length is the answer.
 pub fn wrap(kek: [u8; 16], key: &[u8], out: &mut [u8]) -> Answered
-    ensures answer { answer_of result ≡ answerTo (wrapCheck (length key.now) (length out.old)) (length key.now + 8) }
-    ensures buffer { out.new ≡ bufferAfter (wrapCheck (length key.now) (length out.old)) (length key.now + 8) (wrapped kek key.now) out.old }
+    ensures answer { answer_of result ≡ answer_to (wrap_check (length key.now) (length out.old)) (length key.now + 8) }
+    ensures buffer { out.new ≡ buffer_after (wrap_check (length key.now) (length out.old)) (length key.now + 8) (wrapped kek key.now) out.old }
 {
     let check = check_wrap(key.len(), out.len());
     match check {

@@ -4,18 +4,18 @@ use mathlib.Core.Path.{◌≡◌, refl}
 use mathlib.Core.Bool.{Bool, true, false, not}
 use native.Mathlib.Omega.{arith}
 use Rattle.refusal.specs.Checks.{unless}
-use Rattle.refusal.proofs.Passing.{test-passed, test-holds}
+use Rattle.refusal.proofs.Passing.{test_passed, test_holds}
 use Rattle.slices.specs.Same.{same_list}
-use Rattle.slices.proofs.Same.{same-exactly}
-use Rattle.labels.specs.FixedLabels.{dsrkLabel}
+use Rattle.slices.proofs.Same.{same_exactly}
+use Rattle.labels.specs.FixedLabels.{dsrk_label}
 use Rattle.labels.specs.Checks.{check31}
 use Rattle.labels.specs.Statements.{DomainLabelAlone}
 
-pub domain-label-alone : DomainLabelAlone
+pub domain_label_alone : DomainLabelAlone
 unfolding check31 unless
-domain-label-alone label = (
-  λ e same. passed-not _ (test-passed _ _ e) ((same-exactly label dsrkLabel).1 same),
-  λ other. test-holds _ _ (apart (same_list label dsrkLabel) (λ e. other ((same-exactly label dsrkLabel).0 e))),
+domain_label_alone label = (
+  λ e same. passed-not _ (test_passed _ _ e) ((same_exactly label dsrk_label).1 same),
+  λ other. test_holds _ _ (apart (same_list label dsrk_label) (λ e. other ((same_exactly label dsrk_label).0 e))),
 )
   where
     passed-not : (b : Bool) → not b ≡ true → b ≡ true → ⊥

@@ -7,16 +7,16 @@ use Rattle.labels.specs.declared.charset.Scan.{Scan}
 use Rattle.labels.specs.declared.charset.Scan.TheVariants.{Clean, BadAt}
 
 -- a byte of a label: 32 to 126
-unfoldable pub labelByte : ℕ → Bool
-labelByte b = within 32 126 b
+unfoldable pub label_byte : ℕ → Bool
+label_byte b = within 32 126 b
 
 -- a byte of a server ID: 33 to 126
-unfoldable pub serverByte : ℕ → Bool
-serverByte b = within 33 126 b
+unfoldable pub server_byte : ℕ → Bool
+server_byte b = within 33 126 b
 
 -- a byte of a domain: a letter (ASCII A to Z and a to z), a digit, a hyphen or a dot
-unfoldable pub domainByte : ℕ → Bool
-domainByte b = within (code "A") (code "Z") b || within (code "a") (code "z") b || within (code "0") (code "9") b || eqb b (code "-") || eqb b (code ".")
+unfoldable pub domain_byte : ℕ → Bool
+domain_byte b = within (code "A") (code "Z") b || within (code "a") (code "z") b || within (code "0") (code "9") b || eqb b (code "-") || eqb b (code ".")
 
 -- every element passes the test
 unfoldable pub every : (ℕ → Bool) → List ℕ → Bool
@@ -24,10 +24,10 @@ every p [] = true
 every p (x ∷ xs) = p x && every p xs
 
 -- the position of the first element that fails the test, where the list's first element has position i
-unfoldable pub scanFrom : (ℕ → Bool) → ℕ → List ℕ → Scan
-scanFrom p i [] = Clean
-scanFrom p i (x ∷ xs) = cond (p x) (scanFrom p (suc i) xs) (BadAt i)
+unfoldable pub scan_from : (ℕ → Bool) → ℕ → List ℕ → Scan
+scan_from p i [] = Clean
+scan_from p i (x ∷ xs) = cond (p x) (scan_from p (suc i) xs) (BadAt i)
 
 -- the position of the first element that fails the test, counted from 0
-abbrev pub firstBad : (ℕ → Bool) → List ℕ → Scan
-firstBad p xs = scanFrom p 0 xs
+abbrev pub first_bad : (ℕ → Bool) → List ℕ → Scan
+first_bad p xs = scan_from p 0 xs

@@ -8,23 +8,23 @@ count b [] = 0
 count b (x ∷ s) = cond (eqb x b) (suc (count b s)) (count b s)
 
 -- the breaches: a space; a comma; over 64 bytes where there is no at-sign; a second at-sign; one standing first or last
-abbrev pub hasSpace : List ℕ → Bool
-hasSpace label = leb 1 (count (code " ") label)
+abbrev pub has_space : List ℕ → Bool
+has_space label = leb 1 (count (code " ") label)
 
-abbrev pub hasComma : List ℕ → Bool
-hasComma label = leb 1 (count (code ",") label)
+abbrev pub has_comma : List ℕ → Bool
+has_comma label = leb 1 (count (code ",") label)
 
-abbrev pub longWithoutAt : List ℕ → Bool
-longWithoutAt label = leb 65 (length label) && eqb (count (code "@") label) 0
+abbrev pub is_long_without_at : List ℕ → Bool
+is_long_without_at label = leb 65 (length label) && eqb (count (code "@") label) 0
 
-abbrev pub secondAt : List ℕ → Bool
-secondAt label = leb 2 (count (code "@") label)
+abbrev pub has_second_at : List ℕ → Bool
+has_second_at label = leb 2 (count (code "@") label)
 
-abbrev pub atFirst : List ℕ → Bool
-atFirst label = eqb (get_or label 0 0) (code "@")
+abbrev pub has_at_first : List ℕ → Bool
+has_at_first label = eqb (get_or label 0 0) (code "@")
 
-abbrev pub atLast : List ℕ → Bool
-atLast label = eqb (get_or label (length label - 1) 0) (code "@")
+abbrev pub has_at_last : List ℕ → Bool
+has_at_last label = eqb (get_or label (length label - 1) 0) (code "@")
 
 unfoldable pub breaches : List ℕ → Bool
-breaches label = hasSpace label || hasComma label || longWithoutAt label || secondAt label || atFirst label || atLast label
+breaches label = has_space label || has_comma label || is_long_without_at label || has_second_at label || has_at_first label || has_at_last label

@@ -1,8 +1,8 @@
 // Which bytes a label, a server ID and a domain may hold, the position of the first byte that a text may not hold, and a text's form: its
 // length and its bytes together (document 01, "Refusal numbers", 2, 3, 7 and 8).
 ghost use Rattle.std.specs.Prelude.{◌≡◌};
-ghost use Rattle.labels.specs.Bytes.{domainByte, firstBad};
-ghost use Rattle.labels.specs.Internal.{byteIn, form_of};
+ghost use Rattle.labels.specs.Bytes.{domain_byte, first_bad};
+ghost use Rattle.labels.specs.Internal.{byte_in, form_of};
 ghost use Rattle.refusal.specs.Checks.{within};
 
 use refusal::in_range;
@@ -39,7 +39,7 @@ fn between(lo: u8, hi: u8, b: u8) -> bool
 
 // Whether a byte is a letter, a digit, a hyphen or a dot.
 fn domain_byte(b: u8) -> bool
-    ensures { result ≡ domainByte b }
+    ensures { result ≡ domain_byte b }
 {
     let letter = between(b'A', b'Z', b) | between(b'a', b'z', b);
     letter | between(b'0', b'9', b) | (b == b'-') | (b == b'.')
@@ -47,7 +47,7 @@ fn domain_byte(b: u8) -> bool
 
 // Whether a byte is one of the set.
 fn allowed(set: ByteSet, b: u8) -> bool
-    ensures { result ≡ byteIn set b }
+    ensures { result ≡ byte_in set b }
 {
     match set {
         ByteSet::Label => between(32, 126, b),
@@ -58,7 +58,7 @@ fn allowed(set: ByteSet, b: u8) -> bool
 
 // Finds the first byte that is not in the set.
 fn first_bad(s: &[u8], set: ByteSet) -> Scan
-    ensures { result ≡ firstBad (byteIn set) s.now }
+    ensures { result ≡ first_bad (byte_in set) s.now }
 {
     let mut i = 0;
     while i < s.len() {
@@ -72,7 +72,7 @@ fn first_bad(s: &[u8], set: ByteSet) -> Scan
 
 // The form of a text that should have 1 to `longest` bytes of the set. A text of another length is not scanned.
 pub(crate) fn form_of(s: &[u8], set: ByteSet, longest: usize) -> Form
-    ensures { result ≡ form_of (byteIn set) longest s.now }
+    ensures { result ≡ form_of (byte_in set) longest s.now }
 {
     if !in_range(1, longest, s.len()) {
         return Form::WrongLength;

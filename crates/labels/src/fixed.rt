@@ -3,7 +3,7 @@
 ghost use Rattle.std.specs.Prelude.{◌≡◌};
 ghost use Rattle.labels.specs.Checks.{check31};
 ghost use Rattle.labels.specs.FixedLabels.{exempt};
-ghost use Rattle.refusal.specs.Answers.{checkedAs};
+ghost use Rattle.refusal.specs.Answers.{checked_as};
 
 use refusal::{Checked, Refusal};
 
@@ -19,7 +19,7 @@ pub(crate) fn is_exempt(label: &[u8]) -> bool
 
 // Refuses the label of a domain root key, which no usage request may have: 31.
 pub fn check_domain_label(label: &[u8]) -> Checked
-    ensures { checkedAs result ≡ check31 label.now }
+    ensures { checked_as result ≡ check31 label.now }
 {
     let same = slices::same_bytes(label, b"dsrk@ietf.org");
     refusal::unless(!same, Refusal::DomainLabel)

@@ -8,16 +8,16 @@ use mathlib.Core.List.{List}
 use lib.ListN.{take}
 use Rattle.refusal.specs.Checks.{Reason}
 use Rattle.refusal.specs.Answers.{Answer, returned}
-use Rattle.offer_rules.specs.Answers.{ask, firstRound, serverAnswer, serverBuffer, RenewedAnswer, renewedAnswer}
-use Rattle.offer_rules.specs.Negotiation.{afterFirst, bufferAfterFirst, negotiated, negotiatedBuffer}
-use Rattle.offers.specs.Answers.{firstRoundOf}
+use Rattle.offer_rules.specs.Answers.{ask, first_round, server_answer, server_buffer, RenewedAnswer, renewed_answer}
+use Rattle.offer_rules.specs.Negotiation.{after_first, buffer_after_first, negotiated, negotiated_buffer}
+use Rattle.offers.specs.Answers.{first_round_of}
 use Rattle.offers.specs.declared.peer.FirstRound.{FirstRound}
 use Rattle.offers.specs.declared.peer.FirstRound.TheVariants.{CarryOn, Ask, Refused}
 use Rattle.offers.specs.contracts.peer.FirstRound.{the_type}
-use Rattle.offer_exchange.specs.Internal.{valueNamed}
+use Rattle.offer_exchange.specs.Internal.{value_named}
 
 -- an answer that is not an Ask ends the negotiation, and nothing is written
-pub unasked : (first : FirstRound) → (tag_of the_type first ≡ 0) ⊎ (tag_of the_type first ≡ 2) → (offers buffer : List ℕ) → (valueNamed (firstRoundOf first) ≡ afterFirst offers buffer (firstRoundOf first)) × (buffer ≡ bufferAfterFirst offers buffer (firstRoundOf first))
+pub unasked : (first : FirstRound) → (tag_of the_type first ≡ 0) ⊎ (tag_of the_type first ≡ 2) → (offers buffer : List ℕ) → (value_named (first_round_of first) ≡ after_first offers buffer (first_round_of first)) × (buffer ≡ buffer_after_first offers buffer (first_round_of first))
 unasked (CarryOn value) h offers buffer = (refl, refl)
 unasked (Ask value position) h offers buffer =
     let none : ⊥ = ⊎_elim (λ e. omega arith) (λ e. omega arith) h in
@@ -25,11 +25,11 @@ unasked (Ask value position) h offers buffer =
 unasked (Refused x) h offers buffer = (refl, refl)
 
 -- after an Ask, where the server refuses, and where it has written
-module _ (offers supported buffer sent : List ℕ) (value position : ℕ) (asks : firstRound offers supported ≡ ask value position) (left : sent ≡ serverBuffer offers value buffer) where
-  pub server-refused : {x : Reason} → serverAnswer offers value buffer ≡ Answer.refused x → (RenewedAnswer.refused x ≡ negotiated offers supported buffer) × (sent ≡ negotiatedBuffer offers supported buffer)
-  unfolding negotiated negotiatedBuffer
+module _ (offers supported buffer sent : List ℕ) (value position : ℕ) (asks : first_round offers supported ≡ ask value position) (left : sent ≡ server_buffer offers value buffer) where
+  pub server-refused : {x : Reason} → server_answer offers value buffer ≡ Answer.refused x → (RenewedAnswer.refused x ≡ negotiated offers supported buffer) × (sent ≡ negotiated_buffer offers supported buffer)
+  unfolding negotiated negotiated_buffer
   server-refused e = (rw (asks, e), rw asks left)
 
-  pub server-wrote : {count : ℕ} → serverAnswer offers value buffer ≡ returned count → (renewedAnswer offers value (take count sent) ≡ negotiated offers supported buffer) × (sent ≡ negotiatedBuffer offers supported buffer)
-  unfolding negotiated negotiatedBuffer
+  pub server-wrote : {count : ℕ} → server_answer offers value buffer ≡ returned count → (renewed_answer offers value (take count sent) ≡ negotiated offers supported buffer) × (sent ≡ negotiated_buffer offers supported buffer)
+  unfolding negotiated negotiated_buffer
   server-wrote e = (rw (asks, e, left), rw asks left)

@@ -1,8 +1,8 @@
 -- What only the contracts of private functions need. Nothing here has to be believed.
-use Rattle.offer_rules.specs.Answers.{FirstAnswer, carryOn, ask, RenewedAnswer, accepted}
+use Rattle.offer_rules.specs.Answers.{FirstAnswer, carry_on, ask, RenewedAnswer, accepted}
 
 -- the value that a first round's answer names, or its refusal
-abbrev pub valueNamed : FirstAnswer → RenewedAnswer
-valueNamed (carryOn value) = accepted value
-valueNamed (ask value position) = accepted value
-valueNamed (FirstAnswer.refused x) = RenewedAnswer.refused x
+abbrev pub value_named : FirstAnswer → RenewedAnswer
+value_named (carry_on value) = accepted value
+value_named (ask value position) = accepted value
+value_named (FirstAnswer.refused x) = RenewedAnswer.refused x

@@ -1,15 +1,15 @@
 // A whole negotiation of the key derivation function between a peer and a server in which each gets what the other sent (RFC 5448 section 3.2).
 ghost use Rattle.std.specs.Prelude.{◌≡◌};
-ghost use Rattle.offer_rules.specs.Negotiation.{negotiated, negotiatedBuffer};
-ghost use Rattle.offers.specs.Answers.{firstRoundOf, renewedOf};
-ghost use Rattle.offer_exchange.specs.Internal.{valueNamed};
+ghost use Rattle.offer_rules.specs.Negotiation.{negotiated, negotiated_buffer};
+ghost use Rattle.offers.specs.Answers.{first_round_of, renewed_of};
+ghost use Rattle.offer_exchange.specs.Internal.{value_named};
 
 use offers::{FirstRound, Renewed};
 use refusal::Answered;
 
 // The value that a first round's answer names, or its refusal.
 fn value_named(first: FirstRound) -> Renewed
-    ensures { renewedOf result ≡ valueNamed (firstRoundOf first) }
+    ensures { renewed_of result ≡ value_named (first_round_of first) }
 {
     match first {
         FirstRound::CarryOn(value) => Renewed::Accepted(value),
@@ -20,8 +20,8 @@ fn value_named(first: FirstRound) -> Renewed
 
 // After Carry On and after a refusal the first round's answer stands. After an Ask the server writes the renewed list, and the peer checks it.
 pub fn negotiate(offered: &[u16], supported: &[u16], renewed: &mut [u16]) -> Renewed
-    ensures answer { renewedOf result ≡ negotiated offered.now supported.now renewed.old }
-    ensures buffer { renewed.new ≡ negotiatedBuffer offered.now supported.now renewed.old }
+    ensures answer { renewed_of result ≡ negotiated offered.now supported.now renewed.old }
+    ensures buffer { renewed.new ≡ negotiated_buffer offered.now supported.now renewed.old }
 {
     let first = offers::choose(offered, supported);
     let FirstRound::Ask(value, _) = first else {

@@ -5,33 +5,33 @@ use mathlib.Core.List.{List}
 use native.Mathlib.Omega.{arith}
 use borrow.Author.Tests.{leb-true}
 use lib.ListN.{length, get_or}
-use Rattle.refusal.specs.Checks.{Reason, pass, refuse, ◌andThen◌}
+use Rattle.refusal.specs.Checks.{Reason, pass, refuse, ◌and_then◌}
 use Rattle.refusal.specs.Answers.{returned}
-use Rattle.refusal.proofs.Passing.{first-refuses, second-decides, last-passed, test-passed}
-use Rattle.offer_rules.specs.Rfc5448.{firstSupported, check10, check11, check12, chooseCheck, answerCheck}
-use Rattle.offer_rules.specs.Answers.{FirstAnswer, carryOn, ask, firstRoundAt, firstRoundTo, firstRound, serverAnswer}
-use Rattle.offer_rules.proofs.Accepted.{answer-passed}
+use Rattle.refusal.proofs.Passing.{first_refuses, second_decides, last-passed, test_passed}
+use Rattle.offer_rules.specs.Rfc5448.{first_supported, check10, check11, check12, choose_check, answer_check}
+use Rattle.offer_rules.specs.Answers.{FirstAnswer, carry_on, ask, first_round_at, first_round_to, first_round, server_answer}
+use Rattle.offer_rules.proofs.Accepted.{answer_passed}
 
-pub at_first : (offers : List ℕ) (i : ℕ) → i ≡ 0 → carryOn (get_or offers i 0) ≡ firstRoundAt offers i
+pub at_first : (offers : List ℕ) (i : ℕ) → i ≡ 0 → carry_on (get_or offers i 0) ≡ first_round_at offers i
 at_first offers i e = rw e
 
-pub at-later : (offers : List ℕ) (i : ℕ) → (i ≡ 0 → ⊥) → ask (get_or offers i 0) i ≡ firstRoundAt offers i
-at-later offers zero ne = elim (ne refl) [ ]
-at-later offers (suc i) ne = refl
+pub at_later : (offers : List ℕ) (i : ℕ) → (i ≡ 0 → ⊥) → ask (get_or offers i 0) i ≡ first_round_at offers i
+at_later offers zero ne = elim (ne refl) [ ]
+at_later offers (suc i) ne = refl
 
 module _ (offers supported : List ℕ) where
-  pub list-refused : {x : Reason} → (check10 offers and_then check11 offers) ≡ refuse x → FirstAnswer.refused x ≡ firstRound offers supported
-  unfolding firstRound chooseCheck
-  list-refused e = rw (← first-refuses _ (check12 offers supported) e)
+  pub list-refused : {x : Reason} → (check10 offers and_then check11 offers) ≡ refuse x → FirstAnswer.refused x ≡ first_round offers supported
+  unfolding first_round choose_check
+  list-refused e = rw (← first_refuses _ (check12 offers supported) e)
 
-  pub list-passed : (check10 offers and_then check11 offers) ≡ pass → firstRoundTo (check12 offers supported) offers (firstSupported offers supported) ≡ firstRound offers supported
-  unfolding firstRound chooseCheck
-  list-passed e = rw (← second-decides _ (check12 offers supported) e)
+  pub list-passed : (check10 offers and_then check11 offers) ≡ pass → first_round_to (check12 offers supported) offers (first_supported offers supported) ≡ first_round offers supported
+  unfolding first_round choose_check
+  list-passed e = rw (← second_decides _ (check12 offers supported) e)
 
 -- the server writes no more than fits
-pub wrote-fits : (offers buffer : List ℕ) (value count : ℕ) → serverAnswer offers value buffer ≡ returned count → count ≤ length buffer
-unfolding serverAnswer answerCheck
-wrote-fits offers buffer value count e =
-    let p = answer-passed (answerCheck offers value (length buffer)) (length offers + 1) e in
-    let room = leb-true (length offers + 1) (length buffer) (test-passed _ _ (last-passed _ _ p.0)) in
+pub wrote_fits : (offers buffer : List ℕ) (value count : ℕ) → server_answer offers value buffer ≡ returned count → count ≤ length buffer
+unfolding server_answer answer_check
+wrote_fits offers buffer value count e =
+    let p = answer_passed (answer_check offers value (length buffer)) (length offers + 1) e in
+    let room = leb-true (length offers + 1) (length buffer) (test_passed _ _ (last-passed _ _ p.0)) in
     omega arith

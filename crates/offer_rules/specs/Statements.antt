@@ -1,26 +1,26 @@
 -- What is proved of the definitions: that they say what RFC 5448 section 3.2 and document 01, "Offers", say in words, and what a login may rely on
 -- (document 02, request 14: OffersKept, OffersAgreed). The proofs are in proofs/OffersKept.antt and proofs/Statements.antt.
 use Rattle.std.specs.Prelude.{ℕ, ◌+◌, ◌≤◌, ◌<◌, ◌≡◌, true, false, ◌↔◌, List, ◌∷◌, length, get_or, take}
-use Rattle.refusal.specs.Checks.{pass, ◌andThen◌}
+use Rattle.refusal.specs.Checks.{pass, ◌and_then◌}
 use Rattle.refusal.specs.Answers.{returned}
-use Rattle.offer_rules.specs.Rfc5448.{stands, repeats, firstSupported, check13, check14}
-use Rattle.offer_rules.specs.Answers.{ask, firstRound, serverAnswer, serverBuffer, accepted, renewedAnswer}
+use Rattle.offer_rules.specs.Rfc5448.{stands, repeats, first_supported, check13, check14}
+use Rattle.offer_rules.specs.Answers.{ask, first_round, server_answer, server_buffer, accepted, renewed_answer}
 use Rattle.offer_rules.specs.Negotiation.{negotiated}
 
 -- the position of the first supported offer: at it, where it is one of the list, stands a supported offer, and at each before it one that is not
 abbrev pub FirstIsFirst : Type 0
 FirstIsFirst =
     (offers supported : List ℕ)
-    → (firstSupported offers supported < length offers → stands (get_or offers (firstSupported offers supported) 0) supported ≡ true)
-    × (firstSupported offers supported ≤ length offers)
-    × ((j : ℕ) → j < firstSupported offers supported → stands (get_or offers j 0) supported ≡ false)
+    → (first_supported offers supported < length offers → stands (get_or offers (first_supported offers supported) 0) supported ≡ true)
+    × (first_supported offers supported ≤ length offers)
+    × ((j : ℕ) → j < first_supported offers supported → stands (get_or offers j 0) supported ≡ false)
 
 -- of the supported list only which values stand in it counts: neither its order, nor its length, nor a value that it repeats
 abbrev pub SupportedAsSet : Type 0
 SupportedAsSet =
     (offers supported₁ supported₂ : List ℕ)
     → ((value : ℕ) → stands value supported₁ ≡ stands value supported₂)
-    → firstRound offers supported₁ ≡ firstRound offers supported₂
+    → first_round offers supported₁ ≡ first_round offers supported₂
 
 -- of a list without repeats, 13 and 14 pass exactly the offers after the first
 abbrev pub ReplyAfterFirst : Type 0
@@ -33,7 +33,7 @@ ReplyAfterFirst =
 abbrev pub UnalteredAccepted : Type 0
 UnalteredAccepted =
     (offers supported : List ℕ) (value position : ℕ) (buffer : List ℕ)
-    → firstRound offers supported ≡ ask value position
+    → first_round offers supported ≡ ask value position
     → length offers + 1 ≤ length buffer
     → negotiated offers supported buffer ≡ accepted value
 
@@ -52,9 +52,9 @@ FirstOffer offers supported value =
 abbrev pub OffersKept : Type 0
 OffersKept =
     (seen offers supported buffer : List ℕ) (choice position reply count held : ℕ)
-    → firstRound seen supported ≡ ask choice position
-    → serverAnswer offers reply buffer ≡ returned count
-    → renewedAnswer seen choice (take count (serverBuffer offers reply buffer)) ≡ accepted held
+    → first_round seen supported ≡ ask choice position
+    → server_answer offers reply buffer ≡ returned count
+    → renewed_answer seen choice (take count (server_buffer offers reply buffer)) ≡ accepted held
     → (seen ≡ offers) × (reply ≡ choice) × (held ≡ reply) × FirstOffer offers supported held
 
 -- Document 02, request 14. With nothing altered on the way, the server accepts what the peer asked for, and the peer what the server wrote. The
@@ -62,8 +62,8 @@ OffersKept =
 abbrev pub OffersAgreed : Type 0
 OffersAgreed =
     (offers supported buffer : List ℕ) (choice position : ℕ)
-    → firstRound offers supported ≡ ask choice position
+    → first_round offers supported ≡ ask choice position
     → 17 ≤ length buffer
     → (count : ℕ)
-    × (serverAnswer offers choice buffer ≡ returned count)
-    × (renewedAnswer offers choice (take count (serverBuffer offers choice buffer)) ≡ accepted choice)
+    × (server_answer offers choice buffer ≡ returned count)
+    × (renewed_answer offers choice (take count (server_buffer offers choice buffer)) ≡ accepted choice)

@@ -1,9 +1,9 @@
 // The tests that several calls on offers make: 10, 11, 13 and 14 (RFC 5448 section 3.2; document 01, "Offers"). A list of offers is in the server's order of preference.
 // Lists of any length may be lent, and none is copied. Every test after 10 goes through the list, so it is made only on a list that 10 passes.
 ghost use Rattle.std.specs.Prelude.{◌≡◌, ◌≤◌, length};
-ghost use Rattle.refusal.specs.Checks.{◌andThen◌};
-ghost use Rattle.refusal.specs.Answers.{checkedAs};
-ghost use Rattle.offer_rules.specs.Rfc5448.{stands, repeats, isFirst, check10, check11, check13, check14};
+ghost use Rattle.refusal.specs.Checks.{◌and_then◌};
+ghost use Rattle.refusal.specs.Answers.{checked_as};
+ghost use Rattle.offer_rules.specs.Rfc5448.{stands, repeats, is_first, check10, check11, check13, check14};
 
 use refusal::{Checked, Refusal, in_range, then_check, unless};
 
@@ -39,14 +39,14 @@ fn repeated(list: &[u16]) -> bool
 // Whether the value is the first of the list.
 fn is_first(value: u16, list: &[u16]) -> bool
     requires { 1 ≤ length list.now }
-    ensures { result ≡ isFirst value list.now }
+    ensures { result ≡ is_first value list.now }
 {
     list[0] == value
 }
 
 // The tests of every list of offers: 10, then 11 where 10 passes.
 pub(crate) fn check_offers(offers: &[u16]) -> Checked
-    ensures { checkedAs result ≡ (check10 offers.now and_then check11 offers.now) }
+    ensures { checked_as result ≡ (check10 offers.now and_then check11 offers.now) }
 {
     match unless(in_range(1, 16, offers.len()), Refusal::OfferCount) {
         Checked::Failed(why) => Checked::Failed(why),
@@ -56,7 +56,7 @@ pub(crate) fn check_offers(offers: &[u16]) -> Checked
 
 // The tests of a list of offers and the reply to it, which the server and the peer on the renewed list share: 10, 11, 13, 14.
 pub(crate) fn check_reply(offers: &[u16], reply: u16) -> Checked
-    ensures { checkedAs result ≡ (check10 offers.now and_then check11 offers.now and_then check13 offers.now reply and_then check14 offers.now reply) }
+    ensures { checked_as result ≡ (check10 offers.now and_then check11 offers.now and_then check13 offers.now reply and_then check14 offers.now reply) }
 {
     match check_offers(offers) {
         Checked::Failed(why) => Checked::Failed(why),

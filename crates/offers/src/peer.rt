@@ -4,9 +4,9 @@ ghost use Rattle.std.specs.Prelude.{◌≡◌, ltb, length};
 ghost use Rattle.refusal.specs.Checks.{bare};
 ghost use Rattle.refusal.specs.Checks;
 ghost use Rattle.slices.specs.Same.{same_list};
-ghost use Rattle.offer_rules.specs.Rfc5448.{firstSupported, renewedList};
-ghost use Rattle.offer_rules.specs.Answers.{firstRoundTo, firstRound, renewedAnswer};
-ghost use Rattle.offers.specs.Answers.{firstRoundOf, renewedOf};
+ghost use Rattle.offer_rules.specs.Rfc5448.{first_supported, renewed_list};
+ghost use Rattle.offer_rules.specs.Answers.{first_round_to, first_round, renewed_answer};
+ghost use Rattle.offers.specs.Answers.{first_round_of, renewed_of};
 
 use crate::checks::{check_offers, check_reply, contains};
 use refusal::{Checked, Refusal};
@@ -30,7 +30,7 @@ pub enum Renewed {
 
 // The position of the first offer that stands in the supported list; the count of the offers where none does.
 fn first_supported(offers: &[u16], supported: &[u16]) -> usize
-    ensures { result ≡ firstSupported offers.now supported.now }
+    ensures { result ≡ first_supported offers.now supported.now }
 {
     let mut i = 0;
     while i < offers.len() {
@@ -44,7 +44,7 @@ fn first_supported(offers: &[u16], supported: &[u16]) -> usize
 
 // The first round's answer by the position of the first supported offer: 12 where there is none.
 fn first_round_at(offers: &[u16], position: usize) -> FirstRound
-    ensures { firstRoundOf result ≡ firstRoundTo (Checks.unless (ltb position (length offers.now)) (bare 12)) offers.now position }
+    ensures { first_round_of result ≡ first_round_to (Checks.unless (ltb position (length offers.now)) (bare 12)) offers.now position }
 {
     if offers.len() <= position {
         return FirstRound::Refused(Refusal::NoOfferSupported);
@@ -59,7 +59,7 @@ fn first_round_at(offers: &[u16], position: usize) -> FirstRound
 
 // The peer's first round: the first offer, in the server's order, that stands in the supported list. Order 10, 11, 12.
 pub fn choose(offers: &[u16], supported: &[u16]) -> FirstRound
-    ensures { firstRoundOf result ≡ firstRound offers.now supported.now }
+    ensures { first_round_of result ≡ first_round offers.now supported.now }
 {
     match check_offers(offers) {
         Checked::Failed(why) => FirstRound::Refused(why),
@@ -69,7 +69,7 @@ pub fn choose(offers: &[u16], supported: &[u16]) -> FirstRound
 
 // Whether the renewed list is the choice followed by the original.
 fn is_renewal(original: &[u16], choice: u16, renewed: &[u16]) -> bool
-    ensures { result ≡ same_list renewed.now (renewedList original.now choice) }
+    ensures { result ≡ same_list renewed.now (renewed_list original.now choice) }
 {
     if renewed.len() == 0 {
         return false;
@@ -82,7 +82,7 @@ fn is_renewal(original: &[u16], choice: u16, renewed: &[u16]) -> bool
 
 // The peer, on the renewed list: accepts its choice where the list is the choice followed by the original. Order 10, 11, 13, 14, 15.
 pub fn recheck(original: &[u16], choice: u16, renewed: &[u16]) -> Renewed
-    ensures { renewedOf result ≡ renewedAnswer original.now choice renewed.now }
+    ensures { renewed_of result ≡ renewed_answer original.now choice renewed.now }
 {
     match check_reply(original, choice) {
         Checked::Failed(why) => Renewed::Refused(why),

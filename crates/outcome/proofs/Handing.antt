@@ -2,9 +2,9 @@
 use mathlib.Core.Path.{◌≡◌, ap, ◌∙◌}
 use Rattle.refusal.specs.Answers.{Answer, answer_of}
 use Rattle.refusal.specs.declared.Answered.{Answered}
-use Rattle.outcome.specs.Outcomes.{outcomeOf}
+use Rattle.outcome.specs.Outcomes.{outcome_of}
 use Rattle.outcome.specs.declared.Outcome.{Outcome}
 
 -- the outcome of an answer that equals a definition is the outcome of that definition
-pub handed : {r : Outcome} (w : Answered) {a : Answer} → r ≡ outcomeOf (answer_of w) → answer_of w ≡ a → r ≡ outcomeOf a
-handed w e h = e ∙ ap outcomeOf h
+pub handed : {r : Outcome} (w : Answered) {a : Answer} → r ≡ outcome_of (answer_of w) → answer_of w ≡ a → r ≡ outcome_of a
+handed w e h = e ∙ ap outcome_of h

@@ -10,6 +10,6 @@ number_of (returned n) = 0
 number_of (refused x) = number_in x
 
 -- kv_comparison: the number, and the counts, which are zeros on a refusal
-abbrev pub comparisonOutcome : Answer → Tally → Comparison
-comparisonOutcome answer counts =
-    record { refusal = number_of answer; only_first = counts.onlyFirst; changed = counts.changed; only_second = counts.onlySecond }
+abbrev pub comparison_outcome : Answer → Tally → Comparison
+comparison_outcome answer counts =
+    record { refusal = number_of answer; only_first = counts.only_first; changed = counts.changed; only_second = counts.only_second }

@@ -6,19 +6,19 @@ pub use Rattle.refusal.specs.Answers.{number_in, place_in}
 use Rattle.outcome.specs.declared.Outcome.{Outcome}
 
 -- a refusal: its number, and its place or 0
-abbrev pub refusedOutcome : Reason → Outcome
-refusedOutcome x = record { refusal = number_in x; value = place_in x }
+abbrev pub refused_outcome : Reason → Outcome
+refused_outcome x = record { refusal = number_in x; value = place_in x }
 
 -- acceptance: 0 and what the call answers
-abbrev pub acceptedOutcome : ℕ → Outcome
-acceptedOutcome n = record { refusal = 0; value = n }
+abbrev pub accepted_outcome : ℕ → Outcome
+accepted_outcome n = record { refusal = 0; value = n }
 
 -- the answer of a call
-abbrev pub outcomeOf : Answer → Outcome
-outcomeOf (returned n) = acceptedOutcome n
-outcomeOf (refused x) = refusedOutcome x
+abbrev pub outcome_of : Answer → Outcome
+outcome_of (returned n) = accepted_outcome n
+outcome_of (refused x) = refused_outcome x
 
 -- the answer of a call that only tests: 0 where all tests pass
-abbrev pub checkOutcome : Check → Outcome
-checkOutcome pass = acceptedOutcome 0
-checkOutcome (refuse x) = refusedOutcome x
+abbrev pub check_outcome : Check → Outcome
+check_outcome pass = accepted_outcome 0
+check_outcome (refuse x) = refused_outcome x

@@ -7,9 +7,9 @@ use Rattle.slot_rules.specs.declared.Parent.TheVariants.{Root, Below}
 use Rattle.outcome.specs.declared.slot_tables.SlotsOutcome.{SlotsOutcome}
 
 -- a parent's number; KV_NO_PARENT, 2^64 - 1, is none
-abbrev pub parentFor : ℕ → Parent
-parentFor n = cond (eqb n (2 ^ 64 - 1)) Root (Below n)
+abbrev pub parent_for : ℕ → Parent
+parent_for n = cond (eqb n (2 ^ 64 - 1)) Root (Below n)
 
 -- the answer, and the slots after the call
-abbrev pub slotsOutcome : Outcome → Slots → SlotsOutcome
-slotsOutcome answer s = record { refusal = answer.refusal; value = answer.value; slots = s }
+abbrev pub slots_outcome : Outcome → Slots → SlotsOutcome
+slots_outcome answer s = record { refusal = answer.refusal; value = answer.value; slots = s }

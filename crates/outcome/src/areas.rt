@@ -1,8 +1,8 @@
 // What the calls that read an attribute area return to C.
 ghost use Rattle.std.specs.Prelude.{◌≡◌};
-ghost use Rattle.area.specs.Area.{areaAnswerOf};
-ghost use Rattle.outcome.specs.Areas.{flagOf, areaOutcome};
-ghost use Rattle.outcome.specs.Internal.{countLow};
+ghost use Rattle.area.specs.Area.{area_answer_of};
+ghost use Rattle.outcome.specs.Areas.{flag_of, area_outcome};
+ghost use Rattle.outcome.specs.Internal.{count_low};
 
 use area::AreaRead;
 
@@ -21,14 +21,14 @@ pub struct AreaOutcome {
 
 // A truth value, for C.
 fn flag(b: bool) -> u32
-    ensures { result ≡ flagOf b }
+    ensures { result ≡ flag_of b }
 {
     if b { 1 } else { 0 }
 }
 
 // What reading an area answers, for C. An area has at most 17 offers, so the low bits are all of their count.
 pub fn returned(answer: AreaRead) -> AreaOutcome
-    ensures { result ≡ areaOutcome (countLow (areaAnswerOf answer)) }
+    ensures { result ≡ area_outcome (count_low (area_answer_of answer)) }
 {
     match answer {
         AreaRead::Read(found) => AreaOutcome {

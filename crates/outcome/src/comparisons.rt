@@ -1,7 +1,7 @@
 // What the call that compares two bundles returns to C.
 ghost use Rattle.std.specs.Prelude.{◌≡◌};
-ghost use Rattle.bundle_compare.specs.Answers.{answer_in, countsIn};
-ghost use Rattle.outcome.specs.Comparisons.{comparisonOutcome};
+ghost use Rattle.bundle_compare.specs.Answers.{answer_in, counts_in};
+ghost use Rattle.outcome.specs.Comparisons.{comparison_outcome};
 
 use bundle_compare::Compared;
 
@@ -17,7 +17,7 @@ pub struct Comparison {
 
 // What a comparison answers, for C.
 pub fn returned(answer: Compared) -> Comparison
-    ensures { result ≡ comparisonOutcome (answer_in answer) (countsIn answer) }
+    ensures { result ≡ comparison_outcome (answer_in answer) (counts_in answer) }
 {
     match answer {
         Compared::Listed(counts) => Comparison {

@@ -1,8 +1,8 @@
 // What the call that reads a Key attribute returns to C.
 ghost use Rattle.std.specs.Prelude.{◌≡◌};
 ghost use Rattle.refusal.specs.Answers.{answer_of};
-ghost use Rattle.outcome.specs.KeyAttributes.{keyTold};
-ghost use Rattle.outcome.specs.Internal.{keyReturned};
+ghost use Rattle.outcome.specs.KeyAttributes.{key_told};
+ghost use Rattle.outcome.specs.Internal.{key_returned};
 
 use key_frame::KeyFields;
 use key_reader::KeyRead;
@@ -23,7 +23,7 @@ pub struct KeyAttributeOutcome {
 
 // A refusal's number or 0, a key's length and the fields, for C.
 fn told(refusal: u32, key_len: u32, fields: KeyFields) -> KeyAttributeOutcome
-    ensures { result ≡ keyTold refusal key_len fields }
+    ensures { result ≡ key_told refusal key_len fields }
 {
     let kek_id = fields.kek_id;
     let key_id = fields.key_id;
@@ -40,7 +40,7 @@ fn told(refusal: u32, key_len: u32, fields: KeyFields) -> KeyAttributeOutcome
 
 // What reading a Key attribute answers, for C. A key has at most 192 bytes, so the low bits are all of its length.
 pub fn returned(read: KeyRead) -> KeyAttributeOutcome
-    ensures { result ≡ keyReturned (answer_of read.answer) read.fields }
+    ensures { result ≡ key_returned (answer_of read.answer) read.fields }
 {
     let answer = read.answer;
     let fields = read.fields;

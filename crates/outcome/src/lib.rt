@@ -7,8 +7,8 @@ pub mod negotiations;
 pub mod slot_tables;
 
 ghost use Rattle.std.specs.Prelude.{◌≡◌, ◌%◌, ◌^◌};
-ghost use Rattle.refusal.specs.Answers.{reasonOf, answer_of, checkedAs};
-ghost use Rattle.outcome.specs.Outcomes.{outcomeOf, acceptedOutcome, refusedOutcome, checkOutcome};
+ghost use Rattle.refusal.specs.Answers.{reason_of, answer_of, checked_as};
+ghost use Rattle.outcome.specs.Outcomes.{outcome_of, accepted_outcome, refused_outcome, check_outcome};
 
 use refusal::{Answered, Checked, Refusal};
 
@@ -23,7 +23,7 @@ pub struct Outcome {
 
 // A refusal, for C.
 pub fn refused(why: Refusal) -> Outcome
-    ensures { result ≡ refusedOutcome (reasonOf why) }
+    ensures { result ≡ refused_outcome (reason_of why) }
 {
     Outcome {
         refusal: refusal::number(why),
@@ -40,7 +40,7 @@ pub(crate) fn low(n: usize) -> u32
 
 // Acceptance, for C.
 fn accepted(n: u64) -> Outcome
-    ensures { result ≡ acceptedOutcome n }
+    ensures { result ≡ accepted_outcome n }
 {
     Outcome {
         refusal: 0,
@@ -50,7 +50,7 @@ fn accepted(n: u64) -> Outcome
 
 // The answer of a call, for C.
 pub fn returned(answer: Answered) -> Outcome
-    ensures { result ≡ outcomeOf (answer_of answer) }
+    ensures { result ≡ outcome_of (answer_of answer) }
 {
     match answer {
         Answered::Accepted(n) => accepted(n as u64),
@@ -60,7 +60,7 @@ pub fn returned(answer: Answered) -> Outcome
 
 // The answer of a call that only tests, for C: 0 where all tests pass.
 pub fn checked(check: Checked) -> Outcome
-    ensures { result ≡ checkOutcome (checkedAs check) }
+    ensures { result ≡ check_outcome (checked_as check) }
 {
     match check {
         Checked::Passed => accepted(0),

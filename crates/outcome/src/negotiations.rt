@@ -1,8 +1,8 @@
 // What the calls on AT_KDF offers return to C.
 ghost use Rattle.std.specs.Prelude.{◌≡◌};
-ghost use Rattle.offers.specs.Answers.{firstRoundOf, renewedOf};
-ghost use Rattle.outcome.specs.Negotiations.{firstRoundOutcome, renewedOutcome};
-ghost use Rattle.outcome.specs.Internal.{positionLow};
+ghost use Rattle.offers.specs.Answers.{first_round_of, renewed_of};
+ghost use Rattle.outcome.specs.Negotiations.{first_round_outcome, renewed_outcome};
+ghost use Rattle.outcome.specs.Internal.{position_low};
 
 use crate::Outcome;
 use offers::{FirstRound, Renewed};
@@ -19,7 +19,7 @@ pub struct FirstRoundOutcome {
 
 // The first round's answer, for C. A position is one of at most 16, so the low bits are all of it.
 pub fn first_round(answer: FirstRound) -> FirstRoundOutcome
-    ensures { result ≡ firstRoundOutcome (positionLow (firstRoundOf answer)) }
+    ensures { result ≡ first_round_outcome (position_low (first_round_of answer)) }
 {
     match answer {
         FirstRound::CarryOn(value) => FirstRoundOutcome {
@@ -45,7 +45,7 @@ pub fn first_round(answer: FirstRound) -> FirstRoundOutcome
 
 // The answer to a renewed list, for C: the choice, or a refusal.
 pub fn renewed(answer: Renewed) -> Outcome
-    ensures { result ≡ renewedOutcome (renewedOf answer) }
+    ensures { result ≡ renewed_outcome (renewed_of answer) }
 {
     match answer {
         Renewed::Accepted(choice) => Outcome {

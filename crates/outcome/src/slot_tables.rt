@@ -1,6 +1,6 @@
 // How C names a parent, and what the calls that put and drop return to C. The slots are passed by value, and come back with the answer.
 ghost use Rattle.std.specs.Prelude.{◌≡◌};
-ghost use Rattle.outcome.specs.SlotTables.{parentFor};
+ghost use Rattle.outcome.specs.SlotTables.{parent_for};
 
 use slot_rules::{Parent, Slots};
 
@@ -15,7 +15,7 @@ pub struct SlotsOutcome {
 
 // A parent by its number in C.
 pub fn parent_for(number: u64) -> Parent
-    ensures { result ≡ parentFor number }
+    ensures { result ≡ parent_for number }
 {
     if number == 0xffff_ffff_ffff_ffff {
         Parent::Root

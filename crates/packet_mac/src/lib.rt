@@ -2,9 +2,9 @@
 // document 004, section 3.3). The definitions are those of `packet_rules`.
 ghost use Rattle.std.specs.Prelude.{◌≡◌, ◌+◌, ◌≤◌, length, replicate};
 ghost use Rattle.std.proofs.Math.Seq.{paste};
-ghost use Rattle.refusal.specs.Answers.{checkedAs, answer_of};
-ghost use Rattle.hmac.specs.Rfc2104.{hmacSha256};
-ghost use Rattle.packet_rules.specs.Mac.{withMac, signAnswer, signBuffer, checkCheck};
+ghost use Rattle.refusal.specs.Answers.{checked_as, answer_of};
+ghost use Rattle.hmac.specs.Rfc2104.{hmac_sha256};
+ghost use Rattle.packet_rules.specs.Mac.{with_mac, sign_answer, signBuffer, checkCheck};
 
 mod attributes; // the walk through a packet's attributes, and its tests
 
@@ -14,7 +14,7 @@ use refusal::{Answered, Checked, Refusal};
 // The MAC of a packet whose attribute stands at an offset: its own 32 bytes are read as zero.
 fn mac_of(mac_key: &[u8], at: usize, packet: &[u8]) -> [u8; 32]
     requires { at + 52 ≤ length packet.now }
-    ensures { result ≡ hmacSha256 mac_key.now (withMac at (replicate 32 0) packet.now) }
+    ensures { result ≡ hmac_sha256 mac_key.now (with_mac at (replicate 32 0) packet.now) }
 {
     let zeros = [0u8; 32];
     hmac::mac_of_parts(
@@ -39,8 +39,8 @@ fn copy_mac(mac: [u8; 32], start: usize, packet: &mut [u8])
 
 // Signs a packet: writes its MAC into the attribute of the type.
 pub fn sign(mac_key: &[u8], attribute_type: u8, packet: &mut [u8]) -> Answered
-    ensures answer { answer_of result ≡ signAnswer mac_key.now attribute_type packet.old }
-    ensures buffer { packet.new ≡ signBuffer hmacSha256 mac_key.now attribute_type packet.old }
+    ensures answer { answer_of result ≡ sign_answer mac_key.now attribute_type packet.old }
+    ensures buffer { packet.new ≡ signBuffer hmac_sha256 mac_key.now attribute_type packet.old }
 {
     match mac_place(mac_key, attribute_type, packet) {
         Answered::Refused(why) => Answered::Refused(why),
@@ -54,7 +54,7 @@ pub fn sign(mac_key: &[u8], attribute_type: u8, packet: &mut [u8]) -> Answered
 
 // Checks a packet: its MAC is the one in the attribute of the type.
 pub fn check(mac_key: &[u8], attribute_type: u8, packet: &[u8]) -> Checked
-    ensures { checkedAs result ≡ checkCheck hmacSha256 mac_key.now attribute_type packet.now }
+    ensures { checked_as result ≡ checkCheck hmac_sha256 mac_key.now attribute_type packet.now }
 {
     match mac_place(mac_key, attribute_type, packet) {
         Answered::Refused(why) => Checked::Failed(why),

@@ -1,16 +1,16 @@
 -- The worked cases, each by computation.
 use mathlib.Core.Path.{refl}
-use Rattle.refusal.specs.Checks.{unless, ◌andThen◌, within}
+use Rattle.refusal.specs.Checks.{unless, ◌and_then◌, within}
 use Rattle.slices.specs.Same.{same_list}
-use Rattle.radius_attributes.specs.Attributes.{whole, attributeLength, splitFrom, split}
-use Rattle.packet_rules.specs.Packet.{lengthHolds, attributes, allWhole, ofType, placesFrom, places, macAt, isMac, oneMac}
-use Rattle.packet_rules.specs.Mac.{macIn, macOf, packetCheck, checkCheck}
+use Rattle.radius_attributes.specs.Attributes.{whole, attribute_length, split_from, split}
+use Rattle.packet_rules.specs.Packet.{length_holds, attributes, all_whole, of_type, places_from, places, mac_at, is_mac, one_mac}
+use Rattle.packet_rules.specs.Mac.{mac_in, macOf, packet_check, checkCheck}
 use Rattle.packet_rules.specs.Cases.{Cases, CheckCases}
 
 pub cases : Cases
-unfolding packetCheck unless ◌andThen◌ within lengthHolds whole attributeLength splitFrom split attributes allWhole ofType placesFrom places macAt isMac oneMac
+unfolding packet_check unless ◌and_then◌ within length_holds whole attribute_length split_from split attributes all_whole of_type places_from places mac_at is_mac one_mac
 cases = (refl, refl, refl, refl, refl, refl, refl, refl, refl, refl, refl, refl, refl, refl, refl, refl, refl, refl, refl, refl, refl, refl, refl)
 
-pub check-cases : CheckCases
-unfolding checkCheck macIn macOf same_list packetCheck unless ◌andThen◌ within lengthHolds whole attributeLength splitFrom split attributes allWhole ofType placesFrom places macAt isMac oneMac
-check-cases = (refl, refl, refl)
+pub check_cases : CheckCases
+unfolding checkCheck mac_in macOf same_list packet_check unless ◌and_then◌ within length_holds whole attribute_length split_from split attributes all_whole of_type places_from places mac_at is_mac one_mac
+check_cases = (refl, refl, refl)

@@ -10,11 +10,11 @@ use lib.Seq.{get_or-append-add}
 use Rattle.slices.proofs.Truth.{and_left}
 use Rattle.radius_attributes.specs.Attributes.{whole}
 use Rattle.radius_attributes.proofs.Lengths.{whole-low, whole-high}
-use Rattle.packet_rules.specs.Packet.{allWhole, ofType, placesFrom}
+use Rattle.packet_rules.specs.Packet.{all_whole, of_type, places_from}
 
-pub of-whole : (type : ℕ) (a : List ℕ) → ofType type a ≡ true → whole a ≡ true
-unfolding ofType
-of-whole type a h = and_left _ _ h
+pub of_whole : (type : ℕ) (a : List ℕ) → of_type type a ≡ true → whole a ≡ true
+unfolding of_type
+of_whole type a h = and_left _ _ h
 
 -- where an attribute of a type stands in bytes, the first of which has the offset `at`: whole within them
 pub record Stands (s : List ℕ) (at m : ℕ) : Type 0 where
@@ -43,16 +43,16 @@ past a rest {at} {m} r =
     let n = length-append a rest in
     record { ahead = omega arith; long = rw b l; inside = rw b (omega arith) }
 
-pub stands : (type at : ℕ) (l : List (List ℕ)) {m : ℕ} {later : List ℕ} → placesFrom type at l ≡ m ∷ later → Stands (flatten l) at m
-unfolding placesFrom flatten
+pub stands : (type at : ℕ) (l : List (List ℕ)) {m : ℕ} {later : List ℕ} → places_from type at l ≡ m ∷ later → Stands (flatten l) at m
+unfolding places_from flatten
 stands type at [] e = let o : ◌≡◌ {A = ℕ} 0 1 = cc in absurd (omega arith)
-stands type at (a ∷ l) {m} {later} e = go (ofType type a) refl (λ f. stands type (at + length a) l f) e
+stands type at (a ∷ l) {m} {later} e = go (of_type type a) refl (λ f. stands type (at + length a) l f) e
   where
-    go : (t : Bool) → ofType type a ≡ t
-        → (placesFrom type (at + length a) l ≡ m ∷ later → Stands (flatten l) (at + length a) m)
-        → cond t (at ∷ placesFrom type (at + length a) l) (placesFrom type (at + length a) l) ≡ m ∷ later
+    go : (t : Bool) → of_type type a ≡ t
+        → (places_from type (at + length a) l ≡ m ∷ later → Stands (flatten l) (at + length a) m)
+        → cond t (at ∷ places_from type (at + length a) l) (places_from type (at + length a) l) ≡ m ∷ later
         → Stands (a ++ flatten l) at m
-    go true h ih e = let k : at ≡ m = cc in rw (← k) (here a (flatten l) at (of-whole type a h))
+    go true h ih e = let k : at ≡ m = cc in rw (← k) (here a (flatten l) at (of_whole type a h))
     go false h ih e = past a (flatten l) (ih e)
 
 -- lists of attributes that differ in values alone
@@ -64,14 +64,14 @@ pub alike_refl : (l : List (List ℕ)) → Alike l l
 alike_refl [] = none
 alike_refl (a ∷ l) = both refl refl refl (alike_refl l)
 
-pub alike-whole : {l m : List (List ℕ)} → Alike l m → allWhole l ≡ allWhole m
-unfolding allWhole
-alike-whole none = refl
-alike-whole (both w t n r) = λ i. w i && alike-whole r i
+pub alike_whole : {l m : List (List ℕ)} → Alike l m → all_whole l ≡ all_whole m
+unfolding all_whole
+alike_whole none = refl
+alike_whole (both w t n r) = λ i. w i && alike_whole r i
 
-pub alike-places : (type at : ℕ) {l m : List (List ℕ)} → Alike l m → placesFrom type at l ≡ placesFrom type at m
-unfolding placesFrom ofType
-alike-places type at none = refl
-alike-places type at (both {a = a} {m = m} w t n r) =
-    let later = alike-places type (at + length a) r ∙ ap (λ (k : ℕ). placesFrom type (at + k) m) n in
+pub alike_places : (type at : ℕ) {l m : List (List ℕ)} → Alike l m → places_from type at l ≡ places_from type at m
+unfolding places_from of_type
+alike_places type at none = refl
+alike_places type at (both {a = a} {m = m} w t n r) =
+    let later = alike_places type (at + length a) r ∙ ap (λ (k : ℕ). places_from type (at + k) m) n in
     λ i. cond (w i && eqb (t i) type) (at ∷ later i) (later i)

@@ -2,8 +2,8 @@
 use Rattle.std.specs.Prelude.{ℕ, ◌+◌, ◌≤◌, ◌<◌, ◌≡◌, ◌⊎◌, ◌↔◌, List, length, get_or}
 use Rattle.refusal.specs.Checks.{pass}
 use Rattle.refusal.specs.Answers.{returned}
-use Rattle.packet_rules.specs.Packet.{macAt}
-use Rattle.packet_rules.specs.Mac.{macInput, packetCheck, checkCheck, signAnswer, signBuffer}
+use Rattle.packet_rules.specs.Packet.{mac_at}
+use Rattle.packet_rules.specs.Mac.{mac_input, packet_check, checkCheck, sign_answer, signBuffer}
 
 -- the one law asked of the MAC function
 abbrev pub Has32 : (List ℕ → List ℕ → List ℕ) → Type 0
@@ -16,11 +16,11 @@ pub record AgreeOutside (at : ℕ) (p q : List ℕ) : Type 0 where
 
 -- what the writer signs, the checker accepts under the same key and type number
 abbrev pub SignedPasses : (List ℕ → List ℕ → List ℕ) → Type 0
-SignedPasses mac = (key p : List ℕ) (type : ℕ) → signAnswer key type p ≡ returned 32 → checkCheck mac key type (signBuffer mac key type p) ≡ pass
+SignedPasses mac = (key p : List ℕ) (type : ℕ) → sign_answer key type p ≡ returned 32 → checkCheck mac key type (signBuffer mac key type p) ≡ pass
 
 -- all packet bytes but the MAC's 32 stay as they were, and the length does
 abbrev pub OthersStay : (List ℕ → List ℕ → List ℕ) → Type 0
-OthersStay mac = (key p : List ℕ) (type : ℕ) → AgreeOutside (macAt type p) (signBuffer mac key type p) p
+OthersStay mac = (key p : List ℕ) (type : ℕ) → AgreeOutside (mac_at type p) (signBuffer mac key type p) p
 
 -- signing what was signed changes nothing
 abbrev pub SignsAgain : (List ℕ → List ℕ → List ℕ) → Type 0
@@ -29,10 +29,10 @@ SignsAgain mac = (key p : List ℕ) (type : ℕ) → signBuffer mac key type (si
 -- the checker accepts a packet exactly where 1 to 37 pass and signing would change nothing in it
 abbrev pub OnlySigned : (List ℕ → List ℕ → List ℕ) → Type 0
 OnlySigned mac =
-    (key p : List ℕ) (type : ℕ) → (checkCheck mac key type p ≡ pass) ↔ ((packetCheck key type p ≡ pass) × (signBuffer mac key type p ≡ p))
+    (key p : List ℕ) (type : ℕ) → (checkCheck mac key type p ≡ pass) ↔ ((packet_check key type p ≡ pass) × (signBuffer mac key type p ≡ p))
 
 -- two packets that pass 1 to 37 for one type hand HMAC the same bytes exactly when they agree in every byte outside the MAC's 32
 abbrev pub Covered : Type 0
 Covered =
-    (key₁ key₂ p q : List ℕ) (type : ℕ) → packetCheck key₁ type p ≡ pass → packetCheck key₂ type q ≡ pass
-    → (macInput type p ≡ macInput type q) ↔ AgreeOutside (macAt type p) p q
+    (key₁ key₂ p q : List ℕ) (type : ℕ) → packet_check key₁ type p ≡ pass → packet_check key₂ type q ≡ pass
+    → (mac_input type p ≡ mac_input type q) ↔ AgreeOutside (mac_at type p) p q

@@ -2,21 +2,21 @@
 use Prim.Native.Nat.{ℕ, ◌≤◌}
 use mathlib.Core.Path.{◌≡◌}
 use borrow.Author.Tests.{leb-true}
-use Rattle.refusal.specs.Checks.{Check, pass, ◌andThen◌}
-use Rattle.refusal.proofs.Passing.{before-passed, last-passed, test-passed, within_low, within-high}
-use Rattle.prf_plus.specs.PrfPlus.{expandCheck}
+use Rattle.refusal.specs.Checks.{Check, pass, ◌and_then◌}
+use Rattle.refusal.proofs.Passing.{before-passed, last-passed, test_passed, within_low, within-high}
+use Rattle.prf_plus.specs.PrfPlus.{expand_check}
 
 pub record Bounds (n room : ℕ) : Type 0 where
   pub some : 1 ≤ n
   pub most : n ≤ 8160
   pub fits : n ≤ room
 
-pub expand-passed : (n room : ℕ) → expandCheck n room ≡ pass → Bounds n room
-unfolding expandCheck
-expand-passed n room e =
-    let w = test-passed _ _ (before-passed _ _ e) in
-    record { some = within_low 1 8160 n w; most = within-high 1 8160 n w; fits = leb-true n room (test-passed _ _ (last-passed _ _ e)) }
+pub expand_passed : (n room : ℕ) → expand_check n room ≡ pass → Bounds n room
+unfolding expand_check
+expand_passed n room e =
+    let w = test_passed _ _ (before-passed _ _ e) in
+    record { some = within_low 1 8160 n w; most = within-high 1 8160 n w; fits = leb-true n room (test_passed _ _ (last-passed _ _ e)) }
 
 -- a call's tests, of which those of `first` were made before, and those of `next` come to `check`
-pub all-tests : (first : Check) {next check whole x : Check} → whole ≡ (first and_then next) → next ≡ check → whole ≡ x → (first and_then check) ≡ x
-all-tests first e f g = cc
+pub all_tests : (first : Check) {next check whole x : Check} → whole ≡ (first and_then next) → next ≡ check → whole ≡ x → (first and_then check) ≡ x
+all_tests first e f g = cc

@@ -5,13 +5,13 @@ use mathlib.Core.List.{List, [], ◌∷◌, ◌++◌, append_assoc}
 use native.Mathlib.Omega.{arith}
 use lib.ListN.{length, length-append}
 use lib.Seq.{length-take-le}
-use Rattle.prf_plus.specs.PrfPlus.{inputAfter, blockCount, block, blockInput, blocks, prfPlus}
+use Rattle.prf_plus.specs.PrfPlus.{input_after, block_count, block, blockInput, blocks, prfPlus}
 use Rattle.prf_plus.specs.Statements.{TwoCases}
-use Rattle.prf_plus.proofs.Lists.{cancel-front, cancel_back}
+use Rattle.prf_plus.proofs.Lists.{cancel_front, cancel_back}
 
 -- at most 255 blocks, so a block's number is a byte
-pub count-le : (n : ℕ) → n ≤ 8160 → blockCount n ≤ 255
-unfolding blockCount
+pub count-le : (n : ℕ) → n ≤ 8160 → block_count n ≤ 255
+unfolding block_count
 count-le n h = omega arith
 
 module _ (mac : List ℕ → List ℕ → List ℕ) where
@@ -21,17 +21,17 @@ module _ (mac : List ℕ → List ℕ → List ℕ) where
   block-of-input key text i = refl
 
   pub two_cases : TwoCases mac
-  unfolding block inputAfter
+  unfolding block input_after
   two_cases key text = (refl, λ i. refl)
 
   -- the input of block 1: the text, then 1
   pub first-input : (key text : List ℕ) → blockInput mac key text 1 ≡ text ++ (1 ∷ [])
-  unfolding blockInput block inputAfter
+  unfolding blockInput block input_after
   first-input key text = refl
 
   -- the input of a later block: the whole block before it, the text, then its number
   pub later-input : (key text : List ℕ) (i : ℕ) → blockInput mac key text (suc (suc i)) ≡ block mac key text (suc i) ++ (text ++ (suc (suc i) ∷ []))
-  unfolding blockInput inputAfter
+  unfolding blockInput input_after
   later-input key text i = refl
 
 module _ (mac : List ℕ → List ℕ → List ℕ) (mac-length : (k t : List ℕ) → length (mac k t) ≡ 32) where
@@ -45,7 +45,7 @@ module _ (mac : List ℕ → List ℕ → List ℕ) (mac-length : (k t : List �
   blocks-length key text (suc m) = omega (arith, length-append (blocks mac key text m) (block mac key text (suc m)), blocks-length key text m, block-length key text m)
 
   pub prfPlus-length : (key text : List ℕ) (n : ℕ) → length (prfPlus mac key text n) ≡ n
-  unfolding prfPlus blockCount
+  unfolding prfPlus block_count
   prfPlus-length key text n = length-take-le n _ (omega (arith, blocks-length key text ((n + 31) / 32)))
 
   -- the block before two blocks of one number has one length
@@ -56,10 +56,10 @@ module _ (mac : List ℕ → List ℕ → List ℕ) (mac-length : (k t : List �
 
   -- equal inputs, under any two keys, are of one text and one block number
   pub input-apart : (key₁ key₂ text₁ text₂ : List ℕ) (i j : ℕ) → blockInput mac key₁ text₁ (suc i) ≡ blockInput mac key₂ text₂ (suc j) → (text₁ ≡ text₂) × (i ≡ j)
-  unfolding blockInput inputAfter
+  unfolding blockInput input_after
   input-apart key₁ key₂ text₁ text₂ i j e =
       let a = block mac key₁ text₁ i in
       let b = block mac key₂ text₂ j in
       let last = cancel_back (a ++ text₁) (b ++ text₂) (suc i ∷ []) (suc j ∷ []) refl (append_assoc a text₁ _ ∙ e ∙ sym (append_assoc b text₂ _)) in
       let same : i ≡ j = cc in
-      ((cancel-front a b text₁ text₂ (ap (λ (k : ℕ). length (block mac key₁ text₁ k)) same ∙ before-length key₁ key₂ text₁ text₂ j) last.0).1, same)
+      ((cancel_front a b text₁ text₂ (ap (λ (k : ℕ). length (block mac key₁ text₁ k)) same ∙ before-length key₁ key₂ text₁ text₂ j) last.0).1, same)

@@ -6,11 +6,11 @@ use native.Mathlib.Omega.{arith}
 use lib.ListN.{length, take, drop, length-append}
 use lib.Seq.{take_at, drop_at}
 
-pub cancel-front : (s₁ s₂ t₁ t₂ : List ℕ) → length s₁ ≡ length s₂ → s₁ ++ t₁ ≡ s₂ ++ t₂ → (s₁ ≡ s₂) × (t₁ ≡ t₂)
-cancel-front s₁ s₂ t₁ t₂ l e = (
+pub cancel_front : (s₁ s₂ t₁ t₂ : List ℕ) → length s₁ ≡ length s₂ → s₁ ++ t₁ ≡ s₂ ++ t₂ → (s₁ ≡ s₂) × (t₁ ≡ t₂)
+cancel_front s₁ s₂ t₁ t₂ l e = (
   sym (take_at s₁ t₁ _ l) ∙ ap (take (length s₂)) e ∙ take_at s₂ t₂ _ refl,
   sym (drop_at s₁ t₁ _ l) ∙ ap (drop (length s₂)) e ∙ drop_at s₂ t₂ _ refl,
 )
 
 pub cancel_back : (s₁ s₂ t₁ t₂ : List ℕ) → length t₁ ≡ length t₂ → s₁ ++ t₁ ≡ s₂ ++ t₂ → (s₁ ≡ s₂) × (t₁ ≡ t₂)
-cancel_back s₁ s₂ t₁ t₂ l e = cancel-front s₁ s₂ t₁ t₂ (omega (arith, simp length-append at (ap length e))) e
+cancel_back s₁ s₂ t₁ t₂ l e = cancel_front s₁ s₂ t₁ t₂ (omega (arith, simp length-append at (ap length e))) e

@@ -7,7 +7,7 @@ use native.Mathlib.Omega.{arith}
 use native.Mathlib.Numerals.{add-one}
 use lib.ListN.{length, take, drop}
 use lib.Seq.{length-take-le, take_all, take_at, drop_at, drop-drop, take-append-add, paste}
-use Rattle.prf_plus.specs.PrfPlus.{inputAfter, block, blocks}
+use Rattle.prf_plus.specs.PrfPlus.{input_after, block, blocks}
 use Rattle.prf_plus.proofs.Laws.{block-length, blocks-length}
 
 -- a turn leaves fewer bytes to write
@@ -38,7 +38,7 @@ module _ (mac : List ℕ → List ℕ → List ℕ) (mac-length : (k t : List �
       ∙ take_at b rest 32 (block-length mac mac-length key text i))
 
   -- the MAC after the last block is the next block
-  pub next-block : (previous r : List ℕ) (i : ℕ) → r ≡ mac key (inputAfter previous text (i + 1)) → previous ≡ block mac key text i → r ≡ block mac key text (i + 1)
+  pub next-block : (previous r : List ℕ) (i : ℕ) → r ≡ mac key (input_after previous text (i + 1)) → previous ≡ block mac key text i → r ≡ block mac key text (i + 1)
   unfolding block
   next-block previous r i e p = e ∙ rw (add-one, p)
 

@@ -1,10 +1,10 @@
 // The expansion prf+ (RFC 4306, section 2.13; document 01, "Hash, MAC and expansion"), with HMAC-SHA-256. The text S comes in four
 // parts, so that no caller joins them in a buffer.
 ghost use Rattle.std.specs.Prelude.{◌≡◌, ◌++◌, ◌≤◌, length, drop};
-ghost use Rattle.refusal.specs.Checks.{◌andThen◌};
-ghost use Rattle.refusal.specs.Answers.{checkedAs, answer_of, answerTo, bufferAfter};
-ghost use Rattle.hmac.specs.Rfc2104.{hmacSha256};
-ghost use Rattle.prf_plus.specs.PrfPlus.{prfPlus, expandCheck};
+ghost use Rattle.refusal.specs.Checks.{◌and_then◌};
+ghost use Rattle.refusal.specs.Answers.{checked_as, answer_of, answer_to, buffer_after};
+ghost use Rattle.hmac.specs.Rfc2104.{hmac_sha256};
+ghost use Rattle.prf_plus.specs.PrfPlus.{prfPlus, expand_check};
 
 use hmac::Keyed;
 use refusal::{Answered, Checked, Refusal};
@@ -15,7 +15,7 @@ const LONGEST: usize = 255 * Sha256::DIGEST;
 
 // The tests of an expansion: 5, 6.
 fn check_expand(n: usize, room: usize) -> Checked
-    ensures { checkedAs result ≡ expandCheck n room }
+    ensures { checked_as result ≡ expand_check n room }
 {
     let length = refusal::unless(refusal::in_range(1, LONGEST, n), Refusal::KeyLength);
     refusal::then_check(length, refusal::check_room(n, room))
@@ -34,7 +34,7 @@ fn fill<'a>(
 )
     requires n_bound { n ≤ 8160 }
     requires n_in_bounds { n ≤ length out.old }
-    ensures { out.new ≡ prfPlus hmacSha256 key.now (a.now ++ (b.now ++ (c.now ++ d.now))) n ++ drop n out.old }
+    ensures { out.new ≡ prfPlus hmac_sha256 key.now (a.now ++ (b.now ++ (c.now ++ d.now))) n ++ drop n out.old }
 {
     let k = Keyed::new(key);
     let inner = k.inner;
@@ -66,8 +66,8 @@ pub fn expand<'a>(
     n: usize,
     out: &mut [u8],
 ) -> Answered
-    ensures answer { answer_of result ≡ answerTo (checkedAs check and_then expandCheck n (length out.old)) n }
-    ensures buffer { out.new ≡ bufferAfter (checkedAs check and_then expandCheck n (length out.old)) n (prfPlus hmacSha256 key.now (a.now ++ (b.now ++ (c.now ++ d.now))) n) out.old }
+    ensures answer { answer_of result ≡ answer_to (checked_as check and_then expand_check n (length out.old)) n }
+    ensures buffer { out.new ≡ buffer_after (checked_as check and_then expand_check n (length out.old)) n (prfPlus hmac_sha256 key.now (a.now ++ (b.now ++ (c.now ++ d.now))) n) out.old }
 {
     match refusal::then_check(check, check_expand(n, out.len())) {
         Checked::Failed(why) => Answered::Refused(why),

@@ -6,18 +6,18 @@ unfoldable pub whole : List ℕ → Bool
 whole bytes = leb 2 (get_or bytes 1 0) && leb (get_or bytes 1 0) (length bytes)
 
 -- its length; 0 where it is cut
-unfoldable pub sizeIn : List ℕ → ℕ
-sizeIn bytes = cond (whole bytes) (get_or bytes 1 0) 0
+unfoldable pub size_in : List ℕ → ℕ
+size_in bytes = cond (whole bytes) (get_or bytes 1 0) 0
 
 -- how many bytes it takes: so many as its length says, and where it is cut all that there are
-unfoldable pub attributeLength : List ℕ → ℕ
-attributeLength bytes = cond (whole bytes) (get_or bytes 1 0) (length bytes)
+unfoldable pub attribute_length : List ℕ → ℕ
+attribute_length bytes = cond (whole bytes) (get_or bytes 1 0) (length bytes)
 
 -- The bytes taken apart into attributes, left to right. `left` counts the bytes of an attribute that are still to be passed; where none is left, the next begins.
-unfoldable pub splitFrom : (left : ℕ) → List ℕ → List (List ℕ)
-splitFrom left [] = []
-splitFrom (suc left) (x ∷ rest) = splitFrom left rest
-splitFrom zero (x ∷ rest) = take (attributeLength (x ∷ rest)) (x ∷ rest) ∷ splitFrom (attributeLength (x ∷ rest) - 1) rest
+unfoldable pub split_from : (left : ℕ) → List ℕ → List (List ℕ)
+split_from left [] = []
+split_from (suc left) (x ∷ rest) = split_from left rest
+split_from zero (x ∷ rest) = take (attribute_length (x ∷ rest)) (x ∷ rest) ∷ split_from (attribute_length (x ∷ rest) - 1) rest
 
 unfoldable pub split : List ℕ → List (List ℕ)
-split bytes = splitFrom 0 bytes
+split bytes = split_from 0 bytes

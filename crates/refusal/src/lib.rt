@@ -1,9 +1,9 @@
 // Refusals by name and by number, the tests of a call in their order, and the answer of a call that writes (document 01, "Refusal
 // numbers"). Every other crate checks its input with these.
 ghost use Rattle.std.specs.Prelude.{◌≡◌, length};
-ghost use Rattle.refusal.specs.Checks.{within, ◌andThen◌, check1, check6};
+ghost use Rattle.refusal.specs.Checks.{within, ◌and_then◌, check1, check6};
 ghost use Rattle.refusal.specs.Checks;
-ghost use Rattle.refusal.specs.Answers.{reasonOf, checkedAs, answer_of, answerTo, bufferAfter};
+ghost use Rattle.refusal.specs.Answers.{reason_of, checked_as, answer_of, answer_to, buffer_after};
 
 mod numbers; // the number and the place of a refusal
 
@@ -11,7 +11,7 @@ pub use numbers::{number, place};
 
 // Why a call refuses. A refusal is document 01's term: a numbered answer that leaves every lent buffer as it was. The variants stand in the order
 // of their numbers: 1 to 28 are those of document 01, 29 to 50 those of document 02, with the request in brackets.
-// `reasonOf` of specs/Answers.antt gives each its number, and the position or offset that it carries.
+// `reason_of` of specs/Answers.antt gives each its number, and the position or offset that it carries.
 #[derive(Drop)]
 pub enum Refusal {
     // root key (EMSK, VRK, VMSK) or MAC key (8) not 64 to 128 bytes; the parent of RFC 5296's key not 64 bytes (6)
@@ -139,7 +139,7 @@ pub fn in_range(lo: usize, hi: usize, x: usize) -> bool
 
 // Passed where the test holds, else the refusal.
 pub fn unless(ok: bool, why: Refusal) -> Checked
-    ensures { checkedAs result ≡ Checks.unless ok (reasonOf why) }
+    ensures { checked_as result ≡ Checks.unless ok (reason_of why) }
 {
     if ok {
         Checked::Passed
@@ -150,7 +150,7 @@ pub fn unless(ok: bool, why: Refusal) -> Checked
 
 // What the tests so far came to, and where they passed the next.
 pub fn then_check(so_far: Checked, next: Checked) -> Checked
-    ensures { checkedAs result ≡ (checkedAs so_far and_then checkedAs next) }
+    ensures { checked_as result ≡ (checked_as so_far and_then checked_as next) }
 {
     match so_far {
         Checked::Failed(first) => Checked::Failed(first),
@@ -160,22 +160,22 @@ pub fn then_check(so_far: Checked, next: Checked) -> Checked
 
 // The test of a root key or a MAC key.
 pub fn check_root_key(key: &[u8]) -> Checked
-    ensures { checkedAs result ≡ check1 key.now }
+    ensures { checked_as result ≡ check1 key.now }
 {
     unless(in_range(64, 128, key.len()), Refusal::RootKeyLength)
 }
 
 // The test that n values fit into an output buffer of `room`.
 pub fn check_room(n: usize, room: usize) -> Checked
-    ensures { checkedAs result ≡ check6 n room }
+    ensures { checked_as result ≡ check6 n room }
 {
     unless(n <= room, Refusal::Room)
 }
 
 // The answer of a call whose result is at hand, by its tests and then that of the room: the bytes go to the start of out, or nothing does.
 pub fn put(check: Checked, bytes: &[u8], out: &mut [u8]) -> Answered
-    ensures answer { answer_of result ≡ answerTo (checkedAs check and_then check6 (length bytes.now) (length out.old)) (length bytes.now) }
-    ensures buffer { out.new ≡ bufferAfter (checkedAs check and_then check6 (length bytes.now) (length out.old)) (length bytes.now) bytes.now out.old }
+    ensures answer { answer_of result ≡ answer_to (checked_as check and_then check6 (length bytes.now) (length out.old)) (length bytes.now) }
+    ensures buffer { out.new ≡ buffer_after (checked_as check and_then check6 (length bytes.now) (length out.old)) (length bytes.now) bytes.now out.old }
 {
     let n = bytes.len();
     let all = then_check(check, check_room(n, out.len()));

@@ -1,12 +1,12 @@
 // The number of a refusal, and the place that it carries (document 01, "Refusal numbers"; document 02, request 1), for callers that take numbers.
 ghost use Rattle.std.specs.Prelude.{◌≡◌};
-ghost use Rattle.refusal.specs.Answers.{reasonOf, number_in, place_in};
+ghost use Rattle.refusal.specs.Answers.{reason_of, number_in, place_in};
 
 use crate::Refusal;
 
 // The number of a refusal.
 pub fn number(why: Refusal) -> u32
-    ensures { result ≡ number_in (reasonOf why) }
+    ensures { result ≡ number_in (reason_of why) }
 {
     match why {
         Refusal::RootKeyLength => 1,
@@ -64,7 +64,7 @@ pub fn number(why: Refusal) -> u32
 
 // The place that a refusal carries, and 0 where it carries none.
 pub fn place(why: Refusal) -> usize
-    ensures { result ≡ place_in (reasonOf why) }
+    ensures { result ≡ place_in (reason_of why) }
 {
     match why {
         Refusal::LabelByte(position) => position,

@@ -8,12 +8,12 @@ use native.Mathlib.Nat.{not-suc-le-zero}
 use native.Mathlib.Omega.{arith}
 use Rattle.refusal.specs.Checks.{within}
 use Rattle.slices.proofs.Truth.{and_left, and_right}
-use Rattle.labels.specs.Bytes.{every, labelByte}
-use Rattle.hmac.specs.Rfc2104.{hmacSha256}
-use Rattle.hmac.proofs.Laws.{hmacSha256-length}
+use Rattle.labels.specs.Bytes.{every, label_byte}
+use Rattle.hmac.specs.Rfc2104.{hmac_sha256}
+use Rattle.hmac.proofs.Laws.{hmac_sha256-length}
 use Rattle.prf_plus.proofs.Lists.{cancel_back}
 use Rattle.prf_plus.proofs.Laws.{input-apart}
-use Rattle.requests.specs.Rfc5295.{usageText}
+use Rattle.requests.specs.Rfc5295.{usage_text}
 use Rattle.requests.specs.Requests.{label_of, data_of, length_of, text_of, input_of}
 use Rattle.requests.specs.Statements.{Separated, UsageTextExample}
 use Rattle.requests.proofs.Accepting.{sound}
@@ -31,11 +31,11 @@ split-first p z hz (x ∷ s₁) (y ∷ s₂) t₁ t₂ h₁ h₂ e =
     (cc, r.1)
 
 -- two texts are equal only where label, data and length are
-pub text-apart : (l₁ l₂ d₁ d₂ : List ℕ) (n₁ n₂ : ℕ) → every labelByte l₁ ≡ true → every labelByte l₂ ≡ true → n₁ ≤ 8160 → n₂ ≤ 8160
-    → usageText l₁ d₁ n₁ ≡ usageText l₂ d₂ n₂ → (l₁ ≡ l₂) × (d₁ ≡ d₂) × (n₁ ≡ n₂)
-unfolding usageText labelByte within
-text-apart l₁ l₂ d₁ d₂ n₁ n₂ h₁ h₂ b₁ b₂ e =
-    let label = split-first labelByte 0 refl l₁ l₂ _ _ h₁ h₂ e in
+pub text_apart : (l₁ l₂ d₁ d₂ : List ℕ) (n₁ n₂ : ℕ) → every label_byte l₁ ≡ true → every label_byte l₂ ≡ true → n₁ ≤ 8160 → n₂ ≤ 8160
+    → usage_text l₁ d₁ n₁ ≡ usage_text l₂ d₂ n₂ → (l₁ ≡ l₂) × (d₁ ≡ d₂) × (n₁ ≡ n₂)
+unfolding usage_text label_byte within
+text_apart l₁ l₂ d₁ d₂ n₁ n₂ h₁ h₂ b₁ b₂ e =
+    let label = split-first label_byte 0 refl l₁ l₂ _ _ h₁ h₂ e in
     let back = cancel_back d₁ d₂ _ _ refl label.1 in
     let high : n₁ / 2 ^ 8 % 256 ≡ n₂ / 2 ^ 8 % 256 = cc in
     let low : n₁ % 256 ≡ n₂ % 256 = cc in
@@ -47,14 +47,14 @@ separated emsk r₁ r₂ a₁ a₂ zero j b₁ b₂ = absurd (not-suc-le-zero b�
 separated emsk r₁ r₂ a₁ a₂ (suc i) zero b₁ b₂ = absurd (not-suc-le-zero b₂.0)
 separated emsk r₁ r₂ a₁ a₂ (suc i) (suc j) b₁ b₂ = (
   λ e.
-      let s = input-apart hmacSha256 hmacSha256-length emsk emsk (text_of r₁) (text_of r₂) i j e in
+      let s = input-apart hmac_sha256 hmac_sha256-length emsk emsk (text_of r₁) (text_of r₂) i j e in
       let g₁ = sound emsk r₁ a₁ in
       let g₂ = sound emsk r₂ a₂ in
-      let t = text-apart (label_of r₁) (label_of r₂) (data_of r₁) (data_of r₂) (length_of r₁) (length_of r₂) g₁.label g₂.label g₁.high g₂.high s.0 in
+      let t = text_apart (label_of r₁) (label_of r₂) (data_of r₁) (data_of r₂) (length_of r₁) (length_of r₂) g₁.label g₂.label g₁.high g₂.high s.0 in
       (t.0, t.1, t.2, ap suc s.1),
   λ h. let l = h.0 in let d = h.1 in let n = h.2 in let k = h.3 in cc,
 )
 
-pub usage-text-example : UsageTextExample
-unfolding text_of usageText
-usage-text-example room = (refl, refl)
+pub usage_text_example : UsageTextExample
+unfolding text_of usage_text
+usage_text_example room = (refl, refl)

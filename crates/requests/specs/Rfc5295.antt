@@ -5,8 +5,8 @@ use Rattle.slices.specs.Numbers.{be16}
 use Rattle.refusal.specs.Checks.{Check, bare, unless}
 
 -- S: label, one zero byte, optional data, then the key length n as two bytes, high byte first
-unfoldable pub usageText : List ℕ → List ℕ → ℕ → List ℕ
-usageText label extra n = label ++ (0 ∷ (extra ++ be16 n))
+unfoldable pub usage_text : List ℕ → List ℕ → ℕ → List ℕ
+usage_text label extra n = label ++ (0 ∷ (extra ++ be16 n))
 
 -- 4: optional data over 2,048 bytes
 abbrev pub check4 : List ℕ → Check

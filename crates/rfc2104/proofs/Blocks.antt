@@ -19,21 +19,21 @@ drop-replicate (suc n) zero = let e : 0 ≡ 0 - suc n = omega arith in ap (λ (k
 drop-replicate (suc n) (suc m) = let e : m - n ≡ suc m - suc n = omega arith in drop-replicate n m ∙ ap (λ (k : ℕ). replicate k 0) e
 
 -- the whole of s copied over zeros
-pub filled-all : (s : List ℕ) → s ++ drop (length s) (replicate 64 0) ≡ s ++ replicate (64 - length s) 0
-filled-all s = ap (λ (l : List ℕ). s ++ l) (drop-replicate (length s) 64)
+pub filled_all : (s : List ℕ) → s ++ drop (length s) (replicate 64 0) ≡ s ++ replicate (64 - length s) 0
+filled_all s = ap (λ (l : List ℕ). s ++ l) (drop-replicate (length s) 64)
 
 -- a turn of the masking, and all its turns
-pub mask-turn : (b : List ℕ) (c j : ℕ) {r : List ℕ} → r ≡ take j (masked b c) ++ drop j b → j < length b
+pub mask_turn : (b : List ℕ) (c j : ℕ) {r : List ℕ} → r ≡ take j (masked b c) ++ drop j b → j < length b
     → set r j (bit_xor (get_or b j 0) c) ≡ take (j + 1) (masked b c) ++ drop (j + 1) b
 unfolding masked
-mask-turn b c j {r} e h =
+mask_turn b c j {r} e h =
     let f : ℕ → ℕ = λ x. bit_xor x c in
     let l : j < length (map f b) = omega (arith, length-map b f) in
     ap (set r j) (sym (get_or-map f b j 0)) ∙ copy-turn b (map f b) j (f 0) e h l
 
-pub masked-all : (b : List ℕ) (c : ℕ) → length b ≡ 64 → take 64 (masked b c) ++ drop 64 b ≡ masked b c
+pub masked_all : (b : List ℕ) (c : ℕ) → length b ≡ 64 → take 64 (masked b c) ++ drop 64 b ≡ masked b c
 unfolding masked
-masked-all b c e =
+masked_all b c e =
     let f : ℕ → ℕ = λ x. bit_xor x c in
     let l : length (map f b) ≤ 64 = omega (arith, length-map b f) in
     (λ i. take_all 64 (map f b) l i ++ drop_of_length-le b {i = 64} (omega arith) i) ∙ append-nil (map f b)

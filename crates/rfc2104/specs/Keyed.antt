@@ -3,18 +3,18 @@
 -- compression of blocks of 64 bytes, first hash value and writing of the digest. `KeptValuesGiveMac` of Statements.antt says that it is
 -- section 2's.
 use Rattle.std.specs.Prelude.{ℕ, List}
-use Rattle.fips180.specs.Hash.{hashBy}
-use Rattle.fips180.specs.Stream.{startedAfter, absorbedBy, finishedBy}
+use Rattle.fips180.specs.Hash.{hash_by}
+use Rattle.fips180.specs.Stream.{started_after, absorbedBy, finishedBy}
 use Rattle.rfc2104.specs.Rfc2104.{masked, keyBlock}
 
 -- the hash value after a key's block XOR a byte repeated, which is ipad's or opad's
-unfoldable pub keyValueBy : (List ℕ → List ℕ → List ℕ) → List ℕ → (List ℕ → List ℕ) → List ℕ → ℕ → List ℕ
-keyValueBy compress first written key pad = compress first (masked (keyBlock (hashBy compress first written) key) pad)
+unfoldable pub key_value_by : (List ℕ → List ℕ → List ℕ) → List ℕ → (List ℕ → List ℕ) → List ℕ → ℕ → List ℕ
+key_value_by compress first written key pad = compress first (masked (keyBlock (hash_by compress first written) key) pad)
 
 module _ (compress : List ℕ → List ℕ → List ℕ) (written : List ℕ → List ℕ) where
   -- the hash of a block, of which only the hash value is given, and of what comes after it
   unfoldable pub hashAfterBy : List ℕ → List ℕ → List ℕ
-  hashAfterBy value rest = finishedBy compress written (absorbedBy compress (startedAfter value) rest)
+  hashAfterBy value rest = finishedBy compress written (absorbedBy compress (started_after value) rest)
 
   -- the MAC of a message from the two hash values: the outer hash of the inner hash
   unfoldable pub macByValuesBy : List ℕ → List ℕ → List ℕ → List ℕ

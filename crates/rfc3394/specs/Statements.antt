@@ -1,19 +1,19 @@
 -- What is proved of the key wrap, under any KEK of bytes and for a key of any length: the passes run over its whole blocks of eight.
 use Rattle.std.specs.Prelude.{◌≡◌, List, ℕ, ◌+◌, ◌-◌, ◌≤◌, length}
 use Rattle.slices.specs.Bytes.{Bytes}
-use Rattle.rfc3394.specs.Rfc3394.{initialValue, wrapped, unwrappedIv, unwrappedKey}
+use Rattle.rfc3394.specs.Rfc3394.{initial_value, wrapped, unwrapped_iv, unwrapped_key}
 
 -- Unwrapping a wrapped key yields the initial value and the key.
 abbrev pub UnwrapUndoes : Type 0
 UnwrapUndoes =
     (kek : List ℕ) → Bytes kek → (key : List ℕ) → Bytes key
-    → (unwrappedIv kek (wrapped kek key) ≡ initialValue) × (unwrappedKey kek (wrapped kek key) ≡ key)
+    → (unwrapped_iv kek (wrapped kek key) ≡ initial_value) × (unwrapped_key kek (wrapped kek key) ≡ key)
 
 -- Bytes that unwrap with the initial value are the wrapping of their key.
 abbrev pub WrapUndoes : Type 0
 WrapUndoes =
     (kek : List ℕ) → Bytes kek → (w : List ℕ) → Bytes w → 8 ≤ length w
-    → unwrappedIv kek w ≡ initialValue → wrapped kek (unwrappedKey kek w) ≡ w
+    → unwrapped_iv kek w ≡ initial_value → wrapped kek (unwrapped_key kek w) ≡ w
 
 -- A wrapped key is 8 bytes longer than the key.
 abbrev pub WrappedLength : Type 0
@@ -21,4 +21,4 @@ WrappedLength = (kek : List ℕ) → Bytes kek → (key : List ℕ) → Bytes ke
 
 abbrev pub UnwrappedLength : Type 0
 UnwrappedLength =
-    (kek : List ℕ) → Bytes kek → (w : List ℕ) → Bytes w → 8 ≤ length w → length (unwrappedKey kek w) ≡ length w - 8
+    (kek : List ℕ) → Bytes kek → (w : List ℕ) → Bytes w → 8 ≤ length w → length (unwrapped_key kek w) ≡ length w - 8

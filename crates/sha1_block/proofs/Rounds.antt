@@ -4,15 +4,15 @@ use Rattle.fips180.specs.Words.{Ch, Maj}
 use Rattle.fips180.specs.Sha1.{Parity, W, step, round, rounds, sums, compress}
 use Rattle.fips180.specs.Window.{window}
 use Rattle.fips180.specs.Statements.{Has}
-use Rattle.fips180.proofs.Sha1Rounds.{round-by-cases}
-use Rattle.fips180.proofs.Window.{window-at}
-use Rattle.sha1_block.specs.Internal.{stepBy, runs}
+use Rattle.fips180.proofs.Sha1Rounds.{round_by_cases}
+use Rattle.fips180.proofs.Window.{window_at}
+use Rattle.sha1_block.specs.Internal.{step_by, runs}
 use Rattle.sha1_block.specs.Statements.{WordInPlace, RoundByWindow}
 
 -- n rounds from round t on, of one function and constant, with the words in the window from place j on
 module _ (f : ℕ → ℕ → ℕ → ℕ) (k : ℕ) (h b : List ℕ) (t p j : ℕ) (place : p + j ≡ t) where
-  one : (i : ℕ) → Has f k i → (s : List ℕ) → stepBy f k (W b i) s ≡ round i (W b i) s
-  unfolding stepBy round
+  one : (i : ℕ) → Has f k i → (s : List ℕ) → step_by f k (W b i) s ≡ round i (W b i) s
+  unfolding step_by round
   one i has s = λ m. step (sym (has.0 (get_or s 1 0) (get_or s 2 0) (get_or s 3 0)) m) (sym has.1 m) (W b i) s
 
   run : (n : ℕ) → j + n ≤ 16 → ((i : ℕ) → i < n → Has f k (t + i)) → runs f k (window (W b) p) j (rounds h b t) n ≡ rounds h b (t + n)
@@ -20,8 +20,8 @@ module _ (f : ℕ → ℕ → ℕ → ℕ) (k : ℕ) (h b : List ℕ) (t p j : �
   run zero le has = ap (rounds h b) (sym (add-zero t))
   run (suc n) le has =
       let e : p + (j + n) ≡ t + n = sym (add_assoc p j n) ∙ ap (λ (i : ℕ). i + n) place in
-      let w : get_or (window (W b) p) (j + n) 0 ≡ W b (t + n) = window-at (W b) p (j + n) (omega (arith, le)) ∙ ap (W b) e in
-      (λ i. stepBy f k (w i) (run n (omega (arith, le)) (λ i l. has i (omega (arith, l))) i))
+      let w : get_or (window (W b) p) (j + n) 0 ≡ W b (t + n) = window_at (W b) p (j + n) (omega (arith, le)) ∙ ap (W b) e in
+      (λ i. step_by f k (w i) (run n (omega (arith, le)) (λ i l. has i (omega (arith, l))) i))
       ∙ one (t + n) (has n (omega arith)) (rounds h b (t + n))
       ∙ ap (rounds h b) (sym (add-suc t n))
 
@@ -31,32 +31,32 @@ module _ (h b : List ℕ) (t p j n : ℕ) {w s r : List ℕ} (ew : w ≡ window 
   turn f k place le has e = e ∙ (λ i. runs f k (ew i) j (es i) n) ∙ run f k h b t p j place n le has
 
   pub by-ch : p + j ≡ t → j + n ≤ 16 → t + n ≤ 20 → r ≡ runs Ch 0x5a827999 w j s n → r ≡ rounds h b (t + n)
-  by-ch place le below = turn Ch 0x5a827999 place le (λ i l. (round-by-cases (t + i)).0 (omega arith))
+  by-ch place le below = turn Ch 0x5a827999 place le (λ i l. (round_by_cases (t + i)).0 (omega arith))
 
   pub by-parity : p + j ≡ t → j + n ≤ 16 → 20 ≤ t → t + n ≤ 40 → r ≡ runs Parity 0x6ed9eba1 w j s n → r ≡ rounds h b (t + n)
-  by-parity place le from below = turn Parity 0x6ed9eba1 place le (λ i l. (round-by-cases (t + i)).1 (omega arith) (omega arith))
+  by-parity place le from below = turn Parity 0x6ed9eba1 place le (λ i l. (round_by_cases (t + i)).1 (omega arith) (omega arith))
 
   pub by-maj : p + j ≡ t → j + n ≤ 16 → 40 ≤ t → t + n ≤ 60 → r ≡ runs Maj 0x8f1bbcdc w j s n → r ≡ rounds h b (t + n)
-  by-maj place le from below = turn Maj 0x8f1bbcdc place le (λ i l. (round-by-cases (t + i)).2 (omega arith) (omega arith))
+  by-maj place le from below = turn Maj 0x8f1bbcdc place le (λ i l. (round_by_cases (t + i)).2 (omega arith) (omega arith))
 
   pub by-last-parity : p + j ≡ t → j + n ≤ 16 → 60 ≤ t → r ≡ runs Parity 0xca62c1d6 w j s n → r ≡ rounds h b (t + n)
-  by-last-parity place le from = turn Parity 0xca62c1d6 place le (λ i l. (round-by-cases (t + i)).3 (omega arith))
+  by-last-parity place le from = turn Parity 0xca62c1d6 place le (λ i l. (round_by_cases (t + i)).3 (omega arith))
 
-pub no-round : (h b : List ℕ) {s : List ℕ} → s ≡ h → s ≡ rounds h b 0
+pub no_round : (h b : List ℕ) {s : List ℕ} → s ≡ h → s ≡ rounds h b 0
 unfolding rounds
-no-round h b e = e
+no_round h b e = e
 
-pub all-rounds : (h b : List ℕ) {s v : List ℕ} → v ≡ s → s ≡ rounds h b 80 → sums h v ≡ compress h b
+pub all_rounds : (h b : List ℕ) {s v : List ℕ} → v ≡ s → s ≡ rounds h b 80 → sums h v ≡ compress h b
 unfolding compress
-all-rounds h b ev e = ap (sums h) (ev ∙ e)
+all_rounds h b ev e = ap (sums h) (ev ∙ e)
 
 -- the window's words, by the number of the round
-pub word-in-place : WordInPlace
-word-in-place b t =
+pub word_in_place : WordInPlace
+word_in_place b t =
     let few : t % 16 < 16 = omega arith in
     let e : t / 16 * 16 + t % 16 ≡ t = omega arith in
-    window-at (W b) (t / 16 * 16) (t % 16) few ∙ ap (W b) e
+    window_at (W b) (t / 16 * 16) (t % 16) few ∙ ap (W b) e
 
-pub round-by-window : RoundByWindow
+pub round_by_window : RoundByWindow
 unfolding rounds
-round-by-window h b t = ap (λ (w : ℕ). round t w (rounds h b t)) (sym (word-in-place b t))
+round_by_window h b t = ap (λ (w : ℕ). round t w (rounds h b t)) (sym (word_in_place b t))

@@ -7,10 +7,10 @@ use Rattle.fips180.proofs.Window as Window
 use Rattle.fips180.proofs.Window.{mixed, Places}
 
 pub none : (b : List ℕ) (t : ℕ) {w : List ℕ} → w ≡ window (W b) t → w ≡ mixed (W b) t 0
-none b = Window.mixed-none (W b)
+none b = Window.mixed_none (W b)
 
 pub all : (b : List ℕ) (t : ℕ) {w : List ℕ} → w ≡ mixed (W b) t 16 → w ≡ window (W b) (t + 16)
-all b = Window.mixed-all (W b)
+all b = Window.mixed_all (W b)
 
 -- one word more, in place n, from the words in the places i13, i8 and i2
 pub stored : (b : List ℕ) (t n i13 i8 i2 : ℕ) {w v : List ℕ} → Places (W b) 13 8 2 t n i13 i8 i2 → w ≡ mixed (W b) t n

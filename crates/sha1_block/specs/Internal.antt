@@ -10,10 +10,10 @@ unfoldable pub variables : List ℕ → List ℕ
 variables s = slice_index s 0 ∷ slice_index s 1 ∷ ROTL 30 (slice_index s 2) ∷ ROTL 30 (slice_index s 3) ∷ ROTL 30 (slice_index s 4) ∷ []
 
 -- a round by a function, a constant and a word of the schedule
-unfoldable pub stepBy : (ℕ → ℕ → ℕ → ℕ) → ℕ → ℕ → List ℕ → List ℕ
-stepBy f k w s = step (f (slice_index s 1) (slice_index s 2) (slice_index s 3)) k w s
+unfoldable pub step_by : (ℕ → ℕ → ℕ → ℕ) → ℕ → ℕ → List ℕ → List ℕ
+step_by f k w s = step (f (slice_index s 1) (slice_index s 2) (slice_index s 3)) k w s
 
 -- n rounds of one function and one constant with the words of w from place j on
 unfoldable pub runs : (ℕ → ℕ → ℕ → ℕ) → ℕ → List ℕ → ℕ → List ℕ → ℕ → List ℕ
 runs f k w j s zero = s
-runs f k w j s (suc n) = stepBy f k (slice_index w (j + n)) (runs f k w j s n)
+runs f k w j s (suc n) = step_by f k (slice_index w (j + n)) (runs f k w j s n)

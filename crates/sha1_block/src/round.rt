@@ -3,7 +3,7 @@
 ghost use Rattle.std.specs.Prelude.{◌≡◌, ◌+◌, ◌%◌, ◌^◌, ◌<◌};
 ghost use Rattle.fips180.specs.Words as Words;
 ghost use Rattle.fips180.specs.Sha1 as Sha1;
-ghost use Rattle.sha1_block.specs.Internal.{variables, stepBy};
+ghost use Rattle.sha1_block.specs.Internal.{variables, step_by};
 
 // The rotation of a word to the left by n bits (3.2).
 fn rotl(x: u32, n: u32) -> u32
@@ -85,19 +85,19 @@ fn step(s: [u32; 5], v: u32, k: u32, w: u32) -> [u32; 5]
 
 // A round of each function.
 pub(crate) fn round_ch(s: [u32; 5], w: u32) -> [u32; 5]
-    ensures { variables result ≡ stepBy Words.Ch 0x5a827999 w (variables s) }
+    ensures { variables result ≡ step_by Words.Ch 0x5a827999 w (variables s) }
 {
     step(s, ch(s[1], s[2], s[3]), 0x5a827999, w)
 }
 
 pub(crate) fn round_parity(s: [u32; 5], k: u32, w: u32) -> [u32; 5]
-    ensures { variables result ≡ stepBy Sha1.Parity k w (variables s) }
+    ensures { variables result ≡ step_by Sha1.Parity k w (variables s) }
 {
     step(s, parity(s[1], s[2], s[3]), k, w)
 }
 
 pub(crate) fn round_maj(s: [u32; 5], w: u32) -> [u32; 5]
-    ensures { variables result ≡ stepBy Words.Maj 0x8f1bbcdc w (variables s) }
+    ensures { variables result ≡ step_by Words.Maj 0x8f1bbcdc w (variables s) }
 {
     step(s, maj(s[1], s[2], s[3]), 0x8f1bbcdc, w)
 }

@@ -2,7 +2,7 @@
 -- A hash in progress by its parts, its last hash value, and one of six parts by its place.
 use Rattle.std.specs.Prelude.{ℕ, List, [], ◌∷◌, slice_index_or}
 use Rattle.fips180.specs.Stream.{Progress}
-use Rattle.fips180.specs.Internal.{closingBy}
+use Rattle.fips180.specs.Internal.{closing_by}
 use Rattle.fips180.specs.Sha256.{compress}
 
 abbrev pub parts : List ℕ → List ℕ → ℕ → Progress
@@ -10,7 +10,7 @@ parts h b n = record { value = h; block = b; count = n }
 
 -- the last hash value of a message of n bytes: h after its whole blocks, and x the bytes after these
 abbrev pub closing : List ℕ → List ℕ → ℕ → List ℕ
-closing = closingBy compress
+closing = closing_by compress
 
 -- the part at place j of six
 abbrev pub part_at : ℕ → List ℕ → List ℕ → List ℕ → List ℕ → List ℕ → List ℕ → List ℕ

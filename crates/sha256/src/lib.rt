@@ -5,8 +5,8 @@ ghost use Rattle.std.proofs.Math.Seq.{paste};
 ghost use Rattle.slices.specs.Numbers.{be64};
 ghost use Rattle.fips180.specs.Sha256 as Fips180;
 ghost use Rattle.sha256.specs.Stream.{progress, started, absorbed, finished, joined};
-ghost use Rattle.fips180.specs.Stream.{startedAfter};
-ghost use Rattle.fips180.specs.Internal.{begunBlock};
+ghost use Rattle.fips180.specs.Stream.{started_after};
+ghost use Rattle.fips180.specs.Internal.{begun_block};
 ghost use Rattle.sha256.specs.Internal.{parts, closing, part_at};
 
 mod value; // the hash value: the first one, the one after a block, and its bytes
@@ -98,7 +98,7 @@ fn last_digest(
 
 // Begins a block with the bytes of s that come after its whole blocks.
 fn begin(block: &mut [u8; Sha256::BLOCK], s: &[u8])
-    ensures { block.new ≡ begunBlock s.now }
+    ensures { block.new ≡ begun_block s.now }
 {
     let n = s.len();
     let rest = n - n % Sha256::BLOCK;
@@ -110,7 +110,7 @@ fn begin(block: &mut [u8; Sha256::BLOCK], s: &[u8])
 fn absorb_blocks(h: &mut [u32; 8], block: &mut [u8; Sha256::BLOCK], s: &[u8])
     requires { length block.old ≡ 64 }
     ensures h_after { h.new ≡ Fips180.blocks (length s.now / 64) (Fips180.compress h.old block.old) s.now }
-    ensures block_after { block.new ≡ begunBlock s.now }
+    ensures block_after { block.new ≡ begun_block s.now }
 {
     compress_blocks(h, block);
     compress_blocks(h, s);
@@ -176,7 +176,7 @@ impl Sha256 {
 
     // The hash after one block, of which only the hash value is given: HMAC keeps that of a key and starts each message with it.
     pub fn after(value: [u32; 8]) -> Self
-        ensures { progress result ≡ startedAfter value }
+        ensures { progress result ≡ started_after value }
     {
         Sha256 {
             h: value,

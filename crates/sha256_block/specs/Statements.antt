@@ -4,10 +4,10 @@ use Rattle.fips180.specs.Sha256.{K, W, round, rounds}
 use Rattle.fips180.specs.Window.{window}
 
 -- what stands in place t % 16 of the window in round t is W t: the window then has the sixteen words from t / 16 * 16 on, as the contracts
--- of `load` and `group_words` in src/lib.rt say. `word-in-place` of proofs/Rounds.antt
+-- of `load` and `group_words` in src/lib.rt say. `word_in_place` of proofs/Rounds.antt
 abbrev pub WordInPlace : Type 0
 WordInPlace = (b : List ℕ) (t : ℕ) → slice_index (window (W b) (t / 16 * 16)) (t % 16) ≡ W b t
 
--- and so each round of the standard is the one with that word. `round-by-window` of proofs/Rounds.antt
+-- and so each round of the standard is the one with that word. `round_by_window` of proofs/Rounds.antt
 abbrev pub RoundByWindow : Type 0
 RoundByWindow = (h b : List ℕ) (t : ℕ) → rounds h b (suc t) ≡ round (slice_index K t) (slice_index (window (W b) (t / 16 * 16)) (t % 16)) (rounds h b t)

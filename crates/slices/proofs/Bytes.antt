@@ -5,10 +5,10 @@ use native.Mathlib.Omega.{arith}
 use lib.ListN.{take, drop}
 use Rattle.slices.specs.Bytes.{Bytes}
 
-pub bytes-append : (l m : List ℕ) → Bytes l → Bytes m → Bytes (l ++ m)
-bytes-append [] m p q i = q i
-bytes-append (x ∷ l) m p q zero = p zero
-bytes-append (x ∷ l) m p q (suc i) = bytes-append l m (λ j. p (suc j)) q i
+pub bytes_append : (l m : List ℕ) → Bytes l → Bytes m → Bytes (l ++ m)
+bytes_append [] m p q i = q i
+bytes_append (x ∷ l) m p q zero = p zero
+bytes_append (x ∷ l) m p q (suc i) = bytes_append l m (λ j. p (suc j)) q i
 
 pub bytes_take : (n : ℕ) (l : List ℕ) → Bytes l → Bytes (take n l)
 bytes_take zero l p i = omega arith

@@ -8,9 +8,9 @@ use lib.Seq.{paste, drop-drop}
 use Rattle.slices.proofs.Lists.{rest-drop}
 
 -- s is copied to the start of the part y of d that begins at a
-pub copied-part : (d s : List ℕ) (a : ℕ) {y : List ℕ} → y ≡ take (length s) s ++ drop (length s) (take (length d - a) (drop a d))
+pub copied_part : (d s : List ℕ) (a : ℕ) {y : List ℕ} → y ≡ take (length s) s ++ drop (length s) (take (length d - a) (drop a d))
     → take a d ++ (y ++ drop (length d - a) (drop a d)) ≡ paste d a s (length s)
-copied-part d s a {y} e =
+copied_part d s a {y} e =
     let none : drop (length d - a) (drop a d) ≡ [] = drop_of_length-le (drop a d) {i = length d - a} (omega (arith, length-drop a d)) in
     let after : drop (length s) (take (length d - a) (drop a d)) ≡ drop (a + length s) d = ap (drop (length s)) (rest-drop a d) ∙ drop-drop (length s) a d in
     (λ i. take a d ++ (e i ++ none i))

@@ -11,29 +11,29 @@ use lib.Seq.{drop-cons}
 use Rattle.slices.specs.Same.{same_list, SameExactly}
 use Rattle.slices.proofs.Truth.{and_left, and_right}
 
-pub same-equal : (s t : List ℕ) → same_list s t ≡ true → s ≡ t
+pub same_equal : (s t : List ℕ) → same_list s t ≡ true → s ≡ t
 unfolding same_list
-same-equal [] [] e = refl
-same-equal [] (y ∷ t) e = cc
-same-equal (x ∷ s) [] e = cc
-same-equal (x ∷ s) (y ∷ t) e =
+same_equal [] [] e = refl
+same_equal [] (y ∷ t) e = cc
+same_equal (x ∷ s) [] e = cc
+same_equal (x ∷ s) (y ∷ t) e =
     let head = eqb-true x y (and_left _ _ e) in
-    let tail = same-equal s t (and_right (eqb x y) _ e) in
+    let tail = same_equal s t (and_right (eqb x y) _ e) in
     cc
 
-pub equal-same : (s : List ℕ) → same_list s s ≡ true
+pub equal_same : (s : List ℕ) → same_list s s ≡ true
 unfolding same_list
-equal-same [] = refl
-equal-same (x ∷ s) = rw (eq-eqb x x refl) (equal-same s)
+equal_same [] = refl
+equal_same (x ∷ s) = rw (eq-eqb x x refl) (equal_same s)
 
-pub same-exactly : SameExactly
-same-exactly s t = (same-equal s t, λ e. rw (← e) (equal-same s))
+pub same_exactly : SameExactly
+same_exactly s t = (same_equal s t, λ e. rw (← e) (equal_same s))
 
 pub lengths_differ : (s t : List ℕ) → (length s ≡ length t → ⊥) → false ≡ same_list s t
 lengths_differ s t ne = go (same_list s t) refl
   where
     go : (b : Bool) → same_list s t ≡ b → false ≡ same_list s t
-    go true e = elim (ne (ap length (same-equal s t e))) [ ]
+    go true e = elim (ne (ap length (same_equal s t e))) [ ]
     go false e = sym e
 
 -- a loop that compares element by element: what it has found so far, and what is left to compare

@@ -34,14 +34,14 @@ pub fn be32(x: u32) -> [u8; 4]
 
 // The number that two bytes hold, high byte first.
 pub fn from_be16(a: u8, b: u8) -> u16
-    ensures { result ≡ Numbers.fromBe16 a b }
+    ensures { result ≡ Numbers.from_be16 a b }
 {
     (a as u16) * 0x100 + (b as u16)
 }
 
 // The number that four bytes hold, high byte first.
 pub fn from_be32(a: u8, b: u8, c: u8, d: u8) -> u32
-    ensures { result ≡ Numbers.fromBe32 a b c d }
+    ensures { result ≡ Numbers.from_be32 a b c d }
 {
     (a as u32) * 0x1000000 + (b as u32) * 0x10000 + (c as u32) * 0x100 + (d as u32)
 }

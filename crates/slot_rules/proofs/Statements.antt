@@ -9,24 +9,24 @@ use lib.Dec.{ltb}
 use lib.ListN.{length, get_or, set, replicate}
 use lib.Seq.{get_or-set_same, get_or-set_other}
 use Rattle.slices.proofs.Truth.{and_left}
-use Rattle.refusal.specs.Checks.{Reason, Check, pass, refuse, bare, unless, ◌andThen◌}
-use Rattle.refusal.specs.Answers.{Answer, returned, refused, answerTo, afterCheck}
-use Rattle.refusal.proofs.Passing.{last-passed, test-passed, test-holds}
+use Rattle.refusal.specs.Checks.{Reason, Check, pass, refuse, bare, unless, ◌and_then◌}
+use Rattle.refusal.specs.Answers.{Answer, returned, refused, answer_to, after_check}
+use Rattle.refusal.proofs.Passing.{last-passed, test_passed, test_holds}
 use Rattle.slot_rules.specs.declared.Parent.{Parent}
-use Rattle.slot_rules.specs.Table.{Slot, free, holding, lowestFree, liveCount, isHolding, isLive, countGone}
-use Rattle.slot_rules.specs.Parents.{Key, reaches, goesWith, parentLive, rootNear}
-use Rattle.slot_rules.specs.Calls.{check46, check47, check48, check49, putCheck, putAnswer, putTable, dropAnswer, dropTable}
+use Rattle.slot_rules.specs.Table.{Slot, free, holding, lowestFree, liveCount, isHolding, isLive, count_gone}
+use Rattle.slot_rules.specs.Parents.{Key, reaches, goes_with, parent_live, root_near}
+use Rattle.slot_rules.specs.Calls.{check46, check47, check48, check49, put_check, put_answer, put_table, drop_answer, drop_table}
 use Rattle.slot_rules.specs.Statements.{
   Call,
   puts,
   drops,
   empty,
   after,
-  afterAll,
-  onePut,
+  after_all,
+  one_put,
   gone,
-  putBy,
-  goneBy,
+  put_by,
+  gone_by,
   accepted,
   went,
   LiveCount,
@@ -41,49 +41,49 @@ use Rattle.slot_rules.specs.Statements.{
   DropExactly,
   ZerosAreEmpty,
 }
-use Rattle.slot_rules.proofs.Words.{empty-law}
-use Rattle.slot_rules.proofs.Tables.{taken_more, freed-less, none-live, lowest-none, below-lowest, lowest-le, live-le, full-lowest}
+use Rattle.slot_rules.proofs.Words.{empty_law}
+use Rattle.slot_rules.proofs.Tables.{taken_more, freed-less, none_live, lowest-none, below-lowest, lowest-le, live-le, full-lowest}
 use Rattle.slot_rules.proofs.Sound.{rest, rest_at}
 
 -- ---- the live count
 
-goes-live : (t : List (Slot Key)) (n s : ℕ) → goesWith t n (0 + s) ≡ true → isHolding (get_or t s free) ≡ true
-unfolding goesWith
-goes-live t n s e =
+goes_live : (t : List (Slot Key)) (n s : ℕ) → goes_with t n (0 + s) ≡ true → isHolding (get_or t s free) ≡ true
+unfolding goes_with
+goes_live t n s e =
     let q : 0 + s ≡ s = omega arith in ap (λ (i : ℕ). isHolding (get_or t i free)) (sym q) ∙ and_left _ _ e
 
-room : (t : List (Slot Key)) (p : Parent) → putCheck t p ≡ pass → lowestFree t < length t
-unfolding putCheck check46
-room t p e = ltb-true _ _ (test-passed _ _ (last-passed (check48 t p and_then check49 t p) _ e))
+room : (t : List (Slot Key)) (p : Parent) → put_check t p ≡ pass → lowestFree t < length t
+unfolding put_check check46
+room t p e = ltb-true _ _ (test_passed _ _ (last-passed (check48 t p and_then check49 t p) _ e))
 
-step : (t : List (Slot Key)) (c : Call) → liveCount (after t c) + goneBy t c ≡ putBy t c + liveCount t
-unfolding putTable putAnswer dropTable dropAnswer
-step t (puts x p) = go (putCheck t p) refl
+step : (t : List (Slot Key)) (c : Call) → liveCount (after t c) + gone_by t c ≡ put_by t c + liveCount t
+unfolding put_table put_answer drop_table drop_answer
+step t (puts x p) = go (put_check t p) refl
   where
-    go : (c : Check) → putCheck t p ≡ c → liveCount (putTable t x p) + 0 ≡ onePut (putAnswer t p) + liveCount t
+    go : (c : Check) → put_check t p ≡ c → liveCount (put_table t x p) + 0 ≡ one_put (put_answer t p) + liveCount t
     go pass e = let h = taken_more t (record { name = x; parent = p }) (room t p e) in simp e (omega arith)
     go (refuse y) e = simp e (omega arith)
 step t (drops n) = go (check47 t n) refl
   where
-    go : (c : Check) → check47 t n ≡ c → liveCount (dropTable t n) + gone (dropAnswer t n) ≡ 0 + liveCount t
-    go pass e = let h = freed-less (goesWith t n) 0 t (λ i q. goes-live t n i q) in simp e (omega arith)
+    go : (c : Check) → check47 t n ≡ c → liveCount (drop_table t n) + gone (drop_answer t n) ≡ 0 + liveCount t
+    go pass e = let h = freed-less (goes_with t n) 0 t (λ i q. goes_live t n i q) in simp e (omega arith)
     go (refuse y) e = simp e (omega arith)
 
-any-calls : (t : List (Slot Key)) (calls : List Call) → liveCount (afterAll t calls) + went t calls ≡ accepted t calls + liveCount t
-unfolding afterAll accepted went
-any-calls t [] = omega arith
-any-calls t (c ∷ calls) = let h = any-calls (after t c) calls in let s = step t c in omega arith
+any_calls : (t : List (Slot Key)) (calls : List Call) → liveCount (after_all t calls) + went t calls ≡ accepted t calls + liveCount t
+unfolding after_all accepted went
+any_calls t [] = omega arith
+any_calls t (c ∷ calls) = let h = any_calls (after t c) calls in let s = step t c in omega arith
 
-pub live-count : LiveCount
-live-count calls = let h = any-calls empty calls in let z = none-live Key 64 in omega arith
+pub live_count : LiveCount
+live_count calls = let h = any_calls empty calls in let z = none_live Key 64 in omega arith
 
 -- ---- an answer, and the tests that it tells of
 
-tests-passed : (c : Check) (n i : ℕ) → answerTo c n ≡ returned i → (c ≡ pass) × (n ≡ i)
+tests-passed : (c : Check) (n i : ℕ) → answer_to c n ≡ returned i → (c ≡ pass) × (n ≡ i)
 tests-passed pass n i e = (refl, cc)
 tests-passed (refuse y) n i e = let z : ◌≡◌ {A = ℕ} 0 1 = cc (sym e) in absurd (omega arith)
 
-refused-before : {T : Type 0} (c : Check) (n : ℕ) (y : Reason) (after before : T) → answerTo c n ≡ refused y → afterCheck c after before ≡ before
+refused-before : {T : Type 0} (c : Check) (n : ℕ) (y : Reason) (after before : T) → answer_to c n ≡ refused y → after_check c after before ≡ before
 refused-before pass n y after before e = let z : ◌≡◌ {A = ℕ} 0 1 = cc (sym e) in absurd (omega arith)
 refused-before (refuse x) n y after before e = refl
 
@@ -98,121 +98,121 @@ not_full t e = let f = full-lowest t e in let h : length t ≤ lowestFree t = om
 
 -- the answer of a put, by its three tests in their order
 said : (a b c : Bool) → ℕ → Answer
-said a b c n = answerTo (unless a (bare 48) and_then unless b (bare 49) and_then unless c (bare 46)) n
+said a b c n = answer_to (unless a (bare 48) and_then unless b (bare 49) and_then unless c (bare 46)) n
 
-said-48 : (a b c : Bool) (n : ℕ) → said a b c n ≡ refused (bare 48) → a ≡ false
-unfolding said unless ◌andThen◌
-said-48 true true true n e = let z : ◌≡◌ {A = ℕ} 0 1 = cc (sym e) in absurd (omega arith)
-said-48 true true false n e = let z : ◌≡◌ {A = ℕ} 46 48 = cc in absurd (omega arith)
-said-48 true false c n e = let z : ◌≡◌ {A = ℕ} 49 48 = cc in absurd (omega arith)
-said-48 false b c n e = refl
+said_48 : (a b c : Bool) (n : ℕ) → said a b c n ≡ refused (bare 48) → a ≡ false
+unfolding said unless ◌and_then◌
+said_48 true true true n e = let z : ◌≡◌ {A = ℕ} 0 1 = cc (sym e) in absurd (omega arith)
+said_48 true true false n e = let z : ◌≡◌ {A = ℕ} 46 48 = cc in absurd (omega arith)
+said_48 true false c n e = let z : ◌≡◌ {A = ℕ} 49 48 = cc in absurd (omega arith)
+said_48 false b c n e = refl
 
-said-49 : (a b c : Bool) (n : ℕ) → said a b c n ≡ refused (bare 49) → (a ≡ true) × (b ≡ false)
-unfolding said unless ◌andThen◌
-said-49 true true true n e = let z : ◌≡◌ {A = ℕ} 0 1 = cc (sym e) in absurd (omega arith)
-said-49 true true false n e = let z : ◌≡◌ {A = ℕ} 46 49 = cc in absurd (omega arith)
-said-49 true false c n e = (refl, refl)
-said-49 false b c n e = let z : ◌≡◌ {A = ℕ} 48 49 = cc in absurd (omega arith)
+said_49 : (a b c : Bool) (n : ℕ) → said a b c n ≡ refused (bare 49) → (a ≡ true) × (b ≡ false)
+unfolding said unless ◌and_then◌
+said_49 true true true n e = let z : ◌≡◌ {A = ℕ} 0 1 = cc (sym e) in absurd (omega arith)
+said_49 true true false n e = let z : ◌≡◌ {A = ℕ} 46 49 = cc in absurd (omega arith)
+said_49 true false c n e = (refl, refl)
+said_49 false b c n e = let z : ◌≡◌ {A = ℕ} 48 49 = cc in absurd (omega arith)
 
-said-46 : (a b c : Bool) (n : ℕ) → said a b c n ≡ refused (bare 46) → (a ≡ true) × (b ≡ true) × (c ≡ false)
-unfolding said unless ◌andThen◌
-said-46 true true true n e = let z : ◌≡◌ {A = ℕ} 0 1 = cc (sym e) in absurd (omega arith)
-said-46 true true false n e = (refl, refl, refl)
-said-46 true false c n e = let z : ◌≡◌ {A = ℕ} 49 46 = cc in absurd (omega arith)
-said-46 false b c n e = let z : ◌≡◌ {A = ℕ} 48 46 = cc in absurd (omega arith)
+said_46 : (a b c : Bool) (n : ℕ) → said a b c n ≡ refused (bare 46) → (a ≡ true) × (b ≡ true) × (c ≡ false)
+unfolding said unless ◌and_then◌
+said_46 true true true n e = let z : ◌≡◌ {A = ℕ} 0 1 = cc (sym e) in absurd (omega arith)
+said_46 true true false n e = (refl, refl, refl)
+said_46 true false c n e = let z : ◌≡◌ {A = ℕ} 49 46 = cc in absurd (omega arith)
+said_46 false b c n e = let z : ◌≡◌ {A = ℕ} 48 46 = cc in absurd (omega arith)
 
-said-wrote : (a b c : Bool) (n i : ℕ) → said a b c n ≡ returned i → (c ≡ true) × (n ≡ i)
-unfolding said unless ◌andThen◌
-said-wrote true true true n i e = (refl, cc)
-said-wrote true true false n i e = let z : ◌≡◌ {A = ℕ} 0 1 = cc (sym e) in absurd (omega arith)
-said-wrote true false c n i e = let z : ◌≡◌ {A = ℕ} 0 1 = cc (sym e) in absurd (omega arith)
-said-wrote false b c n i e = let z : ◌≡◌ {A = ℕ} 0 1 = cc (sym e) in absurd (omega arith)
+said_wrote : (a b c : Bool) (n i : ℕ) → said a b c n ≡ returned i → (c ≡ true) × (n ≡ i)
+unfolding said unless ◌and_then◌
+said_wrote true true true n i e = (refl, cc)
+said_wrote true true false n i e = let z : ◌≡◌ {A = ℕ} 0 1 = cc (sym e) in absurd (omega arith)
+said_wrote true false c n i e = let z : ◌≡◌ {A = ℕ} 0 1 = cc (sym e) in absurd (omega arith)
+said_wrote false b c n i e = let z : ◌≡◌ {A = ℕ} 0 1 = cc (sym e) in absurd (omega arith)
 
 pub put_refused : PutRefused
-unfolding putAnswer putCheck check46 check48 check49 said unless ◌andThen◌
+unfolding put_answer put_check check46 check48 check49 said unless ◌and_then◌
 put_refused t p =
-    let a = parentLive t p in
-    let b = rootNear t p in
+    let a = parent_live t p in
+    let b = root_near t p in
     let c = ltb (lowestFree t) (length t) in
     let n = lowestFree t in (
-      said-48 a b c n,
+      said_48 a b c n,
       λ e. rw e,
-      said-49 a b c n,
+      said_49 a b c n,
       λ e f. rw e (rw f),
-      λ e. let h = said-46 a b c n e in (h.0, h.1, full t h.2),
+      λ e. let h = said_46 a b c n e in (h.0, h.1, full t h.2),
       λ e f q. rw e (rw f (rw (not_full t q))),
     )
 
 -- a slot is free where not all are counted
-free-left : {X : Type 0} (t : List (Slot X)) → liveCount t < length t → ltb (lowestFree t) (length t) ≡ true
-free-left t h = let a = lowest-le t in let b : lowestFree t < length t = omega arith in lt-ltb _ _ b
+free_left : {X : Type 0} (t : List (Slot X)) → liveCount t < length t → ltb (lowestFree t) (length t) ≡ true
+free_left t h = let a = lowest-le t in let b : lowestFree t < length t = omega arith in lt-ltb _ _ b
 
-pub put-accepted : PutAccepted
-unfolding putAnswer putCheck check46 check48 check49 unless ◌andThen◌
-put-accepted t p e f h = rw e (rw f (rw (free-left t h)))
+pub put_accepted : PutAccepted
+unfolding put_answer put_check check46 check48 check49 unless ◌and_then◌
+put_accepted t p e f h = rw e (rw f (rw (free_left t h)))
 
-pub no-such-slot-exactly : NoSuchSlotExactly
-unfolding dropAnswer check47 unless
-no-such-slot-exactly t n = (go (isLive t n) refl, λ e. simp e)
+pub no_such_slot_exactly : NoSuchSlotExactly
+unfolding drop_answer check47 unless
+no_such_slot_exactly t n = (go (isLive t n) refl, λ e. simp e)
   where
-    go : (b : Bool) → isLive t n ≡ b → dropAnswer t n ≡ refused (bare 47) → isLive t n ≡ false
+    go : (b : Bool) → isLive t n ≡ b → drop_answer t n ≡ refused (bare 47) → isLive t n ≡ false
     go true e f = let z : ◌≡◌ {A = ℕ} 0 1 = cc (sym (rw e at f)) in absurd (omega arith)
     go false e f = e
 
 -- ---- the slot that a put takes
 
-pub lowest-taken : LowestTaken
-unfolding putAnswer putCheck check46 check48 check49 said
-lowest-taken t p i e =
-    let h = said-wrote (parentLive t p) (rootNear t p) (ltb (lowestFree t) (length t)) (lowestFree t) i e in
+pub lowest_taken : LowestTaken
+unfolding put_answer put_check check46 check48 check49 said
+lowest_taken t p i e =
+    let h = said_wrote (parent_live t p) (root_near t p) (ltb (lowestFree t) (length t)) (lowestFree t) i e in
     let inside : lowestFree t < length t = ltb-true _ _ h.0 in
     (rw h.1 at inside, rw h.1 at (ap isHolding (lowest-none t)), λ j g. below-lowest t j (rw h.1 g))
 
-pub put-kept : PutKept
-unfolding putTable putAnswer
-put-kept t x p i e =
+pub put_kept : PutKept
+unfolding put_table put_answer
+put_kept t x p i e =
     let k : Key = record { name = x; parent = p } in
-    let h = tests-passed (putCheck t p) (lowestFree t) i e in
-    ap (λ (c : Check). get_or (afterCheck c (set t (lowestFree t) (holding k)) t) i free) h.0
+    let h = tests-passed (put_check t p) (lowestFree t) i e in
+    ap (λ (c : Check). get_or (after_check c (set t (lowestFree t) (holding k)) t) i free) h.0
     ∙ ap (λ (j : ℕ). get_or (set t (lowestFree t) (holding k)) j free) (sym h.1)
     ∙ get_or-set_same t (lowestFree t) (holding k) free (room t p h.0)
 
 -- ---- nothing else changes
 
-pub others-stay : OthersStay
-unfolding putTable
-others-stay t x p j h = go (putCheck t p) refl
+pub others_stay : OthersStay
+unfolding put_table
+others_stay t x p j h = go (put_check t p) refl
   where
-    go : (c : Check) → putCheck t p ≡ c → get_or (putTable t x p) j free ≡ get_or t j free
+    go : (c : Check) → put_check t p ≡ c → get_or (put_table t x p) j free ≡ get_or t j free
     go pass e = simp e (get_or-set_other t (lowestFree t) j (holding (record { name = x; parent = p })) free h)
     go (refuse y) e = simp e
 
-pub refused-stays : RefusedStays
-unfolding putTable putAnswer dropTable dropAnswer
-refused-stays t = (
-  λ x p y e. refused-before (putCheck t p) (lowestFree t) y _ t e,
-  λ n y e. refused-before (check47 t n) (countGone (goesWith t n) 0 (length t)) y _ t e,
+pub refused_stays : RefusedStays
+unfolding put_table put_answer drop_table drop_answer
+refused_stays t = (
+  λ x p y e. refused-before (put_check t p) (lowestFree t) y _ t e,
+  λ n y e. refused-before (check47 t n) (count_gone (goes_with t n) 0 (length t)) y _ t e,
 )
 
 pub drop-counted : DropCounted
-unfolding dropTable dropAnswer check47
+unfolding drop_table drop_answer check47
 drop-counted t n live = (
-  rw (test-holds (isLive t n) (bare 47) live),
-  rw (test-holds (isLive t n) (bare 47) live) (freed-less (goesWith t n) 0 t (λ i q. goes-live t n i q)),
+  rw (test_holds (isLive t n) (bare 47) live),
+  rw (test_holds (isLive t n) (bare 47) live) (freed-less (goes_with t n) 0 t (λ i q. goes_live t n i q)),
 )
 
-pub drop-exactly : DropExactly
-unfolding dropTable check47 goesWith reaches rest
-drop-exactly t n live = (itself, λ s e. at s true e, λ s e. at s false e)
+pub drop_exactly : DropExactly
+unfolding drop_table check47 goes_with reaches rest
+drop_exactly t n live = (itself, λ s e. at s true e, λ s e. at s false e)
   where
     passes : check47 t n ≡ pass
-    passes = test-holds _ _ live
+    passes = test_holds _ _ live
 
-    itself : goesWith t n n ≡ true
+    itself : goes_with t n n ≡ true
     itself = simp (live, eq-eqb n n refl)
 
-    at : (s : ℕ) (b : Bool) → goesWith t n s ≡ b → get_or (dropTable t n) s free ≡ cond b free (get_or t s free)
+    at : (s : ℕ) (b : Bool) → goes_with t n s ≡ b → get_or (drop_table t n) s free ≡ cond b free (get_or t s free)
     at s b e = simp passes (rest_at t n s ∙ ap (λ (x : Bool). cond x free (get_or t s free)) e)
 
-pub zeros-are-empty : ZerosAreEmpty
-zeros-are-empty X held l = empty-law held ∙ ap (λ (n : ℕ). replicate n free) l
+pub zeros_are_empty : ZerosAreEmpty
+zeros_are_empty X held l = empty_law held ∙ ap (λ (n : ℕ). replicate n free) l

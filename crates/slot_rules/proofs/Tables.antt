@@ -5,7 +5,7 @@ use mathlib.Core.List.{List, [], ◌∷◌}
 use Prim.Native.Nat.{ℕ, zero, suc, ◌+◌, ◌≤◌, ◌<◌}
 use native.Mathlib.Omega.{arith}
 use lib.ListN.{length, get_or, set, replicate}
-use Rattle.slot_rules.specs.Table.{Slot, free, holding, lowestFree, liveCount, isHolding, isLive, freed, countGone, bit}
+use Rattle.slot_rules.specs.Table.{Slot, free, holding, lowestFree, liveCount, isHolding, isLive, freed, count_gone, bit}
 
 module _ {X : Type 0} where
   -- a slot taken counts one more
@@ -17,16 +17,16 @@ module _ {X : Type 0} where
 
   -- freed slots that were live are counted once
   pub freed-less : (goes : ℕ → Bool) (at : ℕ) (t : List (Slot X)) → ((i : ℕ) → goes (at + i) ≡ true → isHolding (get_or t i free) ≡ true)
-      → liveCount (freed goes at t) + countGone goes at (length t) ≡ liveCount t
-  unfolding freed countGone liveCount
+      → liveCount (freed goes at t) + count_gone goes at (length t) ≡ liveCount t
+  unfolding freed count_gone liveCount
   freed-less goes at [] h = refl
   freed-less goes at (x ∷ t) h =
       let ih = freed-less goes (suc at) t (λ i e. let q : at + suc i ≡ suc at + i = omega arith in h (suc i) (ap goes q ∙ e)) in
       go x (goes at) (λ e. let q : at + 0 ≡ at = omega arith in h 0 (ap goes q ∙ e)) ih
     where
       go : (x : Slot X) (b : Bool) → (b ≡ true → isHolding x ≡ true)
-          → liveCount (freed goes (suc at) t) + countGone goes (suc at) (length t) ≡ liveCount t
-          → liveCount (cond b free x ∷ freed goes (suc at) t) + (bit b + countGone goes (suc at) (length t)) ≡ liveCount (x ∷ t)
+          → liveCount (freed goes (suc at) t) + count_gone goes (suc at) (length t) ≡ liveCount t
+          → liveCount (cond b free x ∷ freed goes (suc at) t) + (bit b + count_gone goes (suc at) (length t)) ≡ liveCount (x ∷ t)
       go free true f ih = absurd (false≢true (f refl))
       go free false f ih = omega arith
       go (holding k) true f ih = omega arith
@@ -77,7 +77,7 @@ module _ {X : Type 0} where
   full-lowest (free ∷ t) e = let h = live-le t in absurd (omega arith)
   full-lowest (holding x ∷ t) e = let f : liveCount t ≡ length t = omega arith in ap suc (full-lowest t f)
 
-pub none-live : (X : Type 0) (n : ℕ) → liveCount (replicate {A = Slot X} n free) ≡ 0
+pub none_live : (X : Type 0) (n : ℕ) → liveCount (replicate {A = Slot X} n free) ≡ 0
 unfolding liveCount
-none-live X zero = refl
-none-live X (suc n) = none-live X n
+none_live X zero = refl
+none_live X (suc n) = none_live X n

@@ -7,36 +7,36 @@ use native.Mathlib.Nat.{pow-suc, mod-lt, zero-lt-suc}
 use native.Mathlib.Omega.{arith}
 use lib.Bits.{bit_and, bit_or, or_mod, or_shr, or_zero_r, and_mod, and_shr}
 use lib.ListN.{length, set, replicate}
-use Rattle.slot_rules.specs.Table.{Slot, free, holding, slot_of, slotsFrom, freed, bit, wordGone}
+use Rattle.slot_rules.specs.Table.{Slot, free, holding, slot_of, slotsFrom, freed, bit, word_gone}
 
-pub length-slots : {X : Type 0} (held : List X) (w : ℕ) → length (slotsFrom w held) ≡ length held
+pub length_slots : {X : Type 0} (held : List X) (w : ℕ) → length (slotsFrom w held) ≡ length held
 unfolding slotsFrom
-length-slots [] w = refl
-length-slots (x ∷ held) w = ap suc (length-slots held (w / 2))
+length_slots [] w = refl
+length_slots (x ∷ held) w = ap suc (length_slots held (w / 2))
 
 -- ---- a bit set
 
-or-one : (d : ℕ) → d < 2 → bit_or d 1 ≡ 1
-or-one zero h = refl
-or-one (suc zero) h = refl
-or-one (suc (suc d)) h = absurd (omega arith)
+or_one : (d : ℕ) → d < 2 → bit_or d 1 ≡ 1
+or_one zero h = refl
+or_one (suc zero) h = refl
+or_one (suc (suc d)) h = absurd (omega arith)
 
-pub put-law : {X : Type 0} (held : List X) (w i : ℕ) (x : X) → i < length held
+pub put_law : {X : Type 0} (held : List X) (w i : ℕ) (x : X) → i < length held
     → slotsFrom (bit_or w (2 ^ i)) (set held i x) ≡ set (slotsFrom w held) i (holding x)
 unfolding slotsFrom
-put-law [] w i x h = absurd (omega arith)
-put-law (y ∷ held) w zero x h =
+put_law [] w i x h = absurd (omega arith)
+put_law (y ∷ held) w zero x h =
     ap₂ (λ (d v : ℕ). slot_of d x ∷ slotsFrom v held)
-    (or_mod w 1 1 ∙ or-one (w % 2) (mod-lt w (zero-lt-suc 1)))
+    (or_mod w 1 1 ∙ or_one (w % 2) (mod-lt w (zero-lt-suc 1)))
     (or_shr w 1 1 ∙ or_zero_r (w / 2))
-put-law (y ∷ held) w (suc i) x h =
+put_law (y ∷ held) w (suc i) x h =
     let e = pow-suc 2 i in
     let even : 2 ^ suc i % 2 ≡ 0 = omega arith in
     let half : 2 ^ suc i / 2 ≡ 2 ^ i = omega arith in
     ap₂ (λ (d v : ℕ). slot_of d y ∷ slotsFrom v (set held i x))
     (or_mod w (2 ^ suc i) 1 ∙ ap (bit_or (w % 2)) even ∙ or_zero_r (w % 2))
     (or_shr w (2 ^ suc i) 1 ∙ ap (bit_or (w / 2)) half)
-    ∙ ap (λ (s : List (Slot _)). slot_of (w % 2) y ∷ s) (put-law held (w / 2) i x (omega arith))
+    ∙ ap (λ (s : List (Slot _)). slot_of (w % 2) y ∷ s) (put_law held (w / 2) i x (omega arith))
 
 -- ---- bits cleared
 
@@ -52,8 +52,8 @@ pub bit-lt : (b : Bool) → bit b < 2
 bit-lt true = omega arith
 bit-lt false = omega arith
 
-pub word_lt : (goes : ℕ → Bool) (at n : ℕ) → wordGone goes at n < 2 ^ n
-unfolding wordGone
+pub word_lt : (goes : ℕ → Bool) (at n : ℕ) → word_gone goes at n < 2 ^ n
+unfolding word_gone
 word_lt goes at zero = omega arith
 word_lt goes at (suc n) =
     let h = word_lt goes (suc at) n in
@@ -61,17 +61,17 @@ word_lt goes at (suc n) =
     let d = bit-lt (goes at) in
     omega arith
 
-slot-cond : {X : Type 0} (x : X) (b : Bool) (d : ℕ) → slot_of (cond b 0 d) x ≡ cond b free (slot_of d x)
-slot-cond x true d = refl
-slot-cond x false d = refl
+slot_cond : {X : Type 0} (x : X) (b : Bool) (d : ℕ) → slot_of (cond b 0 d) x ≡ cond b free (slot_of d x)
+slot_cond x true d = refl
+slot_cond x false d = refl
 
-pub freed-law : {X : Type 0} (goes : ℕ → Bool) (held : List X) (w at : ℕ)
-    → slotsFrom (bit_and w ((2 ^ length held - 1) - wordGone goes at (length held))) held ≡ freed goes at (slotsFrom w held)
-unfolding slotsFrom freed wordGone
-freed-law goes [] w at = refl
-freed-law goes (y ∷ held) w at =
+pub freed_law : {X : Type 0} (goes : ℕ → Bool) (held : List X) (w at : ℕ)
+    → slotsFrom (bit_and w ((2 ^ length held - 1) - word_gone goes at (length held))) held ≡ freed goes at (slotsFrom w held)
+unfolding slotsFrom freed word_gone
+freed_law goes [] w at = refl
+freed_law goes (y ∷ held) w at =
     let k = length held in
-    let g = wordGone goes (suc at) k in
+    let g = word_gone goes (suc at) k in
     let b = word_lt goes (suc at) k in
     let e = pow-suc 2 k in
     let d = bit-lt (goes at) in
@@ -80,10 +80,10 @@ freed-law goes (y ∷ held) w at =
     ap₂ (λ (d v : ℕ). slot_of d y ∷ slotsFrom v held)
     (and_mod w ((2 ^ suc k - 1) - (g * 2 + bit (goes at))) 1 ∙ ap (bit_and (w % 2)) odd ∙ cleared (w % 2) (goes at) (mod-lt w (zero-lt-suc 1)))
     (and_shr w ((2 ^ suc k - 1) - (g * 2 + bit (goes at))) 1 ∙ ap (bit_and (w / 2)) half)
-    ∙ ap₂ (λ (s : Slot _) (t : List (Slot _)). s ∷ t) (slot-cond y (goes at) (w % 2)) (freed-law goes held (w / 2) (suc at))
+    ∙ ap₂ (λ (s : Slot _) (t : List (Slot _)). s ∷ t) (slot_cond y (goes at) (w % 2)) (freed_law goes held (w / 2) (suc at))
 
 -- no bit set: all slots are free
-pub empty-law : {X : Type 0} (held : List X) → slotsFrom 0 held ≡ replicate (length held) free
+pub empty_law : {X : Type 0} (held : List X) → slotsFrom 0 held ≡ replicate (length held) free
 unfolding slotsFrom
-empty-law [] = refl
-empty-law (x ∷ held) = ap (λ (t : List (Slot _)). free ∷ t) (empty-law held)
+empty_law [] = refl
+empty_law (x ∷ held) = ap (λ (t : List (Slot _)). free ∷ t) (empty_law held)

@@ -1,11 +1,11 @@
 -- The calls on a table of slots (document 02, requests 12 and 13): what each answers, and the table after it. An accepted call answers a number.
 use Rattle.std.specs.Prelude.{ℕ, List, ltb, length, set}
-use Rattle.refusal.specs.Checks.{Check, bare, unless, ◌andThen◌}
-use Rattle.refusal.specs.Answers.{Answer, answerTo, afterCheck}
+use Rattle.refusal.specs.Checks.{Check, bare, unless, ◌and_then◌}
+use Rattle.refusal.specs.Answers.{Answer, answer_to, after_check}
 use Rattle.slot_rules.specs.declared.Name.{Name}
 use Rattle.slot_rules.specs.declared.Parent.{Parent}
-use Rattle.slot_rules.specs.Table.{Slot, holding, lowestFree, isLive, freed, countGone}
-use Rattle.slot_rules.specs.Parents.{Key, goesWith, parentLive, rootNear}
+use Rattle.slot_rules.specs.Table.{Slot, holding, lowestFree, isLive, freed, count_gone}
+use Rattle.slot_rules.specs.Parents.{Key, goes_with, parent_live, root_near}
 
 module _ {X : Type 0} where
   -- 46: all slots are taken
@@ -18,25 +18,25 @@ module _ {X : Type 0} where
 
 -- 48: the parent is neither none nor a live slot
 unfoldable pub check48 : List (Slot Key) → Parent → Check
-check48 t p = unless (parentLive t p) (bare 48)
+check48 t p = unless (parent_live t p) (bare 48)
 
 -- 49: from the parent, no root within two steps through live slots
 unfoldable pub check49 : List (Slot Key) → Parent → Check
-check49 t p = unless (rootNear t p) (bare 49)
+check49 t p = unless (root_near t p) (bare 49)
 
 -- a put takes the lowest free slot, keeps name and parent there, and returns its number
-unfoldable pub putCheck : List (Slot Key) → Parent → Check
-putCheck t p = check48 t p and_then check49 t p and_then check46 t
+unfoldable pub put_check : List (Slot Key) → Parent → Check
+put_check t p = check48 t p and_then check49 t p and_then check46 t
 
-unfoldable pub putAnswer : List (Slot Key) → Parent → Answer
-putAnswer t p = answerTo (putCheck t p) (lowestFree t)
+unfoldable pub put_answer : List (Slot Key) → Parent → Answer
+put_answer t p = answer_to (put_check t p) (lowestFree t)
 
-unfoldable pub putTable : List (Slot Key) → Name → Parent → List (Slot Key)
-putTable t x p = afterCheck (putCheck t p) (set t (lowestFree t) (holding (record { name = x; parent = p }))) t
+unfoldable pub put_table : List (Slot Key) → Name → Parent → List (Slot Key)
+put_table t x p = after_check (put_check t p) (set t (lowestFree t) (holding (record { name = x; parent = p }))) t
 
 -- a drop frees its slot and all that descend from it, and returns how many went
-unfoldable pub dropAnswer : List (Slot Key) → ℕ → Answer
-dropAnswer t n = answerTo (check47 t n) (countGone (goesWith t n) 0 (length t))
+unfoldable pub drop_answer : List (Slot Key) → ℕ → Answer
+drop_answer t n = answer_to (check47 t n) (count_gone (goes_with t n) 0 (length t))
 
-unfoldable pub dropTable : List (Slot Key) → ℕ → List (Slot Key)
-dropTable t n = afterCheck (check47 t n) (freed (goesWith t n) 0 t) t
+unfoldable pub drop_table : List (Slot Key) → ℕ → List (Slot Key)
+drop_table t n = after_check (check47 t n) (freed (goes_with t n) 0 t) t

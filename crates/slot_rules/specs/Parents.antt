@@ -20,41 +20,41 @@ up t Root = Root
 up t (Below n) = parent_in (get_or t n free)
 
 -- whether a step came to slot n
-abbrev pub isSlot : ℕ → Parent → Bool
-isSlot n Root = false
-isSlot n (Below m) = eqb m n
+abbrev pub is_slot : ℕ → Parent → Bool
+is_slot n Root = false
+is_slot n (Below m) = eqb m n
 
 -- from a place, at most k steps through live slots come to slot n
 unfoldable pub reaches : ℕ → List (Slot Key) → ℕ → Parent → Bool
-reaches zero t n x = isSlot n x
-reaches (suc k) t n x = isSlot n x || reaches k t n (up t x)
+reaches zero t n x = is_slot n x
+reaches (suc k) t n x = is_slot n x || reaches k t n (up t x)
 
 -- those that a drop of n takes: the live slots that are n, or from which one to three steps through live ones reach it
-unfoldable pub goesWith : List (Slot Key) → ℕ → ℕ → Bool
-goesWith t n s = isLive t s && reaches 3 t n (Below s)
+unfoldable pub goes_with : List (Slot Key) → ℕ → ℕ → Bool
+goes_with t n s = isLive t s && reaches 3 t n (Below s)
 
 abbrev pub is_none : Parent → Bool
 is_none Root = true
 is_none (Below n) = false
 
-abbrev pub isRoot : Slot Key → Bool
-isRoot free = false
-isRoot (holding k) = is_none k.parent
+abbrev pub is_root : Slot Key → Bool
+is_root free = false
+is_root (holding k) = is_none k.parent
 
-abbrev pub rootAt : List (Slot Key) → Parent → Bool
-rootAt t Root = false
-rootAt t (Below n) = isRoot (get_or t n free)
+abbrev pub root_at : List (Slot Key) → Parent → Bool
+root_at t Root = false
+root_at t (Below n) = is_root (get_or t n free)
 
 -- from a place, at most k steps through live slots come to a root
-unfoldable pub rootWithin : ℕ → List (Slot Key) → Parent → Bool
-rootWithin zero t x = rootAt t x
-rootWithin (suc k) t x = rootAt t x || rootWithin k t (up t x)
+unfoldable pub root_within : ℕ → List (Slot Key) → Parent → Bool
+root_within zero t x = root_at t x
+root_within (suc k) t x = root_at t x || root_within k t (up t x)
 
 -- whether a parent is none or a live slot, and whether it is none or has a root within two steps
-abbrev pub parentLive : List (Slot Key) → Parent → Bool
-parentLive t Root = true
-parentLive t (Below p) = isLive t p
+abbrev pub parent_live : List (Slot Key) → Parent → Bool
+parent_live t Root = true
+parent_live t (Below p) = isLive t p
 
-abbrev pub rootNear : List (Slot Key) → Parent → Bool
-rootNear t Root = true
-rootNear t (Below p) = rootWithin 2 t (Below p)
+abbrev pub root_near : List (Slot Key) → Parent → Bool
+root_near t Root = true
+root_near t (Below p) = root_within 2 t (Below p)

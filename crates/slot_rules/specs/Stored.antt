@@ -1,14 +1,14 @@
 -- How `Slots` holds a table of slots, and what each call leaves in it, the names and parents of free slots included.
 use Rattle.std.specs.Prelude.{ℕ, ◌-◌, ◌^◌, ◌<◌, ◌≡◌, cond, List, [], ◌∷◌, eqb, length, set}
 use Rattle.std.specs.Int.Bits.{bit_and, bit_or}
-use Rattle.refusal.specs.Answers.{afterCheck}
+use Rattle.refusal.specs.Answers.{after_check}
 use Rattle.slot_rules.specs.declared.Name.{Name}
 use Rattle.slot_rules.specs.declared.Slots.{Slots}
 use Rattle.slot_rules.specs.declared.Parent.{Parent}
 use Rattle.slot_rules.specs.declared.Parent.TheVariants.{Root, Below}
-use Rattle.slot_rules.specs.Table.{Slot, slotsFrom, lowestFree, wordGone}
-use Rattle.slot_rules.specs.Parents.{Key, goesWith}
-use Rattle.slot_rules.specs.Calls.{check47, putCheck}
+use Rattle.slot_rules.specs.Table.{Slot, slotsFrom, lowestFree, word_gone}
+use Rattle.slot_rules.specs.Parents.{Key, goes_with}
+use Rattle.slot_rules.specs.Calls.{check47, put_check}
 
 -- what holds of every `Slots` of the code and of C: a word of 64 bits, 64 names, 64 parents
 pub record Fits (s : Slots) : Type 0 where
@@ -41,11 +41,11 @@ abbrev pub freeing : Slots → ℕ → Slots
 freeing s gone = record { taken = bit_and s.taken ((2 ^ 64 - 1) - gone); names = s.names; parents = s.parents }
 
 -- the word of the slots that go with slot n
-abbrev pub goneWith : Slots → ℕ → ℕ
-goneWith s n = wordGone (goesWith (table_of s) n) 0 64
+abbrev pub gone_with : Slots → ℕ → ℕ
+gone_with s n = word_gone (goes_with (table_of s) n) 0 64
 
-unfoldable pub putStored : Slots → Name → Parent → Slots
-putStored s x p = afterCheck (putCheck (table_of s) p) (taking s (lowestFree (table_of s)) x p) s
+unfoldable pub put_stored : Slots → Name → Parent → Slots
+put_stored s x p = after_check (put_check (table_of s) p) (taking s (lowestFree (table_of s)) x p) s
 
-unfoldable pub dropStored : Slots → ℕ → Slots
-dropStored s n = afterCheck (check47 (table_of s) n) (freeing s (goneWith s n)) s
+unfoldable pub drop_stored : Slots → ℕ → Slots
+drop_stored s n = after_check (check47 (table_of s) n) (freeing s (gone_with s n)) s

@@ -48,10 +48,10 @@ abbrev pub bit : Bool → ℕ
 bit true = 1
 bit false = 0
 
-unfoldable pub countGone : (ℕ → Bool) → ℕ → ℕ → ℕ
-countGone goes at zero = 0
-countGone goes at (suc n) = bit (goes at) + countGone goes (suc at) n
+unfoldable pub count_gone : (ℕ → Bool) → ℕ → ℕ → ℕ
+count_gone goes at zero = 0
+count_gone goes at (suc n) = bit (goes at) + count_gone goes (suc at) n
 
-unfoldable pub wordGone : (ℕ → Bool) → ℕ → ℕ → ℕ
-wordGone goes at zero = 0
-wordGone goes at (suc n) = wordGone goes (suc at) n * 2 + bit (goes at)
+unfoldable pub word_gone : (ℕ → Bool) → ℕ → ℕ → ℕ
+word_gone goes at zero = 0
+word_gone goes at (suc n) = word_gone goes (suc at) n * 2 + bit (goes at)

@@ -11,13 +11,13 @@ use lib.Count.{ones, ones_step, count_trailing_zeros, under}
 use lib.Dec.{eqb}
 use lib.ListN.{length, get_or, length-map}
 use lib.Pow.{pow_mono, pow-lt, pow-add, shr-shr, field, mod-mod-pow}
-use Rattle.slot_rules.specs.Table.{Slot, free, slot_of, slotsFrom, lowestFree, liveCount, bit, countGone, wordGone}
+use Rattle.slot_rules.specs.Table.{Slot, free, slot_of, slotsFrom, lowestFree, liveCount, bit, count_gone, word_gone}
 use Rattle.slot_rules.proofs.Words.{bit-lt, word_lt}
-use Rattle.slots.specs.Internal.{hasBit}
+use Rattle.slots.specs.Internal.{has_bit}
 
 -- a list has the length of what is mapped from it
-pub length-mapped : (X Y : Type 0) (f : X → Y) (l : List X) (n : ℕ) → length (map f l) ≡ n → length l ≡ n
-length-mapped X Y f l n e = sym (length-map l f) ∙ e
+pub length_mapped : (X Y : Type 0) (f : X → Y) (l : List X) (n : ℕ) → length (map f l) ≡ n → length l ≡ n
+length_mapped X Y f l n e = sym (length-map l f) ∙ e
 
 -- ---- halves
 
@@ -25,11 +25,11 @@ half_lt : (k w : ℕ) → w < 2 ^ suc k → w / 2 < 2 ^ k
 half_lt k w h = let e = pow-suc 2 k in omega arith
 
 module _ (k w : ℕ) (h : w < 2 ^ suc k) where
-  not-odd : ((2 ^ suc k - 1) - w) % 2 ≡ 1 - w % 2
-  not-odd = let e = pow-suc 2 k in omega arith
+  not_odd : ((2 ^ suc k - 1) - w) % 2 ≡ 1 - w % 2
+  not_odd = let e = pow-suc 2 k in omega arith
 
-  not-half : ((2 ^ suc k - 1) - w) / 2 ≡ (2 ^ k - 1) - w / 2
-  not-half = let e = pow-suc 2 k in omega arith
+  not_half : ((2 ^ suc k - 1) - w) / 2 ≡ (2 ^ k - 1) - w / 2
+  not_half = let e = pow-suc 2 k in omega arith
 
 -- ---- a bit alone, and in halves of 32
 
@@ -37,8 +37,8 @@ module _ (k w : ℕ) (h : w < 2 ^ suc k) where
 pub mask_low : (i : ℕ) → i < 32 → 1 * 2 ^ i % 2 ^ 32 ≡ 2 ^ i
 mask_low i h = let e : 1 * 2 ^ i ≡ 2 ^ i = omega arith in ap (λ (n : ℕ). n % 2 ^ 32) e ∙ mod-eq_of_lt (pow-lt h)
 
-pub mask-high : (i : ℕ) → 32 ≤ i → i < 64 → 1 * 2 ^ (i - 32) % 2 ^ 32 * 2 ^ 32 ≡ 2 ^ i
-mask-high i l h =
+pub mask_high : (i : ℕ) → 32 ≤ i → i < 64 → 1 * 2 ^ (i - 32) % 2 ^ 32 * 2 ^ 32 ≡ 2 ^ i
+mask_high i l h =
     let k : i - 32 < 32 = omega arith in
     let e : (i - 32) + 32 ≡ i = omega arith in
     ap (λ (n : ℕ). n * 2 ^ 32) (mask_low (i - 32) k) ∙ sym (pow-add 2 (i - 32) 32) ∙ ap (λ (n : ℕ). 2 ^ n) e
@@ -57,14 +57,14 @@ high_bit w i h =
     let e : 32 + (i - 32) ≡ i = omega arith in
     ap (λ (n : ℕ). n % 2) (shr-shr w 32 (i - 32) ∙ ap (λ (n : ℕ). w / 2 ^ n) e)
 
-tested : (w i : ℕ) → i < 64 → eqb (w / 2 ^ i % 2) 1 ≡ hasBit w i
+tested : (w i : ℕ) → i < 64 → eqb (w / 2 ^ i % 2) 1 ≡ has_bit w i
 tested w i h = sym (ap (λ (b : Bool). b && eqb (w / 2 ^ i % 2) 1) (lt-ltb i 64 h))
 
-pub low-tested : (w i : ℕ) → i < 32 → eqb (w % 2 ^ 32 / 2 ^ i % 2) 1 ≡ hasBit w i
-low-tested w i h = let l : i < 64 = omega arith in ap (λ (d : ℕ). eqb d 1) (low_bit w i h) ∙ tested w i l
+pub low_tested : (w i : ℕ) → i < 32 → eqb (w % 2 ^ 32 / 2 ^ i % 2) 1 ≡ has_bit w i
+low_tested w i h = let l : i < 64 = omega arith in ap (λ (d : ℕ). eqb d 1) (low_bit w i h) ∙ tested w i l
 
-pub high-tested : (w i : ℕ) → 32 ≤ i → i < 64 → eqb (w / 2 ^ 32 / 2 ^ (i - 32) % 2) 1 ≡ hasBit w i
-high-tested w i l h = ap (λ (d : ℕ). eqb d 1) (high_bit w i l) ∙ tested w i h
+pub high_tested : (w i : ℕ) → 32 ≤ i → i < 64 → eqb (w / 2 ^ 32 / 2 ^ (i - 32) % 2) 1 ≡ has_bit w i
+high_tested w i l h = ap (λ (d : ℕ). eqb d 1) (high_bit w i l) ∙ tested w i h
 
 -- ---- a table of a word
 
@@ -75,33 +75,33 @@ lowest_step x (suc zero) t s h e = ap suc e
 lowest_step x (suc (suc d)) t s h e = absurd (omega arith)
 
 -- the zeros below the lowest zero bit are the slots below the lowest free one
-pub lowest-law : {X : Type 0} (held : List X) (w : ℕ) → w < 2 ^ length held
+pub lowest_law : {X : Type 0} (held : List X) (w : ℕ) → w < 2 ^ length held
     → count_trailing_zeros (length held) ((2 ^ length held - 1) - w) ≡ lowestFree (slotsFrom w held)
 unfolding count_trailing_zeros slotsFrom lowestFree
-lowest-law [] w h = refl
-lowest-law (x ∷ held) w h =
+lowest_law [] w h = refl
+lowest_law (x ∷ held) w h =
     let k = length held in
-    ap₂ under (not-odd k w h) (ap (count_trailing_zeros k) (not-half k w h))
-    ∙ lowest_step x (w % 2) _ (slotsFrom (w / 2) held) (mod-lt w (zero-lt-suc 1)) (lowest-law held (w / 2) (half_lt k w h))
+    ap₂ under (not_odd k w h) (ap (count_trailing_zeros k) (not_half k w h))
+    ∙ lowest_step x (w % 2) _ (slotsFrom (w / 2) held) (mod-lt w (zero-lt-suc 1)) (lowest_law held (w / 2) (half_lt k w h))
 
-live-step : {X : Type 0} (x : X) (d t : ℕ) (s : List (Slot X)) → d < 2 → t ≡ liveCount s → d + t ≡ liveCount (slot_of d x ∷ s)
+live_step : {X : Type 0} (x : X) (d t : ℕ) (s : List (Slot X)) → d < 2 → t ≡ liveCount s → d + t ≡ liveCount (slot_of d x ∷ s)
 unfolding liveCount
-live-step x zero t s h e = omega arith
-live-step x (suc zero) t s h e = omega arith
-live-step x (suc (suc d)) t s h e = absurd (omega arith)
+live_step x zero t s h e = omega arith
+live_step x (suc zero) t s h e = omega arith
+live_step x (suc (suc d)) t s h e = absurd (omega arith)
 
 -- the set bits are counted as the live slots are
-pub live-law : {X : Type 0} (held : List X) (w : ℕ) → w < 2 ^ length held → ones w ≡ liveCount (slotsFrom w held)
+pub live_law : {X : Type 0} (held : List X) (w : ℕ) → w < 2 ^ length held → ones w ≡ liveCount (slotsFrom w held)
 unfolding ones slotsFrom liveCount
-live-law [] w h = let e : w ≡ 0 = omega arith in ap ones e
-live-law (x ∷ held) w h =
-    ones_step w ∙ live-step x (w % 2) _ (slotsFrom (w / 2) held) (mod-lt w (zero-lt-suc 1)) (live-law held (w / 2) (half_lt (length held) w h))
+live_law [] w h = let e : w ≡ 0 = omega arith in ap ones e
+live_law (x ∷ held) w h =
+    ones_step w ∙ live_step x (w % 2) _ (slotsFrom (w / 2) held) (mod-lt w (zero-lt-suc 1)) (live_law held (w / 2) (half_lt (length held) w h))
 
-pub count_law : (goes : ℕ → Bool) (at n : ℕ) → ones (wordGone goes at n) ≡ countGone goes at n
-unfolding wordGone countGone ones
+pub count_law : (goes : ℕ → Bool) (at n : ℕ) → ones (word_gone goes at n) ≡ count_gone goes at n
+unfolding word_gone count_gone ones
 count_law goes at zero = refl
 count_law goes at (suc n) =
-    let g = wordGone goes (suc at) n in
+    let g = word_gone goes (suc at) n in
     let d = bit-lt (goes at) in
     let odd : (g * 2 + bit (goes at)) % 2 ≡ bit (goes at) = omega arith in
     let half : (g * 2 + bit (goes at)) / 2 ≡ g = omega arith in
@@ -109,31 +109,31 @@ count_law goes at (suc n) =
 
 -- ---- a bit read
 
-pub at-law : {X : Type 0} (held : List X) (w i : ℕ) (d : X) → i < length held → get_or (slotsFrom w held) i free ≡ slot_of (w / 2 ^ i % 2) (get_or held i d)
+pub at_law : {X : Type 0} (held : List X) (w i : ℕ) (d : X) → i < length held → get_or (slotsFrom w held) i free ≡ slot_of (w / 2 ^ i % 2) (get_or held i d)
 unfolding slotsFrom
-at-law [] w i d h = absurd (omega arith)
-at-law (y ∷ held) w zero d h =
+at_law [] w i d h = absurd (omega arith)
+at_law (y ∷ held) w zero d h =
     let e : w / 1 ≡ w = omega arith in ap (λ (v : ℕ). slot_of (v % 2) y) (sym e)
-at-law (y ∷ held) w (suc i) d h =
+at_law (y ∷ held) w (suc i) d h =
     let e : 1 + i ≡ suc i = omega arith in
-    at-law held (w / 2) i d (omega arith) ∙ ap (λ (v : ℕ). slot_of (v % 2) (get_or held i d)) (shr-shr w 1 i ∙ ap (λ (j : ℕ). w / 2 ^ j) e)
+    at_law held (w / 2) i d (omega arith) ∙ ap (λ (v : ℕ). slot_of (v % 2) (get_or held i d)) (shr-shr w 1 i ∙ ap (λ (j : ℕ). w / 2 ^ j) e)
 
 -- ---- the word of those that go, from the highest slot down
 
-pub word-step : (goes : ℕ → Bool) (s : ℕ) → 0 < s → s ≤ 64 → wordGone goes (s - 1) (64 - (s - 1)) ≡ wordGone goes s (64 - s) * 2 + bit (goes (s - 1))
-unfolding wordGone
+pub word-step : (goes : ℕ → Bool) (s : ℕ) → 0 < s → s ≤ 64 → word_gone goes (s - 1) (64 - (s - 1)) ≡ word_gone goes s (64 - s) * 2 + bit (goes (s - 1))
+unfolding word_gone
 word-step goes zero p l = absurd (omega arith)
 word-step goes (suc k) p l =
     let e : suc k - 1 ≡ k = omega arith in
     let f : 64 - k ≡ suc (64 - suc k) = omega arith in
-    ap₂ (wordGone goes) e (ap (λ (j : ℕ). 64 - j) e ∙ f) ∙ ap (λ (j : ℕ). wordGone goes (suc k) (64 - suc k) * 2 + bit (goes j)) (sym e)
+    ap₂ (word_gone goes) e (ap (λ (j : ℕ). 64 - j) e ∙ f) ∙ ap (λ (j : ℕ). word_gone goes (suc k) (64 - suc k) * 2 + bit (goes j)) (sym e)
 
-pub word_fits : (goes : ℕ → Bool) (s : ℕ) → 0 < s → wordGone goes s (64 - s) < 2 ^ 63
+pub word_fits : (goes : ℕ → Bool) (s : ℕ) → 0 < s → word_gone goes s (64 - s) < 2 ^ 63
 word_fits goes s p = let l : 64 - s ≤ 63 = omega arith in lt_of_lt_of_le (word_lt goes s (64 - s)) (pow_mono l)
 
 -- ---- numbers that agree on what goes
 
-pub word_same : (f g : ℕ → Bool) → ((s : ℕ) → f s ≡ g s) → (at n : ℕ) → wordGone f at n ≡ wordGone g at n
-unfolding wordGone
+pub word_same : (f g : ℕ → Bool) → ((s : ℕ) → f s ≡ g s) → (at n : ℕ) → word_gone f at n ≡ word_gone g at n
+unfolding word_gone
 word_same f g e at zero = refl
 word_same f g e at (suc n) = ap₂ (λ (b : Bool) (u : ℕ). u * 2 + bit b) (e at) (word_same f g e (suc at) n)

@@ -1,10 +1,10 @@
 // Sixty-four slots for live keys, each free or holding the name of a key and its parent (document 02, requests 12 and 13). The slots are passed by
 // value, and come back with the answer.
 ghost use Rattle.std.specs.Prelude.{◌≡◌, ◌<◌};
-ghost use Rattle.refusal.specs.Answers.{checkedAs, answer_of};
+ghost use Rattle.refusal.specs.Answers.{checked_as, answer_of};
 ghost use Rattle.slot_rules.specs.Table.{lowestFree, liveCount};
-ghost use Rattle.slot_rules.specs.Calls.{putCheck, putAnswer, dropAnswer};
-ghost use Rattle.slot_rules.specs.Stored.{table_of, byte_of, putStored, dropStored};
+ghost use Rattle.slot_rules.specs.Calls.{put_check, put_answer, drop_answer};
+ghost use Rattle.slot_rules.specs.Stored.{table_of, byte_of, put_stored, drop_stored};
 
 mod bits; // bits of the word of taken slots
 mod tree; // the tests of a parent, and what goes with a slot
@@ -40,7 +40,7 @@ fn lowest_free(slots: Slots) -> u32
 
 // The tests of a put: those of its parent, and that a slot is free.
 fn check_put(slots: Slots, parent: Parent) -> Checked
-    ensures { checkedAs result ≡ putCheck (table_of slots) parent }
+    ensures { checked_as result ≡ put_check (table_of slots) parent }
 {
     then_check(
         check_parent(slots, parent),
@@ -61,8 +61,8 @@ fn parent_byte(parent: Parent) -> u8
 
 // A name is put below a parent into the lowest free slot.
 pub fn put(slots: Slots, name: Name, parent: Parent) -> After
-    ensures answer { answer_of result.answer ≡ putAnswer (table_of slots) parent }
-    ensures stored { result.slots ≡ putStored slots name parent }
+    ensures answer { answer_of result.answer ≡ put_answer (table_of slots) parent }
+    ensures stored { result.slots ≡ put_stored slots name parent }
 {
     let check = check_put(slots, parent);
     let mut next = slots;
@@ -87,8 +87,8 @@ pub fn put(slots: Slots, name: Name, parent: Parent) -> After
 
 // A slot and all that descend from it are freed. Nothing but the word of taken slots changes.
 pub fn drop(slots: Slots, number: u64) -> After
-    ensures answer { answer_of result.answer ≡ dropAnswer (table_of slots) number }
-    ensures stored { result.slots ≡ dropStored slots number }
+    ensures answer { answer_of result.answer ≡ drop_answer (table_of slots) number }
+    ensures stored { result.slots ≡ drop_stored slots number }
 {
     let mut next = slots;
     let answer = if has_bit(slots.taken, number) {

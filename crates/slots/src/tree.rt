@@ -1,12 +1,12 @@
 // Parents of live keys (document 02, request 13): the tests of a parent, and the slots that go with a slot. A step goes from a live slot to its
 // parent.
 ghost use Rattle.std.specs.Prelude.{◌≡◌, true, cond};
-ghost use Rattle.refusal.specs.Checks.{◌andThen◌};
-ghost use Rattle.refusal.specs.Answers.{checkedAs};
-ghost use Rattle.slot_rules.specs.Table.{bit, isLive, wordGone};
+ghost use Rattle.refusal.specs.Checks.{◌and_then◌};
+ghost use Rattle.refusal.specs.Answers.{checked_as};
+ghost use Rattle.slot_rules.specs.Table.{bit, isLive, word_gone};
 ghost use Rattle.slot_rules.specs.Calls.{check48, check49};
-ghost use Rattle.slot_rules.specs.Stored.{table_of, goneWith};
-ghost use Rattle.slots.specs.Internal.{stepFrom, stepIn, HasSteps, reachesBy, rootBy, rootWithinTwoBy};
+ghost use Rattle.slot_rules.specs.Stored.{table_of, gone_with};
+ghost use Rattle.slots.specs.Internal.{step_from, step_in, HasSteps, reaches_by, root_by, root_within_two_by};
 
 use crate::bits::has_bit;
 use refusal::{Checked, Refusal, then_check, unless};
@@ -23,7 +23,7 @@ fn wide(b: u8) -> u64
 
 // One step up from slot s: the byte of its parent, 255 where there is none or the slot is not live.
 fn step(taken: u64, parents: &[u8; 64], s: u64) -> u64
-    ensures { result ≡ stepFrom taken parents.now s }
+    ensures { result ≡ step_from taken parents.now s }
 {
     if has_bit(taken, s) {
         wide(parents[s as usize])
@@ -34,7 +34,7 @@ fn step(taken: u64, parents: &[u8; 64], s: u64) -> u64
 
 // Whether slot s is live and has no parent.
 fn is_root(taken: u64, parents: &[u8; 64], s: u64) -> bool
-    ensures { result ≡ rootBy taken parents.now s }
+    ensures { result ≡ root_by taken parents.now s }
 {
     if has_bit(taken, s) {
         parents[s as usize] == 255
@@ -45,7 +45,7 @@ fn is_root(taken: u64, parents: &[u8; 64], s: u64) -> bool
 
 // Whether no step, one or two from slot s come to a root.
 fn root_within_two(taken: u64, parents: &[u8; 64], s: u64) -> bool
-    ensures { result ≡ rootWithinTwoBy taken parents.now s }
+    ensures { result ≡ root_within_two_by taken parents.now s }
 {
     let a = step(taken, parents, s);
     let b = step(taken, parents, a);
@@ -54,7 +54,7 @@ fn root_within_two(taken: u64, parents: &[u8; 64], s: u64) -> bool
 
 // The tests of a parent: it is none or live, and a root is near.
 pub(crate) fn check_parent(slots: Slots, parent: Parent) -> Checked
-    ensures { checkedAs result ≡ (check48 (table_of slots) parent and_then check49 (table_of slots) parent) }
+    ensures { checked_as result ≡ (check48 (table_of slots) parent and_then check49 (table_of slots) parent) }
 {
     let parents = slots.parents;
     match parent {
@@ -92,14 +92,14 @@ fn all_steps(taken: u64, parents: &[u8; 64]) -> [u8; 64]
 
 // One step up from slot s.
 fn step_in(steps: &[u8; 64], s: u64) -> u64
-    ensures { result ≡ stepIn steps.now s }
+    ensures { result ≡ step_in steps.now s }
 {
     if s < 64 { wide(steps[s as usize]) } else { 255 }
 }
 
 // Whether no step, one, two or three from slot s come to slot n.
 fn reaches(steps: &[u8; 64], n: u64, s: u64) -> bool
-    ensures { result ≡ reachesBy (stepIn steps.now) n s }
+    ensures { result ≡ reaches_by (step_in steps.now) n s }
 {
     let a = step_in(steps, s);
     let b = step_in(steps, a);
@@ -116,7 +116,7 @@ fn bit_of(b: bool) -> u64
 
 // The word of the slots that reach slot n, from the highest down.
 fn reaching(steps: &[u8; 64], n: u64) -> u64
-    ensures { result ≡ wordGone (reachesBy (stepIn steps.now) n) 0 64 }
+    ensures { result ≡ word_gone (reaches_by (step_in steps.now) n) 0 64 }
 {
     let mut word = 0;
     let mut s = 64;
@@ -130,7 +130,7 @@ fn reaching(steps: &[u8; 64], n: u64) -> u64
 // The word of the slots that go with a live slot. What reaches a live slot is live.
 pub(crate) fn gone(slots: Slots, number: u64) -> u64
     requires { isLive (table_of slots) number ≡ true }
-    ensures { result ≡ goneWith slots number }
+    ensures { result ≡ gone_with slots number }
 {
     let parents = slots.parents;
     let steps = all_steps(slots.taken, &parents);

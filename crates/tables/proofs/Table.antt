@@ -20,5 +20,5 @@ past_end [] x h = refl
 past_end (y ∷ l) zero h = absurd (not-suc-le-zero h)
 past_end (y ∷ l) (suc x) h = past_end l x (le_of_suc-le-suc h)
 
-pub beyond-end : BeyondEnd
-beyond-end n x l h none = let p = none_below n x none in past_end l x (omega (arith, p))
+pub beyond_end : BeyondEnd
+beyond_end n x l h none = let p = none_below n x none in past_end l x (omega (arith, p))

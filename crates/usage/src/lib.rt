@@ -2,11 +2,11 @@
 // label, a zero byte, optional data and n. The label of a domain root key is refused (document 02, request 6). The crate `requests` has the
 // definitions.
 ghost use Rattle.std.specs.Prelude.{◌≡◌, length};
-ghost use Rattle.refusal.specs.Checks.{◌andThen◌, check1};
-ghost use Rattle.refusal.specs.Answers.{checkedAs, answer_of};
-ghost use Rattle.labels.specs.Checks.{labelCheck, check31};
+ghost use Rattle.refusal.specs.Checks.{◌and_then◌, check1};
+ghost use Rattle.refusal.specs.Answers.{checked_as, answer_of};
+ghost use Rattle.labels.specs.Checks.{label_check, check31};
 ghost use Rattle.requests.specs.Rfc5295.{check4};
-ghost use Rattle.requests.specs.Requests.{forUsage, requestAnswer, requestBuffer};
+ghost use Rattle.requests.specs.Requests.{for_usage, request_answer, request_buffer};
 
 use labels::{check_domain_label, check_label};
 use refusal::{Answered, Checked, Refusal};
@@ -16,7 +16,7 @@ const MOST_DATA: usize = 2048;
 
 // The tests that come before those of the expansion: 1, 2, 3, 32, 31, 4.
 fn check_inputs(emsk: &[u8], label: &[u8], data: &[u8]) -> Checked
-    ensures { checkedAs result ≡ (check1 emsk.now and_then labelCheck label.now and_then check31 label.now and_then check4 «data».now) }
+    ensures { checked_as result ≡ (check1 emsk.now and_then label_check label.now and_then check31 label.now and_then check4 «data».now) }
 {
     let key = refusal::check_root_key(emsk);
     let name = check_label(label);
@@ -34,8 +34,8 @@ pub fn usage_key<'a>(
     n: usize,
     out: &mut [u8],
 ) -> Answered
-    ensures answer { answer_of result ≡ requestAnswer emsk.now (forUsage label.now «data».now n (length out.old)) }
-    ensures buffer { out.new ≡ requestBuffer emsk.now (forUsage label.now «data».now n (length out.old)) out.old }
+    ensures answer { answer_of result ≡ request_answer emsk.now (for_usage label.now «data».now n (length out.old)) }
+    ensures buffer { out.new ≡ request_buffer emsk.now (for_usage label.now «data».now n (length out.old)) out.old }
 {
     let check = check_inputs(emsk, label, data);
     let size = slices::be16(n);

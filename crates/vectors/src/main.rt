@@ -86,7 +86,7 @@ fn edges() {
 
 // Prints the SHA-1 digest of a message.
 fn hash_1(name: &[u8], message: &[u8]) {
-    let d = sha1::digest(message);
+    let d = sha1_hash::digest(message);
     line(name, &d);
 }
 
@@ -109,7 +109,7 @@ fn wide_word(x: u32) -> u64 {
 // The SHA-1 digest of one million times 'a': 15,625 blocks, and a block with the padding, which counts 8,000,000 bits.
 fn million_1() {
     let block = [97u8; 64];
-    let mut h = sha1::value_after(&block);
+    let mut h = sha1_hash::value_after(&block);
     for _ in 0..15624usize {
         let next = compress_blocks(h, &block);
         h = next;

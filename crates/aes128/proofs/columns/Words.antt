@@ -4,9 +4,9 @@ use mathlib.Core.List.{List, [], ◌∷◌}
 use Prim.Native.Nat.{ℕ, ◌+◌, ◌*◌, ◌/◌, ◌%◌, ◌<◌}
 use native.Mathlib.Omega.{arith}
 use lib.Bits.{bit_and, bit_xor, and_block, xor_block, xor_mod, xor_shr}
-use Rattle.fips197.specs.State.{Column, column, bytes, addColumn}
+use Rattle.fips197.specs.State.{Column, column, bytes, add_column}
 use Rattle.fips197.proofs.Four.{four}
-use Rattle.aes128.specs.Internal.{word_of, columnOf, turned}
+use Rattle.aes128.specs.Internal.{word_of, column_of, turned}
 
 -- ---- words of equal bytes
 
@@ -30,32 +30,32 @@ module _ (a b c d e f g h : ℕ) (ha : a < 256) (hb : b < 256) (hc : c < 256) (h
 
 -- ---- the column of a sum
 
-pub column-xor : (x y : ℕ) → columnOf (bit_xor x y) ≡ addColumn (columnOf x) (columnOf y)
-column-xor x y =
+pub column_xor : (x y : ℕ) → column_of (bit_xor x y) ≡ add_column (column_of x) (column_of y)
+column_xor x y =
     four
     (xor_mod x y 8)
     (ap (λ (z : ℕ). z % 256) (xor_shr x y 8) ∙ xor_mod (x / 256) (y / 256) 8)
     (ap (λ (z : ℕ). z % 256) (xor_shr x y 16) ∙ xor_mod (x / 65536) (y / 65536) 8)
     (ap (λ (z : ℕ). z % 256) (xor_shr x y 24) ∙ xor_mod (x / 16777216) (y / 16777216) 8)
 
-pub added-columns : (x y : ℕ) (u v : List ℕ) → columnOf x ≡ u → columnOf y ≡ v → columnOf (bit_xor x y) ≡ addColumn u v
-added-columns x y u v p q = column-xor x y ∙ ap₂ addColumn p q
+pub added_columns : (x y : ℕ) (u v : List ℕ) → column_of x ≡ u → column_of y ≡ v → column_of (bit_xor x y) ≡ add_column u v
+added_columns x y u v p q = column_xor x y ∙ ap₂ add_column p q
 
 -- ---- the bytes of a word
 
 low_byte : (x : ℕ) → x % 256 < 256
 low_byte x = omega arith
 
-pub word-column : (x : ℕ) → Column (columnOf x)
+pub word-column : (x : ℕ) → Column (column_of x)
 word-column x = column (low_byte x) (low_byte (x / 0x100)) (low_byte (x / 0x10000)) (low_byte (x / 0x1000000))
 
 -- a column that a word was made of has four bytes
-pub word_bytes : (x : ℕ) (w : List ℕ) → columnOf x ≡ bytes (λ (y : ℕ). y) w → Column (bytes (λ (y : ℕ). y) w)
+pub word_bytes : (x : ℕ) (w : List ℕ) → column_of x ≡ bytes (λ (y : ℕ). y) w → Column (bytes (λ (y : ℕ). y) w)
 word_bytes x w e = subst Column e (word-column x)
 
 module _ (a b c d : ℕ) (ha : a < 256) (hb : b < 256) (hc : c < 256) (hd : d < 256) where
   pub turn-word : turned (word_of a b c d) ≡ word_of b c d a
   turn-word = omega arith
 
-  pub column-word : columnOf (word_of a b c d) ≡ a ∷ b ∷ c ∷ d ∷ []
+  pub column-word : column_of (word_of a b c d) ≡ a ∷ b ∷ c ∷ d ∷ []
   column-word = four (omega arith) (omega arith) (omega arith) (omega arith)

@@ -2,15 +2,15 @@
 use mathlib.Core.Path.{◌≡◌, refl, ◌∙◌}
 use Prim.Native.Nat.{◌≤◌}
 use native.Mathlib.Omega.{arith}
-use Rattle.fips197.specs.Cipher.{eqInvRounds}
+use Rattle.fips197.specs.Cipher.{eq_inv_rounds}
 use Rattle.aes128.specs.Internal.{state_of}
-use Rattle.aes128.proofs.Rounds.{begun-by, inv-round-by, inv-last-round-by, eq-step, eq-end}
+use Rattle.aes128.proofs.Rounds.{begun_by, inv-round-by, inv-last-round-by, eq-step, eq-end}
 use borrow.Author.Rules.{rules}
 use Rattle.aes128.proofs.decrypt.Statement.{statement}
 use Rattle.aes128.proofs.decrypt.Tie as tie
 
 abbrev invariant-loop : tie.invariant-loop
-invariant-loop ks t₀ i₀ t i = (i ≤ 9) × (eqInvRounds ks i (state_of t) ≡ eqInvRounds ks 9 (state_of t₀))
+invariant-loop ks t₀ i₀ t i = (i ≤ 9) × (eq_inv_rounds ks i (state_of t) ≡ eq_inv_rounds ks 9 (state_of t₀))
 
 abbrev decreases-loop : tie.decreases-loop
 decreases-loop ks t₀ i₀ t i = i
@@ -33,7 +33,7 @@ returns c =
     let p = c.before.before.before.before.before.before in
     let e : p.loop.i ≡ 0 = omega arith in
     eq-end p.before.before.before.before.args.ks.now p.loop.i _ _ _ _
-    (begun-by _ _ _ p.before.words.result p.before.before.add-round-key.ensures p.before.words.ensures)
+    (begun_by _ _ _ p.before.words.result p.before.before.add-round-key.ensures p.before.words.ensures)
     p.loop.invariant.1 e
     (inv-last-round-by _ p.loop.t _ _ c.before.before.before.before.state2.ensures _ _ c.before.before.before.inv-shift-rows2.ensures c.before.before.inv-sub-bytes.ensures
     c.add-round-key3.ensures)

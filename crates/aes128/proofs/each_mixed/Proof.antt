@@ -3,7 +3,7 @@ use mathlib.Core.Path.{◌≡◌, refl}
 use Prim.Native.Nat.{ℕ, ◌≤◌, ◌<◌, ◌-◌}
 use native.Mathlib.Omega.{arith}
 use lib.ListN.{get_or}
-use Rattle.aes_sbox.specs.Tables.{mixedSbox}
+use Rattle.aes_sbox.specs.Tables.{mixed_sbox}
 use Rattle.aes128.specs.Internal.{byte_of, Square}
 use Rattle.aes128.proofs.Square.{blank, looked-next}
 use borrow.Author.Rules.{rules}
@@ -11,7 +11,7 @@ use Rattle.aes128.proofs.each_mixed.Statement.{statement}
 use Rattle.aes128.proofs.each_mixed.Tie as tie
 
 abbrev invariant-loop : tie.invariant-loop
-invariant-loop b w₀ i₀ w i = (i ≤ 16) × Square w × ((k : ℕ) → k < i → byte_of w k ≡ get_or mixedSbox (byte_of b k) 0)
+invariant-loop b w₀ i₀ w i = (i ≤ 16) × Square w × ((k : ℕ) → k < i → byte_of w k ≡ get_or mixed_sbox (byte_of b k) 0)
 
 abbrev decreases-loop : tie.decreases-loop
 decreases-loop b w₀ i₀ w i = 16 - i
@@ -23,7 +23,7 @@ loop-again : tie.Need-loop-preserved invariant-loop decreases-loop
 loop-again c =
     let p = c.before.before.before in
     let l = p.loop in
-    let next = looked-next mixedSbox p.before.args.t1 l.w l.i _ l.invariant.1 c.entry.ensures (omega arith) l.invariant.2 in
+    let next = looked-next mixed_sbox p.before.args.t1 l.w l.i _ l.invariant.1 c.entry.ensures (omega arith) l.invariant.2 in
     (omega arith, next.0, next.1)
 
 returns : tie.Need-returns invariant-loop decreases-loop

@@ -3,7 +3,7 @@ use mathlib.Core.Path.{◌≡◌, refl}
 use Prim.Native.Nat.{ℕ, ◌≤◌, ◌<◌, ◌-◌}
 use native.Mathlib.Omega.{arith}
 use lib.ListN.{get_or}
-use Rattle.aes_sbox.specs.Tables.{unmixedSbox}
+use Rattle.aes_sbox.specs.Tables.{unmixed_sbox}
 use Rattle.aes128.specs.Internal.{byte_of, Square}
 use Rattle.aes128.proofs.Square.{blank, looked-back}
 use borrow.Author.Rules.{rules}
@@ -11,7 +11,7 @@ use Rattle.aes128.proofs.each_unmixed.Statement.{statement}
 use Rattle.aes128.proofs.each_unmixed.Tie as tie
 
 abbrev invariant-loop : tie.invariant-loop
-invariant-loop b w₀ i₀ w i = (i ≤ 16) × Square w × ((k : ℕ) → i ≤ k → k < 16 → byte_of w k ≡ get_or unmixedSbox (byte_of b k) 0)
+invariant-loop b w₀ i₀ w i = (i ≤ 16) × Square w × ((k : ℕ) → i ≤ k → k < 16 → byte_of w k ≡ get_or unmixed_sbox (byte_of b k) 0)
 
 abbrev decreases-loop : tie.decreases-loop
 decreases-loop b w₀ i₀ w i = i
@@ -23,7 +23,7 @@ loop-again : tie.Need-loop-preserved invariant-loop decreases-loop
 loop-again c =
     let p = c.before.before.before in
     let l = p.loop in
-    let back = looked-back unmixedSbox p.before.args.t1 l.w (l.i - 1) _ l.invariant.1 c.entry.ensures (omega arith)
+    let back = looked-back unmixed_sbox p.before.args.t1 l.w (l.i - 1) _ l.invariant.1 c.entry.ensures (omega arith)
     (λ k m h. l.invariant.2 k (omega (arith, m)) h) in
     (omega arith, back.0, back.1)
 

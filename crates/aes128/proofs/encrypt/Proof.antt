@@ -4,7 +4,7 @@ use Prim.Native.Nat.{◌≤◌, ◌-◌}
 use native.Mathlib.Omega.{arith}
 use Rattle.fips197.specs.Cipher.{rounds}
 use Rattle.aes128.specs.Internal.{state_of}
-use Rattle.aes128.proofs.Rounds.{begun-by, round_by, last-round-by, round-step, cipher-end}
+use Rattle.aes128.proofs.Rounds.{begun_by, round_by, last-round-by, round-step, cipher-end}
 use borrow.Author.Rules.{rules}
 use Rattle.aes128.proofs.encrypt.Statement.{statement}
 use Rattle.aes128.proofs.encrypt.Tie as tie
@@ -33,7 +33,7 @@ returns c =
     let p = c.before.before.before.before.before.before in
     let e : p.loop.i ≡ 9 = omega arith in
     cipher-end p.before.before.before.before.args.ks.now p.loop.i _ _ _ _
-    (begun-by _ _ _ p.before.words.result p.before.before.add-round-key.ensures p.before.words.ensures)
+    (begun_by _ _ _ p.before.words.result p.before.before.add-round-key.ensures p.before.words.ensures)
     p.loop.invariant.1 e
     (last-round-by _ p.loop.t _ _ c.before.before.before.before.state2.ensures _ _ c.before.before.before.shift-rows2.ensures c.before.before.sub-bytes.ensures
     c.add-round-key3.ensures)

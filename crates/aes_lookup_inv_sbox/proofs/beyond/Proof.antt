@@ -1,12 +1,12 @@
 -- `aes_lookup_inv_sbox::beyond` meets its contract: the table has 256 entries, and past the end a look-up gives 0.
 use native.Mathlib.Omega.{arith}
-use Rattle.aes_sbox.specs.Tables.{invSbox}
-use Rattle.tables.proofs.Table.{beyond-end}
+use Rattle.aes_sbox.specs.Tables.{inv_sbox}
+use Rattle.tables.proofs.Table.{beyond_end}
 use Rattle.aes_lookup_inv_sbox.proofs.beyond.Statement.{statement}
 use Rattle.aes_lookup_inv_sbox.proofs.beyond.Tie as tie
 
 returns : tie.Need-returns
-returns c = beyond-end 256 c.args.x invSbox (omega arith) c.requires
+returns c = beyond_end 256 c.args.x inv_sbox (omega arith) c.requires
 
 pub beyond-spec : {M : Type 1} → statement M
 beyond-spec = tie.close (tie.spec returns)

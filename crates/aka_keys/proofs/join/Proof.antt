@@ -1,5 +1,5 @@
 -- `aka_keys::join` meets its contract: the first key copied to the start, and the second behind it.
-use Rattle.aka_keys.proofs.Joining.{joined-both}
+use Rattle.aka_keys.proofs.Joining.{joined_both}
 use borrow.Author.Rules.{rules}
 use Rattle.aka_keys.proofs.join.Statement.{statement}
 use Rattle.aka_keys.proofs.join.Tie as tie
@@ -8,7 +8,7 @@ returns : tie.Need-returns
 returns c =
     let entered = c.before.before.before.before.before.before.before.before.before.before.before in
     let a = entered.args in
-    joined-both a.first.now a.second.now a.keys.now entered.requires.0 entered.requires.1.0 entered.requires.1.1 c.before.before.before.before.before.before.copy.ensures.1 c.before.before.copy2.ensures.1
+    joined_both a.first.now a.second.now a.keys.now entered.requires.0 entered.requires.1.0 entered.requires.1.1 c.before.before.before.before.before.before.copy.ensures.1 c.before.before.copy2.ensures.1
 
 pub join-spec : {M : Type 1} → statement M
 join-spec =

@@ -1,5 +1,5 @@
 -- `aka_keys::put_expansion_key` meets its contract: the MAC of the text's parts under CK then IK, its halves swapped.
-use Rattle.aka_keys.proofs.Deriving.{key-by-parts}
+use Rattle.aka_keys.proofs.Deriving.{key_by_parts}
 use borrow.Author.Rules.{rules}
 use Rattle.aka_keys.proofs.put_expansion_key.Statement.{statement}
 use Rattle.aka_keys.proofs.put_expansion_key.Tie as tie
@@ -11,7 +11,7 @@ returns c =
     let size = keys.before.before.before.before.before in
     let key = size.before.before.before in
     let a = c.before.before.before.before.before.before.before.before.before.before.before.before.before.before.before.before.before.before.before.before.args in
-    key-by-parts a.ck.now a.ik.now a.name.now a.sqn-xor-ak.now
+    key_by_parts a.ck.now a.ik.now a.name.now a.sqn-xor-ak.now
     key.join.ensures size.be16.ensures keys.mac-of-parts.ensures swapped.put-swapped.ensures
 
 pub put-expansion-key-spec : {M : Type 1} → statement M

@@ -3,7 +3,7 @@ use Prim.Native.Nat.{ℕ}
 use mathlib.Core.Path.{ap, ◌∙◌}
 use mathlib.Core.List.{List, ◌++◌}
 use lib.ListN.{take}
-use Rattle.aka_keys.proofs.Joining.{second-half}
+use Rattle.aka_keys.proofs.Joining.{second_half}
 use borrow.Author.Rules.{rules}
 use Rattle.aka_keys.proofs.put_swapped.Statement.{statement}
 use Rattle.aka_keys.proofs.put_swapped.Tie as tie
@@ -12,7 +12,7 @@ returns : tie.Need-returns
 returns c =
     let entered = c.before.before.before.before.before.before.before.before in
     let halves = entered.args.halves.now in
-    c.before.before.join.ensures ∙ ap (λ (l : List ℕ). l ++ take 16 halves) (second-half halves entered.requires.0)
+    c.before.before.join.ensures ∙ ap (λ (l : List ℕ). l ++ take 16 halves) (second_half halves entered.requires.0)
 
 pub put-swapped-spec : {M : Type 1} → statement M
 put-swapped-spec =

@@ -2,7 +2,7 @@
 use native.Mathlib.Omega.{arith}
 use borrow.Author.Rules.{rules}
 use Rattle.area_format.specs.Area.{read_on}
-use Rattle.area.proofs.Keeping.{offer-kept, offer-refused}
+use Rattle.area.proofs.Keeping.{offer_kept, offer_refused}
 use Rattle.area.proofs.gather.Statement.{statement}
 use Rattle.area.proofs.gather.Tie as tie
 
@@ -10,7 +10,7 @@ returns : tie.Need-returns
 returns c =
     let m = c.before.before in
     let a = m.before.before.args in
-    (omega arith, λ later. rw m.met2.given.1 (offer-refused a.count a.at _ a.kept.now a.name later (omega arith) c.if1.true))
+    (omega arith, λ later. rw m.met2.given.1 (offer_refused a.count a.at _ a.kept.now a.name later (omega arith) c.if1.true))
 
 returns-2 : tie.Need-returns-2
 unfolding read_on
@@ -24,7 +24,7 @@ returns-4 : tie.Need-returns-4
 returns-4 c =
     let m = c.before.before in
     let a = m.before.before.args in
-    (omega arith, λ later. rw m.met2.given.1 (offer-kept a.count a.at _ a.kept.now a.name later (omega arith) (omega arith)))
+    (omega arith, λ later. rw m.met2.given.1 (offer_kept a.count a.at _ a.kept.now a.name later (omega arith) (omega arith)))
 
 returns-5 : tie.Need-returns-5
 unfolding read_on

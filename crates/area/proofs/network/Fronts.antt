@@ -11,8 +11,8 @@ use lib.Dec.{leb, eqb}
 use lib.ListN.{length, get_or, take, drop, drop_of_length-le}
 use lib.Seq.{drop-cons, drop-length, take_all}
 use Rattle.slices.specs.Same.{same_list}
-use Rattle.area_format.specs.Names.{sameFields}
-use Rattle.area_format.proofs.Fields.{frontAgrees, by_front, fields-symmetric}
+use Rattle.area_format.specs.Names.{same_fields}
+use Rattle.area_format.proofs.Fields.{front_agrees, by_front, fields_symmetric}
 use Rattle.area.specs.Internal.{ends}
 
 -- one difference more is gathered: still none exactly if there was none and the bytes are equal
@@ -61,29 +61,29 @@ stops n a b d i h e =
     sym (e ∙ ap (λ (k : ℕ). eqb d 0 && same_list (take k (drop i a)) (take k (drop i b))) m ∙ and-true (eqb d 0))
 
 -- where a field ends
-pub ends-past : (s : List ℕ) (i : ℕ) → length s ≤ i → true ≡ ends (drop i s)
-ends-past s i h = sym (ap ends (drop_of_length-le s h))
+pub ends_past : (s : List ℕ) (i : ℕ) → length s ≤ i → true ≡ ends (drop i s)
+ends_past s i h = sym (ap ends (drop_of_length-le s h))
 
 pub ends_at : (s : List ℕ) (i : ℕ) → i < length s → eqb (get_or s i 0) 58 ≡ ends (drop i s)
 ends_at s i h = sym (ap ends (drop-cons s i 0 h))
 
-eqb-flip : (x y : ℕ) → eqb x y ≡ eqb y x
-eqb-flip x y = go (eqb x y) refl
+eqb_flip : (x y : ℕ) → eqb x y ≡ eqb y x
+eqb_flip x y = go (eqb x y) refl
   where
     go : (p : Bool) → eqb x y ≡ p → eqb x y ≡ eqb y x
     go true e = e ∙ sym (eq-eqb y x (sym (eqb-true x y e)))
     go false e = e ∙ sym (ne_eqb y x (λ h. eqb-false x y e (sym h)))
 
-same-flip : (s t : List ℕ) → same_list s t ≡ same_list t s
+same_flip : (s t : List ℕ) → same_list s t ≡ same_list t s
 unfolding same_list
-same-flip [] [] = refl
-same-flip [] (y ∷ t) = refl
-same-flip (x ∷ s) [] = refl
-same-flip (x ∷ s) (y ∷ t) = ap₂ (λ (p q : Bool). p && q) (eqb-flip x y) (same-flip s t)
+same_flip [] [] = refl
+same_flip [] (y ∷ t) = refl
+same_flip (x ∷ s) [] = refl
+same_flip (x ∷ s) (y ∷ t) = ap₂ (λ (p q : Bool). p && q) (eqb_flip x y) (same_flip s t)
 
 -- of the longer only as many bytes are compared as the shorter has
-shorter : (a b : List ℕ) → length a ≤ length b → sameFields a b ≡ (ends (drop (length a) b) && same_list a (take (length a) b))
-unfolding same_list frontAgrees
+shorter : (a b : List ℕ) → length a ≤ length b → same_fields a b ≡ (ends (drop (length a) b) && same_list a (take (length a) b))
+unfolding same_list front_agrees
 shorter a b h = by_front a b ∙ go a b h
   where
     swap : (p q r : Bool) → (p && (q && r)) ≡ (q && (p && r))
@@ -92,7 +92,7 @@ shorter a b h = by_front a b ∙ go a b h
     swap false true r = refl
     swap false false r = refl
 
-    go : (a b : List ℕ) → length a ≤ length b → frontAgrees a b ≡ (ends (drop (length a) b) && same_list a (take (length a) b))
+    go : (a b : List ℕ) → length a ≤ length b → front_agrees a b ≡ (ends (drop (length a) b) && same_list a (take (length a) b))
     go [] [] h = refl
     go [] (y ∷ t) h = sym (and-true (eqb y 58))
     go (x ∷ s) [] h = let none : ⊥ = omega arith in elim none [ ]
@@ -101,10 +101,10 @@ shorter a b h = by_front a b ∙ go a b h
         ap (λ (r : Bool). eqb x y && r) (go s t l) ∙ swap (eqb x y) (ends (drop (length s) t)) (same_list s (take (length s) t))
 
 -- the whole comparison: a field ends in both after the bytes of the shorter, and these are the same
-pub agreed : (a b : List ℕ) (n : ℕ) → n ≡ min (length a) (length b) → sameFields a b ≡ ((ends (drop n a) && ends (drop n b)) && same_list (take n a) (take n b))
+pub agreed : (a b : List ℕ) (n : ℕ) → n ≡ min (length a) (length b) → same_fields a b ≡ ((ends (drop n a) && ends (drop n b)) && same_list (take n a) (take n b))
 agreed a b n e = go (leb (length a) (length b)) refl
   where
-    go : (t : Bool) → leb (length a) (length b) ≡ t → sameFields a b ≡ ((ends (drop n a) && ends (drop n b)) && same_list (take n a) (take n b))
+    go : (t : Bool) → leb (length a) (length b) ≡ t → same_fields a b ≡ ((ends (drop n a) && ends (drop n b)) && same_list (take n a) (take n b))
     go true h =
         let l : length a ≤ length b = leb-true _ _ h in
         let m : n ≡ length a = omega arith in
@@ -112,6 +112,6 @@ agreed a b n e = go (leb (length a) (length b)) refl
     go false h =
         let l : length b < length a = leb-false _ _ h in
         let m : n ≡ length b = omega arith in
-        fields-symmetric a b ∙ shorter b a (omega arith)
-        ∙ ap₂ (λ (p q : Bool). p && q) (sym (and-true (ends (drop (length b) a)))) (same-flip b (take (length b) a))
+        fields_symmetric a b ∙ shorter b a (omega arith)
+        ∙ ap₂ (λ (p q : Bool). p && q) (sym (and-true (ends (drop (length b) a)))) (same_flip b (take (length b) a))
         ∙ rw (m, drop-length b, take_all (length b) b (omega arith))

@@ -9,12 +9,12 @@ use borrow.Author.Tests.{le-leb, lt-leb, leb-true}
 use lib.ListN.{length, drop}
 use lib.Dec.{leb}
 use Rattle.slices.proofs.Truth.{and_left, and_right}
-use Rattle.area.proofs.reader.Attributes.{long-enough}
-use Rattle.area_format.specs.Area.{words_of, inBytes, inBounds, attributesFrom}
+use Rattle.area.proofs.reader.Attributes.{long_enough}
+use Rattle.area_format.specs.Area.{words_of, in_bytes, in_bounds, attributes_from}
 
 -- passing what is left of an attribute
-pub passed : (left at : ℕ) (bytes : List ℕ) → attributesFrom left at bytes ≡ attributesFrom 0 (at + left) (drop left bytes)
-unfolding attributesFrom
+pub passed : (left at : ℕ) (bytes : List ℕ) → attributes_from left at bytes ≡ attributes_from 0 (at + left) (drop left bytes)
+unfolding attributes_from
 passed zero at bytes = rw add-zero
 passed (suc left) at [] = refl
 passed (suc left) at (x ∷ rest) =
@@ -22,20 +22,20 @@ passed (suc left) at (x ∷ rest) =
     passed left (suc at) rest ∙ rw e
 
 -- what an attribute within the area has
-pub not-empty : (bytes : List ℕ) → inBounds bytes ≡ true → 1 ≤ (words_of bytes).0
-unfolding inBounds
+pub not-empty : (bytes : List ℕ) → in_bounds bytes ≡ true → 1 ≤ (words_of bytes).0
+unfolding in_bounds
 not-empty bytes h = leb-true _ _ (and_left _ _ (and_right (leb 2 (length bytes)) _ h))
 
-pub not-past : (bytes : List ℕ) → inBounds bytes ≡ true → (inBytes (words_of bytes)).0 ≤ length bytes
-unfolding inBounds
-not-past bytes h = leb-true _ _ (and_right (leb 1 (words_of bytes).0) _ (and_right (leb 2 (length bytes)) _ h))
+pub not_past : (bytes : List ℕ) → in_bounds bytes ≡ true → (in_bytes (words_of bytes)).0 ≤ length bytes
+unfolding in_bounds
+not_past bytes h = leb-true _ _ (and_right (leb 1 (words_of bytes).0) _ (and_right (leb 2 (length bytes)) _ h))
 
 -- with four bytes, the tests of its length
-pub no_length : (bytes : List ℕ) → 4 ≤ length bytes → (words_of bytes).0 ≡ 0 → inBounds bytes ≡ false
-no_length bytes l h = long-enough bytes l ∙ rw (lt-leb 1 (words_of bytes).0 (omega arith))
+pub no_length : (bytes : List ℕ) → 4 ≤ length bytes → (words_of bytes).0 ≡ 0 → in_bounds bytes ≡ false
+no_length bytes l h = long_enough bytes l ∙ rw (lt-leb 1 (words_of bytes).0 (omega arith))
 
-pub goes-past : (bytes : List ℕ) → 4 ≤ length bytes → length bytes < (inBytes (words_of bytes)).0 → inBounds bytes ≡ false
-goes-past bytes l h = long-enough bytes l ∙ rw (le-leb 1 (words_of bytes).0 (omega arith)) (lt-leb (inBytes (words_of bytes)).0 (length bytes) h)
+pub goes_past : (bytes : List ℕ) → 4 ≤ length bytes → length bytes < (in_bytes (words_of bytes)).0 → in_bounds bytes ≡ false
+goes_past bytes l h = long_enough bytes l ∙ rw (le-leb 1 (words_of bytes).0 (omega arith)) (lt-leb (in_bytes (words_of bytes)).0 (length bytes) h)
 
-pub ends-within : (bytes : List ℕ) → 4 ≤ length bytes → 1 ≤ (words_of bytes).0 → (inBytes (words_of bytes)).0 ≤ length bytes → inBounds bytes ≡ true
-ends-within bytes l h k = long-enough bytes l ∙ rw (le-leb 1 (words_of bytes).0 h) (le-leb (inBytes (words_of bytes)).0 (length bytes) k)
+pub ends-within : (bytes : List ℕ) → 4 ≤ length bytes → 1 ≤ (words_of bytes).0 → (in_bytes (words_of bytes)).0 ≤ length bytes → in_bounds bytes ≡ true
+ends-within bytes l h k = long_enough bytes l ∙ rw (le-leb 1 (words_of bytes).0 h) (le-leb (in_bytes (words_of bytes)).0 (length bytes) k)

@@ -12,25 +12,25 @@ use lib.Dec.{eqb}
 use Rattle.area_format.specs.Area.{zeros}
 
 -- whether those from i to e are
-abbrev pub zerosTo : ℕ → List ℕ → ℕ → Bool
-zerosTo e s i = zeros (take (e - i) (drop i s))
+abbrev pub zeros_to : ℕ → List ℕ → ℕ → Bool
+zeros_to e s i = zeros (take (e - i) (drop i s))
 
-zeros-step : (e : ℕ) (s : List ℕ) (i : ℕ) → i < e → e ≤ length s → zerosTo e s i ≡ (eqb (get_or s i 0) 0 && zerosTo e s (i + 1))
+zeros-step : (e : ℕ) (s : List ℕ) (i : ℕ) → i < e → e ≤ length s → zeros_to e s i ≡ (eqb (get_or s i 0) 0 && zeros_to e s (i + 1))
 unfolding zeros
 zeros-step e s i h k =
     let n : e - i ≡ suc (e - (i + 1)) = omega arith in
     let l : i < length s = omega arith in
     rw (n, add-one, drop-cons s i 0)
 
-module _ (e : ℕ) (s : List ℕ) (j i : ℕ) (h : i < e) (k : e ≤ length s) (inv : zerosTo e s j ≡ zerosTo e s i) where
-  pub zeros-on : get_or s i 0 ≡ 0 → zerosTo e s j ≡ zerosTo e s (i + 1)
+module _ (e : ℕ) (s : List ℕ) (j i : ℕ) (h : i < e) (k : e ≤ length s) (inv : zeros_to e s j ≡ zeros_to e s i) where
+  pub zeros-on : get_or s i 0 ≡ 0 → zeros_to e s j ≡ zeros_to e s (i + 1)
   zeros-on z = inv ∙ zeros-step e s i h k ∙ rw (eq-eqb _ _ z)
 
-  pub zeros-not : (get_or s i 0 ≡ 0 → ⊥) → false ≡ zerosTo e s j
+  pub zeros-not : (get_or s i 0 ≡ 0 → ⊥) → false ≡ zeros_to e s j
   zeros-not n = sym (inv ∙ zeros-step e s i h k ∙ rw (ne_eqb _ _ n))
 
-pub zeros-all : (e : ℕ) (s : List ℕ) (j i : ℕ) → e ≤ i → zerosTo e s j ≡ zerosTo e s i → true ≡ zerosTo e s j
+pub zeros_all : (e : ℕ) (s : List ℕ) (j i : ℕ) → e ≤ i → zeros_to e s j ≡ zeros_to e s i → true ≡ zeros_to e s j
 unfolding zeros
-zeros-all e s j i h inv =
+zeros_all e s j i h inv =
     let n : e - i ≡ 0 = omega arith in
     sym (inv ∙ ap (λ (m : ℕ). zeros (take m (drop i s))) n)

@@ -1,4 +1,4 @@
--- `area::refusal_at` meets its contract: the fault that was matched says which clause of `faultAt` holds.
+-- `area::refusal_at` meets its contract: the fault that was matched says which clause of `fault_at` holds.
 use mathlib.Core.Path.{refl}
 use borrow.Author.Rules.{rules}
 use Rattle.area.proofs.refusal_at.Statement.{statement}

@@ -7,11 +7,11 @@ use mathlib.Core.List.{List, []}
 use native.Mathlib.Omega.{arith}
 use lib.ListN.{length, drop}
 use Rattle.refusal.specs.Checks.{located}
-use Rattle.area_format.specs.Area.{Standing, refusal, read_on, attributes, attributesFrom}
+use Rattle.area_format.specs.Area.{Standing, refusal, read_on, attributes, attributes_from}
 use Rattle.area_format.specs.declared.Name.TheVariants.{Missing}
-use Rattle.area.specs.Internal.{readAfter}
-use Rattle.area.proofs.reader.Onward.{Met-next, next}
-use Rattle.area.proofs.Walking.{ReadTo, starts, ends, goes-past, goes_on}
+use Rattle.area.specs.Internal.{read_after}
+use Rattle.area.proofs.reader.Onward.{Met_next, next}
+use Rattle.area.proofs.Walking.{ReadTo, starts, ends, goes_past, goes_on}
 use Rattle.area.proofs.walk.Statement.{statement}
 use Rattle.area.proofs.walk.Tie as tie
 
@@ -23,18 +23,18 @@ decreases-loop area kept₀ at₀ count₀ name₀ kept at count name = length a
 
 -- the step that was made
 met : (k : tie.After-met invariant-loop decreases-loop)
-    → Met-next k.before.before.before.before.before.before.args.area.now k.before.before.before.loop.at k.met.given.0.0 k.met.given.0.1.0
+    → Met_next k.before.before.before.before.before.before.args.area.now k.before.before.before.loop.at k.met.given.0.0 k.met.given.0.1.0
 met k = next _ k.before.before.before.loop.at _ _ (sym k.before.before.read_at.ensures ∙ k.met.given.1)
 
 -- the attributes after it
 abbrev later : tie.After-met invariant-loop decreases-loop → List Standing
-later k = attributesFrom 0 k.met.given.0.1.0 (drop k.met.given.0.1.0 k.before.before.before.before.before.before.args.area.now)
+later k = attributes_from 0 k.met.given.0.1.0 (drop k.met.given.0.1.0 k.before.before.before.before.before.before.args.area.now)
 
 -- what is left to be read after what was gathered
 on : (g : tie.After-gather invariant-loop decreases-loop)
     → let l = g.before.before.before.before.before.before.loop in
     read_on [] Missing (attributes g.before.before.before.before.before.before.before.before.before.args.area.now)
-    ≡ readAfter g.gather.result l.at l.count l.name g.gather.new.1.1.1.1.0 (later g.before.before.before)
+    ≡ read_after g.gather.result l.at l.count l.name g.gather.new.1.1.1.1.0 (later g.before.before.before)
 on g =
     let k = g.before.before.before in
     let l = k.before.before.before.loop in
@@ -63,7 +63,7 @@ returns-2 c =
     let a = c.before.before.before.before.before.before.args in
     let s = c.before.before.read_at in
     let at-16 : read_on [] Missing (attributes a.area.now) ≡ refusal (located 16 l.at) =
-    goes-past a.area.now l.at l.count l.name l.auto l.invariant.3 (sym s.ensures ∙ c.enum-told2.given.1) in
+    goes_past a.area.now l.at l.count l.name l.auto l.invariant.3 (sym s.ensures ∙ c.enum-told2.given.1) in
     (omega arith, sym at-16)
 
 gather-requires : tie.Need-gather-requires invariant-loop decreases-loop

@@ -2,18 +2,18 @@ use mathlib.Core.Path.{◌≡◌, refl, sym, ap, ◌∙◌}
 use native.Mathlib.Omega.{arith}
 use lib.ListN.{replicate}
 use Rattle.refusal.specs.Checks.{pass}
-use Rattle.refusal.specs.Answers.{checkedAs}
+use Rattle.refusal.specs.Answers.{checked_as}
 use Rattle.refusal.proofs.Passing.{before-passed, last-passed}
-use Rattle.bundle_rules.specs.Bundle.{bundleCheck}
+use Rattle.bundle_rules.specs.Bundle.{bundle_check}
 use Rattle.bundle_rules.proofs.Reading.{contents}
-use Rattle.bundle_compare.proofs.Comparing.{Told, told-by, Counted, counted-by, counts-few, bytes-long, no_room, compared, refused-early, compare-refused}
+use Rattle.bundle_compare.proofs.Comparing.{Told, told_by, Counted, counted_by, counts-few, bytes-long, no_room, compared, refused_early, compare_refused}
 use borrow.Author.Rules.{rules}
 use Rattle.bundle_compare.proofs.compare_bundles.Statement.{statement}
 use Rattle.bundle_compare.proofs.compare_bundles.Tie as tie
 
 -- both files pass
-passed : (c : tie.After-enum-told) → let x = c.before.before.before.before.before.before.args in (bundleCheck x.first.now ≡ pass) × (bundleCheck x.second.now ≡ pass)
-passed c = let e = sym c.before.before.check_both.ensures ∙ ap checkedAs c.enum_told.given.1 in (before-passed _ _ e, last-passed _ _ e)
+passed : (c : tie.After-enum-told) → let x = c.before.before.before.before.before.before.args in (bundle_check x.first.now ≡ pass) × (bundle_check x.second.now ≡ pass)
+passed c = let e = sym c.before.before.check_both.ensures ∙ ap checked_as c.enum_told.given.1 in (before-passed _ _ e, last-passed _ _ e)
 
 put-kinds-requires : tie.Need-put-kinds-requires
 put-kinds-requires c κs = let p = passed c.before in (p, (contents _ p.0).high)
@@ -27,7 +27,7 @@ told : (c : tie.After-put-kinds2) → let k = c.before.before.before in let x = 
 told c =
     let k = c.before.before.before in
     let p = passed k.before.before in
-    told-by _ _ (replicate 64 0) (replicate 64 0) _ _ _ _ refl refl p.0 p.1 k.put-kinds.ensures c.put-kinds2.ensures
+    told_by _ _ (replicate 64 0) (replicate 64 0) _ _ _ _ refl refl p.0 p.1 k.put-kinds.ensures c.put-kinds2.ensures
 
 count-kind-requires : tie.Need-count-kind-requires
 count-kind-requires c κs =
@@ -58,7 +58,7 @@ counted : (c : tie.After-count-kind3) → let k = c.before.before.before.before.
 counted c =
     let k = c.before.before.before.before.before.before.before in
     let n = k.before.before.before.put-kinds.ensures.0 in
-    counted-by _ _ _ _ _ _ _ _ _ (told k) n k.put-kinds2.ensures.0 c.before.before.before.before.count-kind.ensures c.before.before.count-kind2.ensures c.count-kind3.ensures
+    counted_by _ _ _ _ _ _ _ _ _ (told k) n k.put-kinds2.ensures.0 c.before.before.before.before.count-kind.ensures c.before.before.count-kind2.ensures c.count-kind3.ensures
 
 add-size : tie.Need-overflow-add-size
 add-size c = omega (arith, counts-few _ _ _ _ _ _ _ (counted c))
@@ -70,14 +70,14 @@ mul-size : tie.Need-overflow-mul-size
 mul-size c = omega (arith, counts-few _ _ _ _ _ _ _ (counted c))
 
 returns : tie.Need-returns
-returns c = compare-refused _ _ _ (no_room _ _ _ _ _ _ _ (counted c.before) _ c.if1.true)
+returns c = compare_refused _ _ _ (no_room _ _ _ _ _ _ _ (counted c.before) _ c.if1.true)
 
 put-entries-requires : tie.Need-put-entries-requires
 put-entries-requires c κs =
     let k = counted c.before.before.before in
     let t = k.told in
     let p = t.first_passes in
-    let q = t.second-passes in
+    let q = t.second_passes in
     (search rules, (omega arith, omega (arith, c.before.before.if1.false, bytes-long _ _ _ _ _ _ _ k)))
 
 put-entries-requires-2 : tie.Need-put-entries-requires-2
@@ -85,13 +85,13 @@ put-entries-requires-2 c κs =
     let k = counted c.before.before.before.before.before.before.before.before in
     let t = k.told in
     let p = t.first_passes in
-    let q = t.second-passes in
+    let q = t.second_passes in
     let e = c.before.before.before.before.put_entries.ensures in
     let z = bytes-long _ _ _ _ _ _ _ k in
     (search rules, (omega arith, omega (arith, c.before.before.before.before.before.before.before.if1.false, e.0)))
 
 returns-2 : tie.Need-returns-2
-returns-2 c = compare-refused _ _ _ (refused-early _ _ _ (sym c.before.before.before.check_both.ensures ∙ ap checkedAs c.before.why.given.1))
+returns-2 c = compare_refused _ _ _ (refused_early _ _ _ (sym c.before.before.before.check_both.ensures ∙ ap checked_as c.before.why.given.1))
 
 returns-3 : tie.Need-returns-3
 returns-3 c =

@@ -6,8 +6,8 @@ use mathlib.Core.List.{List}
 use native.Mathlib.Numerals.{add-one}
 use borrow.Author.Tests.{lt-ltb, le-ltb}
 use Rattle.slices.specs.Same.{same_list}
-use Rattle.bundle_rules.specs.Bundle.{line_at, lines_from, countIn, body_of}
-use Rattle.bundle_contents.proofs.Contents.{lines_next, lines-done}
+use Rattle.bundle_rules.specs.Bundle.{line_at, lines_from, count_in, body_of}
+use Rattle.bundle_contents.proofs.Contents.{lines_next, lines_done}
 use Rattle.bundle_compare.specs.Internal.{place_of, place_in, found_at, kind_at}
 
 -- a test of line j that came to b: the loop has found the Key ID, or goes on
@@ -18,10 +18,10 @@ place-on f id own j n h p t e inv = inv ∙ rw (lines_next f j n h, ← p, ← t
 
 pub place_end : (f id : List ℕ) (j n : ℕ) {whole : ℕ} → n ≤ j → whole ≡ place_of id j (lines_from f j (n - j)) → j ≡ whole
 unfolding place_of
-place_end f id j n h inv = sym (inv ∙ rw (lines-done f j n h))
+place_end f id j n h inv = sym (inv ∙ rw (lines_done f j n h))
 
 -- the place of the Key ID of line i of a file in another, which has n lines
-module _ (absent changed : ℕ) (f other : List ℕ) (i : ℕ) {id : List ℕ} {place n : ℕ} (o : id ≡ (line_at f i).id) (p : place ≡ place_in id other) (q : n ≡ countIn other) where
+module _ (absent changed : ℕ) (f other : List ℕ) (i : ℕ) {id : List ℕ} {place n : ℕ} (o : id ≡ (line_at f i).id) (p : place ≡ place_in id other) (q : n ≡ count_in other) where
   at_place : found_at other (place_in (line_at f i).id other) ≡ found_at other place
   at_place = rw (p, o)
 

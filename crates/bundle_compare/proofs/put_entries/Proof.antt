@@ -1,6 +1,6 @@
 use Prim.Native.Nat.{◌-◌, ◌≤◌, ◌<◌}
 use native.Mathlib.Omega.{arith}
-use Rattle.bundle_rules.specs.Bundle.{countIn}
+use Rattle.bundle_rules.specs.Bundle.{count_in}
 use Rattle.bundle_compare.proofs.Entries.{Listed, listed_start, listed-room, listed-on, listed-end}
 use Rattle.bundle_compare.proofs.put_entries.Statement.{statement}
 use Rattle.bundle_compare.proofs.put_entries.Tie as tie
@@ -18,7 +18,7 @@ loop-holds : tie.Need-loop-init invariant-loop decreases-loop
 loop-holds c = (omega arith, listed_start _ _ _ _)
 
 -- i is a line of the file
-line : (c : tie.In-loop invariant-loop decreases-loop) → c.before.loop.i < countIn c.before.before.before.before.before.before.args.file.now
+line : (c : tie.In-loop invariant-loop decreases-loop) → c.before.loop.i < count_in c.before.before.before.before.before.before.args.file.now
 line c = omega (arith, c.before.before.count.ensures)
 
 shared-slice-read-put-entry : tie.Need-shared-slice-read-put-entry invariant-loop decreases-loop
@@ -31,7 +31,7 @@ put-entry-requires : tie.Need-put-entry-requires invariant-loop decreases-loop
 put-entry-requires c κs =
     let k = c.before.before.before in
     let l = k.before.loop in
-    listed-room _ _ _ _ _ _ l.i _ _ (line k) c.before.id-at.ensures k.before.before.before.before.before.before.requires.1.1 l.invariant.1
+    listed-room _ _ _ _ _ _ l.i _ _ (line k) c.before.id_at.ensures k.before.before.before.before.before.before.requires.1.1 l.invariant.1
 
 loop-again : tie.Need-loop-preserved invariant-loop decreases-loop
 loop-again c =
@@ -40,7 +40,7 @@ loop-again c =
     let l = k.before.loop in
     let room = k.before.before.before.before.before.before.requires.1.1 in
     let e = c.before.before.put-entry.ensures in
-    (omega arith, listed-on _ _ _ _ _ _ _ l.i _ _ _ (line k) id.id-at.ensures room l.invariant.1 e.0 e.1)
+    (omega arith, listed-on _ _ _ _ _ _ _ l.i _ _ _ (line k) id.id_at.ensures room l.invariant.1 e.0 e.1)
 
 same_length : tie.Need-same-length invariant-loop decreases-loop
 same_length c = c.before.loop.invariant.1.size

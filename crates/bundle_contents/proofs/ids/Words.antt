@@ -9,18 +9,18 @@ use borrow.Author.Tests.{eq-eqb, eqb-true}
 use lib.Dec.{eqb}
 use lib.ListN.{length, drop, length-drop, drop_of_length-le}
 use lib.Seq.{get_or-drop, drop-drop}
-use Rattle.slices.specs.Numbers.{fromBe32}
+use Rattle.slices.specs.Numbers.{from_be32}
 use Rattle.slices.specs.Same.{same_list}
 use Rattle.slices.proofs.Truth.{and_left, and_right, same_truth}
-use Rattle.slices.proofs.Same.{same-equal}
+use Rattle.slices.proofs.Same.{same_equal}
 use Rattle.bundle_contents.specs.Internal.{word_at, BytesAt}
 
 -- four bytes are the same where their words are
 four_same : (p q r s p' q' r' s' : ℕ) → p < 256 → q < 256 → r < 256 → s < 256 → p' < 256 → q' < 256 → r' < 256 → s' < 256
-    → (rest : Bool) → (eqb p p' && (eqb q q' && (eqb r r' && (eqb s s' && rest)))) ≡ (eqb (fromBe32 s r q p) (fromBe32 s' r' q' p') && rest)
+    → (rest : Bool) → (eqb p p' && (eqb q q' && (eqb r r' && (eqb s s' && rest)))) ≡ (eqb (from_be32 s r q p) (from_be32 s' r' q' p') && rest)
 four_same p q r s p' q' r' s' hp hq hr hs hp' hq' hr' hs' rest = same_truth _ _ there back
   where
-    there : (eqb p p' && (eqb q q' && (eqb r r' && (eqb s s' && rest)))) ≡ true → (eqb (fromBe32 s r q p) (fromBe32 s' r' q' p') && rest) ≡ true
+    there : (eqb p p' && (eqb q q' && (eqb r r' && (eqb s s' && rest)))) ≡ true → (eqb (from_be32 s r q p) (from_be32 s' r' q' p') && rest) ≡ true
     there e =
         let e₁ = and_right (eqb p p') _ e in
         let e₂ = and_right (eqb q q') _ e₁ in
@@ -29,17 +29,17 @@ four_same p q r s p' q' r' s' hp hq hr hs hp' hq' hr' hs' rest = same_truth _ _ 
         let b = eqb-true q q' (and_left _ _ e₁) in
         let c = eqb-true r r' (and_left _ _ e₂) in
         let d = eqb-true s s' (and_left _ _ e₃) in
-        let w : fromBe32 s r q p ≡ fromBe32 s' r' q' p' = omega arith in
-        rw (eq-eqb (fromBe32 s r q p) (fromBe32 s' r' q' p') w) (and_right (eqb s s') _ e₃)
+        let w : from_be32 s r q p ≡ from_be32 s' r' q' p' = omega arith in
+        rw (eq-eqb (from_be32 s r q p) (from_be32 s' r' q' p') w) (and_right (eqb s s') _ e₃)
 
-    back : (eqb (fromBe32 s r q p) (fromBe32 s' r' q' p') && rest) ≡ true → (eqb p p' && (eqb q q' && (eqb r r' && (eqb s s' && rest)))) ≡ true
+    back : (eqb (from_be32 s r q p) (from_be32 s' r' q' p') && rest) ≡ true → (eqb p p' && (eqb q q' && (eqb r r' && (eqb s s' && rest)))) ≡ true
     back e =
-        let w : fromBe32 s r q p ≡ fromBe32 s' r' q' p' = eqb-true _ _ (and_left _ _ e) in
+        let w : from_be32 s r q p ≡ from_be32 s' r' q' p' = eqb-true _ _ (and_left _ _ e) in
         let d : s ≡ s' = omega arith in
         let c : r ≡ r' = omega arith in
         let b : q ≡ q' = omega arith in
         let a : p ≡ p' = omega arith in
-        rw (eq-eqb p p' a, eq-eqb q q' b, eq-eqb r r' c, eq-eqb s s' d) (and_right (eqb (fromBe32 s r q p) (fromBe32 s' r' q' p')) _ e)
+        rw (eq-eqb p p' a, eq-eqb q q' b, eq-eqb r r' c, eq-eqb s s' d) (and_right (eqb (from_be32 s r q p) (from_be32 s' r' q' p')) _ e)
 
 -- the first four of two lists
 first_word : (a b : List ℕ) → 4 ≤ length a → 4 ≤ length b → BytesAt a 0 → BytesAt b 0 → same_list a b ≡ (eqb (word_at a 0) (word_at b 0) && same_list (drop 4 a) (drop 4 b))
@@ -63,11 +63,11 @@ bytes_drop : (i : ℕ) (a : List ℕ) → BytesAt a i → BytesAt (drop i a) 0
 bytes_drop i a m = simp (get_or-drop, add-zero) m
 
 -- lists with a word that differs are not the same
-pub words-differ : (a b : List ℕ) (i : ℕ) {x y : ℕ} → x ≡ word_at a i → y ≡ word_at b i → (x ≡ y → ⊥) → false ≡ same_list a b
-words-differ a b i {x} {y} p q ne = go (same_list a b) refl
+pub words_differ : (a b : List ℕ) (i : ℕ) {x y : ℕ} → x ≡ word_at a i → y ≡ word_at b i → (x ≡ y → ⊥) → false ≡ same_list a b
+words_differ a b i {x} {y} p q ne = go (same_list a b) refl
   where
     go : (t : Bool) → same_list a b ≡ t → false ≡ same_list a b
-    go true e = elim (ne (p ∙ ap (λ (l : List ℕ). word_at l i) (same-equal a b e) ∙ sym q)) [ ]
+    go true e = elim (ne (p ∙ ap (λ (l : List ℕ). word_at l i) (same_equal a b e) ∙ sym q)) [ ]
     go false e = sym e
 
 -- one word more, where those before it are the same; x and y are the words

@@ -2,10 +2,10 @@ use Prim.Native.Nat.{◌+◌, ◌≤◌, ◌-◌}
 use mathlib.Core.Path.{refl}
 use native.Mathlib.Omega.{arith}
 use lib.ListN.{length}
-use Rattle.bundle_rules.specs.Bundle.{contentsEnd, packed}
-use Rattle.radius_attributes.proofs.Walking.{Step, step-at}
-use Rattle.bundle_writer.proofs.packing.Walking.{id-part, body-long}
-use Rattle.bundle_writer.proofs.Lines.{Lined, lined-start, lined_on, lined-end, lined-room, id-long}
+use Rattle.bundle_rules.specs.Bundle.{contents_end, packed}
+use Rattle.radius_attributes.proofs.Walking.{Step, step_at_lem}
+use Rattle.bundle_writer.proofs.packing.Walking.{id_part, body_long}
+use Rattle.bundle_writer.proofs.Lines.{Lined, lined_start, lined_on, lined_end, lined_room, id_long}
 use Rattle.bundle_writer.proofs.put_lines.Statement.{statement}
 use Rattle.bundle_writer.proofs.put_lines.Tie as tie
 
@@ -16,19 +16,19 @@ abbrev decreases-loop : tie.decreases-loop
 decreases-loop attributes contents out₀ at₀ place₀ out at place = length attributes - at
 
 loop-holds : tie.Need-loop-init invariant-loop decreases-loop
-loop-holds c = lined-start _ _ _ c.before.before.requires.0 refl
+loop-holds c = lined_start _ _ _ c.before.before.requires.0 refl
 
 made : (c : tie.After-length-at invariant-loop decreases-loop) → Step c.before.before.before.before.before.args.attributes.now c.before.before.loop.at c.length_at.result
-made c = step-at _ _ _ (omega arith) c.length_at.ensures
+made c = step_at_lem _ _ _ (omega arith) c.length_at.ensures
 
 long : (c : tie.After-length-at invariant-loop decreases-loop) → c.before.before.loop.at + 76 ≤ length c.before.before.before.before.before.args.attributes.now
-long c = body-long _ _ _ (made c) c.before.before.loop.invariant.frames
+long c = body_long _ _ _ (made c) c.before.before.loop.invariant.frames
 
-contents-fit : (c : tie.After-length-at invariant-loop decreases-loop) → let x = c.before.before.before.before.before.args in contentsEnd (length (packed x.attributes.now)) ≤ length x.out.now
+contents-fit : (c : tie.After-length-at invariant-loop decreases-loop) → let x = c.before.before.before.before.before.args in contents_end (length (packed x.attributes.now)) ≤ length x.out.now
 contents-fit c = let p = c.before.before.before.before.before.requires in omega (arith, p.1.0, p.1.1)
 
 room : (c : tie.After-length-at invariant-loop decreases-loop) → c.before.before.loop.place + 20 ≤ length c.before.before.loop.out
-room c = lined-room _ _ _ _ _ _ _ (made c) c.before.before.loop.invariant (contents-fit c)
+room c = lined_room _ _ _ _ _ _ _ (made c) c.before.before.loop.invariant (contents-fit c)
 
 length-at-requires : tie.Need-length-at-requires invariant-loop decreases-loop
 length-at-requires c κs = (omega arith, c.before.loop.invariant.frames)
@@ -52,7 +52,7 @@ put-line-requires : tie.Need-put-line-requires invariant-loop decreases-loop
 put-line-requires c κs =
     let k = c.before.before in
     let l = k.before.before.loop in
-    (id-long _ l.at _ _ (made k) l.invariant.frames (id-part _ l.at _ (made k) l.invariant.frames), room k)
+    (id_long _ l.at _ _ (made k) l.invariant.frames (id_part _ l.at _ (made k) l.invariant.frames), room k)
 
 add_at : tie.Need-overflow-add-at invariant-loop decreases-loop
 add_at c = omega (arith, (made c.before.before.before.before.before).inside)
@@ -67,7 +67,7 @@ loop-again : tie.Need-loop-preserved invariant-loop decreases-loop
 loop-again c =
     let k = c.before.before.before.before.before in
     let l = k.before.before.loop in
-    let id = id-part _ l.at _ (made k) l.invariant.frames in
+    let id = id_part _ l.at _ (made k) l.invariant.frames in
     let start = k.before.before.before.before.before.requires.1.0 in
     lined_on _ _ _ _ _ _ l.at l.place _ _ (made k) l.invariant (contents-fit k) id (omega arith) c.before.before.put-line.ensures
 
@@ -77,7 +77,7 @@ same_length c = c.before.loop.invariant.size
 returns : tie.Need-returns invariant-loop decreases-loop
 returns c =
     let l = c.before.loop in
-    rw c.before.before.before.before.requires.1.0 (lined-end _ _ _ _ l.at l.place l.invariant (omega arith))
+    rw c.before.before.before.before.requires.1.0 (lined_end _ _ _ _ l.at l.place l.invariant (omega arith))
 
 pub put-lines-spec : {M : Type 1} → statement M
 put-lines-spec =

@@ -9,29 +9,29 @@ use native.Mathlib.Omega.{arith}
 use lib.Dec.{leb}
 use lib.ListN.{length}
 use lib.Seq.{length-take-le}
-use Rattle.refusal.specs.Checks.{◌andThen◌, check6}
+use Rattle.refusal.specs.Checks.{◌and_then◌, check6}
 use Rattle.refusal.specs.Answers.{returned}
-use Rattle.refusal.proofs.Passing.{last-passed, test-passed}
-use Rattle.refusal.proofs.Answering.{told-count}
-use Rattle.bundle_rules.specs.Bundle.{bundleCheck}
-use Rattle.compare_rules.specs.Compare.{entriesLength, compareCheck, compareAnswer}
+use Rattle.refusal.proofs.Passing.{last-passed, test_passed}
+use Rattle.refusal.proofs.Answering.{told_count}
+use Rattle.bundle_rules.specs.Bundle.{bundle_check}
+use Rattle.compare_rules.specs.Compare.{entries_length, compare_check, compare_answer}
 use Rattle.compare_bundles.proofs.compare.Statement.{statement}
 use Rattle.compare_bundles.proofs.compare.Tie as tie
 
 -- a list that was written is within the room
-within-room : (first second : List ℕ) (room n : ℕ) → returned n ≡ compareAnswer first second room → n ≤ room
-unfolding compareAnswer compareCheck
-within-room first second room n e =
-    let told = told-count (compareCheck first second room) (entriesLength first second) n e in
-    let fits : leb (entriesLength first second) room ≡ true =
-    test-passed _ _ (last-passed (bundleCheck first and_then bundleCheck second) (check6 (entriesLength first second) room) told.0) in
-    omega (arith, told.1, leb-true (entriesLength first second) room fits)
+within_room : (first second : List ℕ) (room n : ℕ) → returned n ≡ compare_answer first second room → n ≤ room
+unfolding compare_answer compare_check
+within_room first second room n e =
+    let told = told_count (compare_check first second room) (entries_length first second) n e in
+    let fits : leb (entries_length first second) room ≡ true =
+    test_passed _ _ (last-passed (bundle_check first and_then bundle_check second) (check6 (entries_length first second) room) told.0) in
+    omega (arith, told.1, leb-true (entries_length first second) room fits)
 
 -- the bytes of the entries are within the buffer, by what the comparison answers
 within : (c : tie.After-counts) → 17 * (c.counts.given.0.0.only_first + c.counts.given.0.0.changed + c.counts.given.0.0.only_second) ≤ 2176
 within c =
     let r = c.before.before.before.compare-bundles in
-    within-room _ _ _ _ (rw c.counts.given.1 at r.ensures.0)
+    within_room _ _ _ _ (rw c.counts.given.1 at r.ensures.0)
 
 add-entries : tie.Need-overflow-add-entries
 add-entries c = omega (arith, within c.before.before)

@@ -1,7 +1,7 @@
 use mathlib.Core.Path.{sym}
 use native.Mathlib.Omega.{arith}
 use lib.Seq.{length-take-le}
-use Rattle.handover.proofs.Answers.{copied-whole}
+use Rattle.handover.proofs.Answers.{copied_whole}
 use borrow.Author.Rules.{rules}
 use Rattle.handover.proofs.id.Statement.{statement}
 use Rattle.handover.proofs.id.Tie as tie
@@ -20,7 +20,7 @@ copy-requires c κs =
 returns : tie.Need-returns
 returns c =
     let k = c.before.before.before.before.before in
-    copied-whole 16 k.args.s.now k.requires c.before.copy.ensures.1
+    copied_whole 16 k.args.s.now k.requires c.before.copy.ensures.1
 
 pub id_spec : {M : Type 1} → statement M
 id_spec = tie.close (tie.spec slice-aggregate-copy (λ c. search rules) copy-requires returns)

@@ -2,20 +2,20 @@ use mathlib.Core.Path.{◌≡◌, sym, ◌∙◌}
 use mathlib.Core.List.{◌++◌}
 use lib.ListN.{length}
 use Rattle.slices.specs.Ascii.{ascii}
-use Rattle.refusal.specs.Answers.{checkedAs}
-use Rattle.refusal.proofs.Answering.{passed, refused-so, written-so}
-use Rattle.handover_rules.specs.Handover.{r0NameCheck, r0Name, r0NameAnswer, r0NameBuffer}
+use Rattle.refusal.specs.Answers.{checked_as}
+use Rattle.refusal.proofs.Answering.{passed, refused_so, written_so}
+use Rattle.handover_rules.specs.Handover.{r0_name_check, r0_name, r0_name_answer, r0_name_buffer}
 use Rattle.handover_rules.proofs.Accepting.{name-lengths}
-use Rattle.handover.proofs.Answers.{name-tested}
-use Rattle.handover.proofs.Names.{name-size, name-fits, name-put}
+use Rattle.handover.proofs.Answers.{name_tested}
+use Rattle.handover.proofs.Names.{name-size, name_fits, name_put}
 use borrow.Author.Rules.{rules}
 use Rattle.handover.proofs.r0_name.Statement.{statement}
 use Rattle.handover.proofs.r0_name.Tie as tie
 
 -- the tests that were made
 tested : (k : tie.After-check-call)
-    → (let a = k.before.before.before.before.before.args in checkedAs k.check-call.result ≡ r0NameCheck a.r0-key.now a.ad-id.now a.spa.now (length a.out.now))
-tested k = name-tested _ _ _ _ k.check-call.ensures
+    → (let a = k.before.before.before.before.before.args in checked_as k.check-call.result ≡ r0_name_check a.r0-key.now a.ad-id.now a.spa.now (length a.out.now))
+tested k = name_tested _ _ _ _ k.check-call.ensures
 
 id-requires : tie.Need-id-requires
 id-requires c κs = (name-lengths _ _ _ _ (passed (tested c.before.before) c.enum_told.given.1)).1
@@ -31,15 +31,15 @@ copy-requires c κs =
     let d = c.before.before in
     let t = d.before.before.before.before.before in
     let k = t.before.before in
-    name-fits _ k.before.before.before.before.before.args.out.now d.digest-of-two.ensures
+    name_fits _ k.before.before.before.before.before.args.out.now d.digest-of-two.ensures
     (name-lengths _ _ _ _ (passed (tested k) t.enum_told.given.1)).3
 
 returns : tie.Need-returns
-unfolding r0NameAnswer r0NameBuffer
-returns c = refused-so 16 _ _ (tested c.before.before.before) c.before.why.given.1
+unfolding r0_name_answer r0_name_buffer
+returns c = refused_so 16 _ _ (tested c.before.before.before) c.before.why.given.1
 
 returns-2 : tie.Need-returns-2
-unfolding r0NameAnswer r0NameBuffer
+unfolding r0_name_answer r0_name_buffer
 returns-2 c =
     let p = c.before.before in
     let d = p.before.before.before in
@@ -50,8 +50,8 @@ returns-2 c =
     let k = t.before.before in
     let a = k.before.before.before.before.before.args in
     let text = x.name-text.ensures ∙ (λ j. ascii "R0 Key Name" ++ (i.id.ensures j ++ s.address.ensures j)) in
-    written-so 16 (r0Name a.r0-key.now a.ad-id.now a.spa.now) a.out.now (tested k) t.enum_told.given.1
-    (name-put a.r0-key.now a.ad-id.now a.spa.now a.out.now text d.digest-of-two.ensures p.copy.ensures.1)
+    written_so 16 (r0_name a.r0-key.now a.ad-id.now a.spa.now) a.out.now (tested k) t.enum_told.given.1
+    (name_put a.r0-key.now a.ad-id.now a.spa.now a.out.now text d.digest-of-two.ensures p.copy.ensures.1)
 
 pub r0-name-spec : {M : Type 1} → statement M
 r0-name-spec =

@@ -6,19 +6,19 @@ use native.Mathlib.Omega.{arith}
 use borrow.Rule.Slice.PartMut.{put_mid}
 use lib.ListN.{length, take, drop, set, replicate, length-append}
 use lib.Seq.{paste, take_all, take_at, drop_at}
-use Rattle.slices.proofs.Copies.{copied-part}
+use Rattle.slices.proofs.Copies.{copied_part}
 use Rattle.slices.specs.Ascii.{ascii}
-use Rattle.handover_rules.specs.Kdf.{kdfInput}
-use Rattle.handover_rules.specs.Handover.{r0Label, r1Label, r0Input, r1Input}
+use Rattle.handover_rules.specs.Kdf.{kdf_input}
+use Rattle.handover_rules.specs.Handover.{r0_label, r1_label, r0_input, r1_input}
 
 -- a text, and how many bytes it has
 abbrev pub Is : List ℕ → ℕ → List ℕ → Type 0
 Is l n d = (d ≡ l) × (length d ≡ n)
 
 -- s is copied over the zeros z that stand after h; y is what the copy leaves of the part of n bytes that begins at a
-part-put : (n a : ℕ) (h z rest s : List ℕ) {d y : List ℕ} → Is (h ++ (z ++ rest)) (a + n) d → length h ≡ a → length z ≡ length s
+part_put : (n a : ℕ) (h z rest s : List ℕ) {d y : List ℕ} → Is (h ++ (z ++ rest)) (a + n) d → length h ≡ a → length z ≡ length s
     → y ≡ take (length s) s ++ drop (length s) (take n (drop a d)) → Is (h ++ (s ++ rest)) (a + n) (put_mid a n d y)
-part-put n a h z rest s {d} {y} (ed, ld) lh lz ey =
+part_put n a h z rest s {d} {y} (ed, ld) lh lz ey =
     let m : length d - a ≡ n = omega arith in
     let front : take a d ≡ h = ap (take a) ed ∙ take_at h (z ++ rest) a lh in
     let seam : length (h ++ z) ≡ a + length s = length-append h z ∙ (λ i. lh i + lz i) in
@@ -26,7 +26,7 @@ part-put n a h z rest s {d} {y} (ed, ld) lh lz ey =
     let full : length s ≤ length s = omega arith in
     let put : put_mid a n d y ≡ h ++ (s ++ rest)
     = ap (λ (k : ℕ). take a d ++ (y ++ drop k (drop a d))) (sym m)
-    ∙ copied-part d s a (ey ∙ ap (λ (k : ℕ). take (length s) s ++ drop (length s) (take k (drop a d))) (sym m))
+    ∙ copied_part d s a (ey ∙ ap (λ (k : ℕ). take (length s) s ++ drop (length s) (take k (drop a d))) (sym m))
     ∙ (λ i. (front i ++ take_all (length s) s full i) ++ back i)
     ∙ append_assoc h s rest in
     (put, ap length put ∙ simp length-append (omega (arith, simp length-append at (ap length ed))))
@@ -40,54 +40,54 @@ abbrev tail : List ℕ
 tail = 0 ∷ 1 ∷ []
 
 -- the text before an identifier is put in place
-r0-begun : {t : List ℕ} → t ≡ take 20 (head r0Label) ++ drop 20 (replicate 44 0) → Is ((head r0Label ++ replicate 16 0) ++ (replicate 6 0 ++ tail)) 44 (set t 43 1)
-unfolding r0Label
-r0-begun e = let m = ap (λ (t : List ℕ). set t 43 1) e in (m, ap length m)
+r0_begun : {t : List ℕ} → t ≡ take 20 (head r0_label) ++ drop 20 (replicate 44 0) → Is ((head r0_label ++ replicate 16 0) ++ (replicate 6 0 ++ tail)) 44 (set t 43 1)
+unfolding r0_label
+r0_begun e = let m = ap (λ (t : List ℕ). set t 43 1) e in (m, ap length m)
 
-r1-begun : {t : List ℕ} → t ≡ take 20 (head r1Label) ++ drop 20 (replicate 60 0)
-    → Is ((head r1Label ++ (replicate 16 0 ++ replicate 16 0)) ++ (replicate 6 0 ++ tail)) 60 (set t 59 1)
-unfolding r1Label
-r1-begun e = let m = ap (λ (t : List ℕ). set t 59 1) e in (m, ap length m)
+r1_begun : {t : List ℕ} → t ≡ take 20 (head r1_label) ++ drop 20 (replicate 60 0)
+    → Is ((head r1_label ++ (replicate 16 0 ++ replicate 16 0)) ++ (replicate 6 0 ++ tail)) 60 (set t 59 1)
+unfolding r1_label
+r1_begun e = let m = ap (λ (t : List ℕ). set t 59 1) e in (m, ap length m)
 
 -- z, x and y are what the copies of SPA, AN-ID and AD-ID leave of their parts
-module _ (spa : List ℕ) (ls : length spa ≡ 6) {t z : List ℕ} (et : t ≡ take 20 (head r0Label) ++ drop 20 (replicate 44 0))
+module _ (spa : List ℕ) (ls : length spa ≡ 6) {t z : List ℕ} (et : t ≡ take 20 (head r0_label) ++ drop 20 (replicate 44 0))
     (ez : z ≡ take (length spa) spa ++ drop (length spa) (take 8 (drop 36 (set t 43 1)))) where
-  pub r0-spa : Is ((head r0Label ++ replicate 16 0) ++ (spa ++ tail)) 44 (put_mid 36 8 (set t 43 1) z)
-  unfolding r0Label
-  r0-spa = part-put 8 36 (head r0Label ++ replicate 16 0) (replicate 6 0) (tail) spa (r0-begun et) refl (sym ls) ez
+  pub r0-spa : Is ((head r0_label ++ replicate 16 0) ++ (spa ++ tail)) 44 (put_mid 36 8 (set t 43 1) z)
+  unfolding r0_label
+  r0-spa = part_put 8 36 (head r0_label ++ replicate 16 0) (replicate 6 0) (tail) spa (r0_begun et) refl (sym ls) ez
 
   pub r0-laid : (ad : List ℕ) {y : List ℕ} → length ad ≡ 16 → y ≡ take (length ad) ad ++ drop (length ad) (take 24 (drop 20 (put_mid 36 8 (set t 43 1) z)))
-      → put_mid 20 24 (put_mid 36 8 (set t 43 1) z) y ≡ r0Input ad spa 1
-  unfolding r0Input kdfInput r0Label
-  r0-laid ad la ey = (part-put 24 20 (head r0Label) (replicate 16 0) (spa ++ tail) ad r0-spa refl (sym la) ey).0 ∙ simp append_assoc
+      → put_mid 20 24 (put_mid 36 8 (set t 43 1) z) y ≡ r0_input ad spa 1
+  unfolding r0_input kdf_input r0_label
+  r0-laid ad la ey = (part_put 24 20 (head r0_label) (replicate 16 0) (spa ++ tail) ad r0-spa refl (sym la) ey).0 ∙ simp append_assoc
 
-module _ (spa : List ℕ) (ls : length spa ≡ 6) {t z : List ℕ} (et : t ≡ take 20 (head r1Label) ++ drop 20 (replicate 60 0))
+module _ (spa : List ℕ) (ls : length spa ≡ 6) {t z : List ℕ} (et : t ≡ take 20 (head r1_label) ++ drop 20 (replicate 60 0))
     (ez : z ≡ take (length spa) spa ++ drop (length spa) (take 8 (drop 52 (set t 59 1)))) where
-  pub r1-spa : Is ((head r1Label ++ (replicate 16 0 ++ replicate 16 0)) ++ (spa ++ tail)) 60 (put_mid 52 8 (set t 59 1) z)
-  unfolding r1Label
-  r1-spa = part-put 8 52 (head r1Label ++ (replicate 16 0 ++ replicate 16 0)) (replicate 6 0) (tail) spa (r1-begun et) refl (sym ls) ez
+  pub r1-spa : Is ((head r1_label ++ (replicate 16 0 ++ replicate 16 0)) ++ (spa ++ tail)) 60 (put_mid 52 8 (set t 59 1) z)
+  unfolding r1_label
+  r1-spa = part_put 8 52 (head r1_label ++ (replicate 16 0 ++ replicate 16 0)) (replicate 6 0) (tail) spa (r1_begun et) refl (sym ls) ez
 
   module _ (an : List ℕ) (ln : length an ≡ 16) {x : List ℕ}
       (ex : x ≡ take (length an) an ++ drop (length an) (take 24 (drop 36 (put_mid 52 8 (set t 59 1) z)))) where
-    pub r1-an : Is ((head r1Label ++ replicate 16 0) ++ (an ++ (spa ++ tail))) 60 (put_mid 36 24 (put_mid 52 8 (set t 59 1) z) x)
-    unfolding r1Label
-    r1-an = part-put 24 36 (head r1Label ++ replicate 16 0) (replicate 16 0) (spa ++ tail) an r1-spa refl (sym ln) ex
+    pub r1-an : Is ((head r1_label ++ replicate 16 0) ++ (an ++ (spa ++ tail))) 60 (put_mid 36 24 (put_mid 52 8 (set t 59 1) z) x)
+    unfolding r1_label
+    r1-an = part_put 24 36 (head r1_label ++ replicate 16 0) (replicate 16 0) (spa ++ tail) an r1-spa refl (sym ln) ex
 
     pub r1-laid : (ad : List ℕ) {y : List ℕ} → length ad ≡ 16 → y ≡ take (length ad) ad ++ drop (length ad) (take 40 (drop 20 (put_mid 36 24 (put_mid 52 8 (set t 59 1) z) x)))
-        → put_mid 20 40 (put_mid 36 24 (put_mid 52 8 (set t 59 1) z) x) y ≡ r1Input ad an spa 1
-    unfolding r1Input kdfInput r1Label
-    r1-laid ad la ey = (part-put 40 20 (head r1Label) (replicate 16 0) (an ++ (spa ++ tail)) ad r1-an refl (sym la) ey).0 ∙ simp append_assoc
+        → put_mid 20 40 (put_mid 36 24 (put_mid 52 8 (set t 59 1) z) x) y ≡ r1_input ad an spa 1
+    unfolding r1_input kdf_input r1_label
+    r1-laid ad la ey = (part_put 40 20 (head r1_label) (replicate 16 0) (an ++ (spa ++ tail)) ad r1-an refl (sym la) ey).0 ∙ simp append_assoc
 
 -- ---- the name
 
-abbrev nameHead : List ℕ
-nameHead = ascii "R0 Key Name"
+abbrev name_head : List ℕ
+name_head = ascii "R0 Key Name"
 
-module _ (spa : List ℕ) (ls : length spa ≡ 6) {t z : List ℕ} (et : t ≡ take 11 nameHead ++ drop 11 (replicate 33 0))
+module _ (spa : List ℕ) (ls : length spa ≡ 6) {t z : List ℕ} (et : t ≡ take 11 name_head ++ drop 11 (replicate 33 0))
     (ez : z ≡ take (length spa) spa ++ drop (length spa) (take 6 (drop 27 t))) where
-  pub name-spa : Is ((nameHead ++ replicate 16 0) ++ (spa ++ [])) 33 (put_mid 27 6 t z)
-  name-spa = part-put 6 27 (nameHead ++ replicate 16 0) (replicate 6 0) [] spa (et, ap length et) refl (sym ls) ez
+  pub name-spa : Is ((name_head ++ replicate 16 0) ++ (spa ++ [])) 33 (put_mid 27 6 t z)
+  name-spa = part_put 6 27 (name_head ++ replicate 16 0) (replicate 6 0) [] spa (et, ap length et) refl (sym ls) ez
 
   pub name-laid : (ad : List ℕ) {y : List ℕ} → length ad ≡ 16 → y ≡ take (length ad) ad ++ drop (length ad) (take 22 (drop 11 (put_mid 27 6 t z)))
       → put_mid 11 22 (put_mid 27 6 t z) y ≡ ascii "R0 Key Name" ++ (ad ++ spa)
-  name-laid ad la ey = (part-put 22 11 nameHead (replicate 16 0) (spa ++ []) ad name-spa refl (sym la) ey).0 ∙ simp append-nil
+  name-laid ad la ey = (part_put 22 11 name_head (replicate 16 0) (spa ++ []) ad name-spa refl (sym la) ey).0 ∙ simp append-nil

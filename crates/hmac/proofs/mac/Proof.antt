@@ -1,7 +1,7 @@
 -- The message is the first of five parts. The others are empty.
 use mathlib.Core.Path.{ap, ◌∙◌}
 use mathlib.Core.List.{append-nil}
-use Rattle.hmac.specs.Rfc2104.{hmacSha256}
+use Rattle.hmac.specs.Rfc2104.{hmac_sha256}
 use borrow.Author.Rules.{rules}
 use Rattle.hmac.proofs.mac.Statement.{statement}
 use Rattle.hmac.proofs.mac.Tie as tie
@@ -9,7 +9,7 @@ use Rattle.hmac.proofs.mac.Tie as tie
 returns : tie.Need-returns
 returns c =
     let p = c.before.before.before.before.before.before.before.args in
-    c.mac-of-parts.ensures ∙ ap (hmacSha256 p.key.now) (append-nil p.message.now)
+    c.mac-of-parts.ensures ∙ ap (hmac_sha256 p.key.now) (append-nil p.message.now)
 
 pub mac-spec : {M : Type 1} → statement M
 mac-spec =

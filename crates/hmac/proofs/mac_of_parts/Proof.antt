@@ -1,6 +1,6 @@
 -- The parts are hashed after the key's inner value, with an empty sixth one, and their digest after the outer one.
 use mathlib.Core.List.{◌++◌}
-use Rattle.hmac.proofs.Laws.{five-parts, mac-from-values}
+use Rattle.hmac.proofs.Laws.{five_parts, mac-from_values}
 use borrow.Author.Rules.{rules}
 use Rattle.hmac.proofs.mac_of_parts.Statement.{statement}
 use Rattle.hmac.proofs.mac_of_parts.Tie as tie
@@ -11,8 +11,8 @@ returns c =
     let keyed = begun.before.before in
     let p = keyed.before.before.before.before.before.before.before.args in
     let text = p.a.now ++ (p.b.now ++ (p.c.now ++ (p.d.now ++ p.e.now))) in
-    mac-from-values p.key.now text keyed.new.ensures.0 keyed.new.ensures.1 begun.after.ensures
-    (five-parts _ _ p.a.now p.b.now p.c.now p.d.now p.e.now c.finish.ensures)
+    mac-from_values p.key.now text keyed.new.ensures.0 keyed.new.ensures.1 begun.after.ensures
+    (five_parts _ _ p.a.now p.b.now p.c.now p.d.now p.e.now c.finish.ensures)
 
 pub mac-of-parts-spec : {M : Type 1} → statement M
 mac-of-parts-spec =

@@ -1,6 +1,6 @@
 -- `hmac_block::filled` meets its contract: as many bytes as there is room for, copied over zeros.
 use mathlib.Core.Path.{sym}
-use Rattle.hmac_block.proofs.Filling.{part_length, part-fits, part_filled}
+use Rattle.hmac_block.proofs.Filling.{part_length, part_fits, part_filled}
 use borrow.Author.Rules.{rules}
 use Rattle.hmac_block.proofs.filled.Statement.{statement}
 use Rattle.hmac_block.proofs.filled.Tie as tie
@@ -9,7 +9,7 @@ slice-aggregate-copy : tie.Need-slice-aggregate-copy
 slice-aggregate-copy c = sym (part_length _ _ c.before.least.ensures)
 
 copy-requires : tie.Need-copy-requires
-copy-requires c κs = part-fits _ _ c.before.before.least.ensures
+copy-requires c κs = part_fits _ _ c.before.before.least.ensures
 
 returns : tie.Need-returns
 returns c =

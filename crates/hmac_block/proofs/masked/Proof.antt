@@ -6,7 +6,7 @@ use native.Mathlib.Omega.{arith}
 use borrow.Author.Rules.{rules}
 use lib.ListN.{length, take, drop}
 use Rattle.rfc2104.specs.Rfc2104 as rfc
-use Rattle.rfc2104.proofs.Blocks.{mask-turn, masked-all}
+use Rattle.rfc2104.proofs.Blocks.{mask_turn, masked_all}
 use Rattle.hmac_block.proofs.masked.Statement.{statement}
 use Rattle.hmac_block.proofs.masked.Tie as tie
 
@@ -23,14 +23,14 @@ loop-again : tie.Need-loop-preserved invariant-loop decreases-loop
 loop-again c =
     let a = c.before.before.args in
     let l = c.before.loop in
-    (omega arith, l.invariant.1, mask-turn a.t1 a.pad l.j l.invariant.2 (omega arith))
+    (omega arith, l.invariant.1, mask_turn a.t1 a.pad l.j l.invariant.2 (omega arith))
 
 returns : tie.Need-returns invariant-loop decreases-loop
 returns c =
     let a = c.before.before.args in
     let l = c.before.loop in
     let e : l.j ≡ 64 = omega arith in
-    l.invariant.2 ∙ ap (λ (n : ℕ). take n (rfc.masked a.t1 a.pad) ++ drop n a.t1) e ∙ masked-all a.t1 a.pad l.invariant.1
+    l.invariant.2 ∙ ap (λ (n : ℕ). take n (rfc.masked a.t1 a.pad) ++ drop n a.t1) e ∙ masked_all a.t1 a.pad l.invariant.1
 
 pub masked-spec : {M : Type 1} → statement M
 masked-spec =

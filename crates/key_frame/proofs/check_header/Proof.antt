@@ -3,7 +3,7 @@ use mathlib.Core.Path.{◌≡◌, ap, ◌∙◌}
 use mathlib.Core.Bool.{Bool}
 use Rattle.refusal.specs.Checks as Checks
 use Rattle.refusal.specs.Checks.{bare}
-use Rattle.refusal.specs.Answers.{checkedAs}
+use Rattle.refusal.specs.Answers.{checked_as}
 use Rattle.refusal.proofs.Passing.{joined}
 use borrow.Author.Rules.{rules}
 use Rattle.key_frame.proofs.check_header.Statement.{statement}
@@ -18,7 +18,7 @@ returns c =
     let p7 = p5.before.before in
     let p8 = p7.before in
     let p10 = p8.before.before in
-    let stood : checkedAs p1.unless4.result ≡ Checks.unless p2.same_bytes.result (bare 27) = p1.unless4.ensures in
+    let stood : checked_as p1.unless4.result ≡ Checks.unless p2.same_bytes.result (bare 27) = p1.unless4.ensures in
     let iv = stood ∙ ap (λ (t : Bool). Checks.unless t (bare 27)) p2.same_bytes.ensures in
     joined c.then-check3.ensures
     (joined p4.then-check2.ensures

@@ -3,7 +3,7 @@ use Prim.Native.Nat.{◌-◌}
 use mathlib.Core.Path.{◌≡◌}
 use lib.ListN.{length, get_or}
 use Rattle.keywrap.specs.Calls.{wrappable}
-use Rattle.key_frame.proofs.Frames.{no_length, length-of}
+use Rattle.key_frame.proofs.Frames.{no_length, length_of}
 use borrow.Author.Rules.{rules}
 use Rattle.key_frame.proofs.length_holds.Statement.{statement}
 use Rattle.key_frame.proofs.length_holds.Tie as tie
@@ -16,7 +16,7 @@ returns-2 c =
     let a = c.before.before.before.before.before.args.attribute.now in
     let said : c.before.count.result ≡ get_or a 1 0 = c.before.count.ensures in
     let fits : c.is-wrappable.result ≡ wrappable (length a - 60) = c.is-wrappable.ensures in
-    length-of a _ _ c.before.before.before.if1.false said fits
+    length_of a _ _ c.before.before.before.if1.false said fits
 
 pub length-holds-spec : {M : Type 1} → statement M
 length-holds-spec =

@@ -2,14 +2,14 @@
 use Prim.Native.Nat.{◌+◌, ◌≤◌}
 use native.Mathlib.Omega.{arith}
 use lib.ListN.{length, get_or}
-use Rattle.key_frame.specs.KeyFrame.{fieldsIn}
-use Rattle.key_reader.proofs.Reading.{id-at}
+use Rattle.key_frame.specs.KeyFrame.{fields_in}
+use Rattle.key_reader.proofs.Reading.{id_at}
 use borrow.Author.Rules.{rules}
 use Rattle.key_reader.proofs.fields.Statement.{statement}
 use Rattle.key_reader.proofs.fields.Tie as tie
 
 returns : tie.Need-returns
-unfolding fieldsIn
+unfolding fields_in
 returns c =
     let app = c.before in
     let key = app.before.before in
@@ -21,8 +21,8 @@ returns c =
     record {
       attribute_type = get_or a 0 0;
       app_id = app.number_at.ensures i;
-      kek_id = id-at a 8 long₁ kek.sixteen.ensures i;
-      key_id = id-at a 24 long₂ key.sixteen2.ensures i;
+      kek_id = id_at a 8 long₁ kek.sixteen.ensures i;
+      key_id = id_at a 24 long₂ key.sixteen2.ensures i;
       lifetime = c.number-at2.ensures i;
     }
 

@@ -1,7 +1,7 @@
 -- `key_writer::check_named` meets its contract: each test answers its check, and the combinators join them in their order.
 use mathlib.Core.Path.{◌≡◌, sym}
-use Rattle.refusal.specs.Checks.{◌andThen◌}
-use Rattle.refusal.specs.Answers.{checkedAs}
+use Rattle.refusal.specs.Checks.{◌and_then◌}
+use Rattle.refusal.specs.Answers.{checked_as}
 use Rattle.key_writer.specs.KeyWriter.{check21}
 use Rattle.refusal.proofs.Passing.{joined}
 use borrow.Author.Rules.{rules}
@@ -14,9 +14,9 @@ returns c =
     let ids = kek.before in
     let two = ids.before in
     let one = two.before in
-    let last : (checkedAs ids.then-check.result and_then checkedAs kek.unless3.result) ≡ checkedAs c.then-check2.result = sym c.then-check2.ensures in
+    let last : (checked_as ids.then-check.result and_then checked_as kek.unless3.result) ≡ checked_as c.then-check2.result = sym c.then-check2.ensures in
     let a = one.before.before.before.before.args in
-    let named : checkedAs two.unless2.result ≡ check21 a.kek-id.now a.key-id.now = two.unless2.ensures in
+    let named : checked_as two.unless2.result ≡ check21 a.kek_id.now a.key-id.now = two.unless2.ensures in
     joined (sym last) (joined ids.then-check.ensures one.unless.ensures named) kek.unless3.ensures
 
 pub check-named-spec : {M : Type 1} → statement M

@@ -3,16 +3,16 @@
 use mathlib.Core.Path.{◌≡◌, refl, sym, ap, ◌∙◌}
 use native.Mathlib.Omega.{arith}
 use Rattle.refusal.specs.Checks.{pass}
-use Rattle.refusal.specs.Answers.{checkedAs, answer_of}
+use Rattle.refusal.specs.Answers.{checked_as, answer_of}
 use Rattle.refusal.proofs.Answering.{passed}
 use Rattle.key_frame.specs.KeyFrame.{fields_of}
-use Rattle.key_writer.proofs.Writing.{named, refused-named, refused-wrap, length-small, header-room, written-wrap}
+use Rattle.key_writer.proofs.Writing.{named, refused_named, refused_wrap, length_small, header_room, written_wrap}
 use borrow.Author.Rules.{rules}
 use Rattle.key_writer.proofs.write.Statement.{statement}
 use Rattle.key_writer.proofs.write.Tie as tie
 
 -- the tests before the wrapping pass
-ok : (c : tie.After-enum-told) → let x = c.before.before.before.before.before.before.before.before.args in named (fields_of x.attribute-type x.app-id x.kek-id.now x.key-id.now x.lifetime) x.kek.now ≡ pass
+ok : (c : tie.After-enum-told) → let x = c.before.before.before.before.before.before.before.before.args in named (fields_of x.attribute-type x.app-id x.kek_id.now x.key-id.now x.lifetime) x.kek.now ≡ pass
 ok c = passed c.before.before.check-named.ensures c.enum_told.given.1
 
 add-all : tie.Need-overflow-add-all
@@ -21,7 +21,7 @@ add-all c =
     let l = w.before.before.before in
     let t = l.before in
     let x = t.before.before.before.before.before.before.before.before.args in
-    omega (arith, length-small (fields_of x.attribute-type x.app-id x.kek-id.now x.key-id.now x.lifetime) x.kek.now x.key.now x.out.now (ok t) _ l.least.ensures _ (sym (ap answer_of c.before.wrapped2.given.1) ∙ w.wrap.ensures.0))
+    omega (arith, length_small (fields_of x.attribute-type x.app-id x.kek_id.now x.key-id.now x.lifetime) x.kek.now x.key.now x.out.now (ok t) _ l.least.ensures _ (sym (ap answer_of c.before.wrapped2.given.1) ∙ w.wrap.ensures.0))
 
 cast-put-header : tie.Need-overflow-cast-put-header
 cast-put-header c =
@@ -29,7 +29,7 @@ cast-put-header c =
     let l = w.before.before.before in
     let t = l.before in
     let x = t.before.before.before.before.before.before.before.before.args in
-    omega (arith, length-small (fields_of x.attribute-type x.app-id x.kek-id.now x.key-id.now x.lifetime) x.kek.now x.key.now x.out.now (ok t) _ l.least.ensures _ (sym (ap answer_of c.before.wrapped2.given.1) ∙ w.wrap.ensures.0))
+    omega (arith, length_small (fields_of x.attribute-type x.app-id x.kek_id.now x.key-id.now x.lifetime) x.kek.now x.key.now x.out.now (ok t) _ l.least.ensures _ (sym (ap answer_of c.before.wrapped2.given.1) ∙ w.wrap.ensures.0))
 
 put-header-requires : tie.Need-put-header-requires
 put-header-requires c κs =
@@ -38,10 +38,10 @@ put-header-requires c κs =
     let l = w.before.before.before in
     let t = l.before in
     let x = t.before.before.before.before.before.before.before.before.args in
-    header-room (fields_of x.attribute-type x.app-id x.kek-id.now x.key-id.now x.lifetime) x.kek.now x.key.now x.out.now (ok t) _ l.least.ensures _ _ (sym (ap answer_of told.before.wrapped2.given.1) ∙ w.wrap.ensures.0) w.wrap.ensures.1
+    header_room (fields_of x.attribute-type x.app-id x.kek_id.now x.key-id.now x.lifetime) x.kek.now x.key.now x.out.now (ok t) _ l.least.ensures _ _ (sym (ap answer_of told.before.wrapped2.given.1) ∙ w.wrap.ensures.0) w.wrap.ensures.1
 
 returns : tie.Need-returns
-returns c = refused-named (fields_of _ _ _ _ _) _ _ _ _ (sym c.before.before.before.check-named.ensures ∙ ap checkedAs c.before.check.given.1)
+returns c = refused_named (fields_of _ _ _ _ _) _ _ _ _ (sym c.before.before.before.check-named.ensures ∙ ap checked_as c.before.check.given.1)
 
 returns-2 : tie.Need-returns-2
 returns-2 c =
@@ -49,7 +49,7 @@ returns-2 c =
     let l = w.before.before.before in
     let t = l.before in
     let x = t.before.before.before.before.before.before.before.before.args in
-    refused-wrap (fields_of x.attribute-type x.app-id x.kek-id.now x.key-id.now x.lifetime) x.kek.now x.key.now x.out.now (ok t) _ l.least.ensures _ _ (sym (ap answer_of c.before.wrapped.given.1) ∙ w.wrap.ensures.0) w.wrap.ensures.1
+    refused_wrap (fields_of x.attribute-type x.app-id x.kek_id.now x.key-id.now x.lifetime) x.kek.now x.key.now x.out.now (ok t) _ l.least.ensures _ _ (sym (ap answer_of c.before.wrapped.given.1) ∙ w.wrap.ensures.0) w.wrap.ensures.1
 
 returns-3 : tie.Need-returns-3
 returns-3 c =
@@ -59,7 +59,7 @@ returns-3 c =
     let l = w.before.before.before in
     let t = l.before in
     let x = t.before.before.before.before.before.before.before.before.args in
-    written-wrap (fields_of x.attribute-type x.app-id x.kek-id.now x.key-id.now x.lifetime) x.kek.now x.key.now x.out.now (ok t) _ l.least.ensures _ _ _ _ _ (sym (ap answer_of told.before.wrapped2.given.1) ∙ w.wrap.ensures.0) w.before.before.sixteen.ensures w.wrap.ensures.1 refl p.before.before.before.sixteen2.ensures p.before.before.sixteen3.ensures p.put-header.ensures
+    written_wrap (fields_of x.attribute-type x.app-id x.kek_id.now x.key-id.now x.lifetime) x.kek.now x.key.now x.out.now (ok t) _ l.least.ensures _ _ _ _ _ (sym (ap answer_of told.before.wrapped2.given.1) ∙ w.wrap.ensures.0) w.before.before.sixteen.ensures w.wrap.ensures.1 refl p.before.before.before.sixteen2.ensures p.before.before.sixteen3.ensures p.put-header.ensures
 
 pub write_spec : {M : Type 1} → statement M
 write_spec =

@@ -7,41 +7,41 @@ use native.Mathlib.Omega.{arith}
 use borrow.Author.Tests.{leb-true}
 use lib.ListN.{length, take, drop, length-append, length-drop}
 use lib.Seq.{take_all, take_at, length-take-le}
-use Rattle.refusal.specs.Checks.{Reason, Check, pass, refuse, bare, unless, ◌andThen◌, check6}
-use Rattle.refusal.specs.Answers.{bufferAfter}
-use Rattle.refusal.proofs.Passing.{before-passed, last-passed, test-passed}
+use Rattle.refusal.specs.Checks.{Reason, Check, pass, refuse, bare, unless, ◌and_then◌, check6}
+use Rattle.refusal.specs.Answers.{buffer_after}
+use Rattle.refusal.proofs.Passing.{before-passed, last-passed, test_passed}
 use Rattle.slices.specs.Same.{same_list}
 use Rattle.slices.proofs.Lists.{copied-front}
-use Rattle.rfc3394.specs.Rfc3394.{initialValue, Registers, unwrapRegisters, unwrappedIv, unwrappedKey}
+use Rattle.rfc3394.specs.Rfc3394.{initial_value, Registers, unwrap_registers, unwrapped_iv, unwrapped_key}
 use Rattle.rfc3394.proofs.Steps.{registers≡}
-use Rattle.keywrap_aes.specs.Internal.{passesOf}
-use Rattle.keywrap.specs.Calls.{check23, check28, keyLength, unwrapCheck}
-use Rattle.keywrap.proofs.Lengths.{passed-low, passed-high, copied-whole}
+use Rattle.keywrap_aes.specs.Internal.{passes_of}
+use Rattle.keywrap.specs.Calls.{check23, check28, key_length, unwrap_check}
+use Rattle.keywrap.proofs.Lengths.{passed-low, passed-high, copied_whole}
 
 -- ---- the tests
 
-pub unwrap-bounds : (m room : ℕ) (bytes : List ℕ) → m ≡ keyLength bytes → (check23 m and_then check6 m room) ≡ pass
-    → (8 ≤ length bytes) × (keyLength bytes ≤ 192) × (keyLength bytes ≤ room)
-unwrap-bounds m room bytes h e =
+pub unwrap_bounds : (m room : ℕ) (bytes : List ℕ) → m ≡ key_length bytes → (check23 m and_then check6 m room) ≡ pass
+    → (8 ≤ length bytes) × (key_length bytes ≤ 192) × (key_length bytes ≤ room)
+unwrap_bounds m room bytes h e =
     let lo = passed-low m (before-passed _ _ e) in
     let hi = passed-high m (before-passed _ _ e) in
-    let fits = leb-true m room (test-passed _ _ (last-passed _ _ e)) in
+    let fits = leb-true m room (test_passed _ _ (last-passed _ _ e)) in
     (omega arith, omega arith, omega arith)
 
-pub unwrap-refused : (m room : ℕ) (kek bytes : List ℕ) (x : Reason) → m ≡ keyLength bytes → refuse x ≡ (check23 m and_then check6 m room)
-    → refuse x ≡ unwrapCheck kek bytes room
-unfolding unwrapCheck ◌andThen◌
-unwrap-refused m room kek bytes x h e =
-    ap (λ (k : Check). k and_then check28 (unwrappedIv kek bytes)) (e ∙ ap (λ (n : ℕ). check23 n and_then check6 n room) h)
+pub unwrap_refused : (m room : ℕ) (kek bytes : List ℕ) (x : Reason) → m ≡ key_length bytes → refuse x ≡ (check23 m and_then check6 m room)
+    → refuse x ≡ unwrap_check kek bytes room
+unfolding unwrap_check ◌and_then◌
+unwrap_refused m room kek bytes x h e =
+    ap (λ (k : Check). k and_then check28 (unwrapped_iv kek bytes)) (e ∙ ap (λ (n : ℕ). check23 n and_then check6 n room) h)
 
 -- the test of the integrity, after the others
-pub unwrap-settled : (m room : ℕ) (kek bytes iv : List ℕ) (same : Bool) (k : Check) → m ≡ keyLength bytes → pass ≡ (check23 m and_then check6 m room)
-    → iv ≡ unwrappedIv kek bytes → same ≡ same_list iv initialValue → k ≡ unless same (bare 28) → k ≡ unwrapCheck kek bytes room
-unfolding unwrapCheck ◌andThen◌
-unwrap-settled m room kek bytes iv same k h e f g q =
+pub unwrap_settled : (m room : ℕ) (kek bytes iv : List ℕ) (same : Bool) (k : Check) → m ≡ key_length bytes → pass ≡ (check23 m and_then check6 m room)
+    → iv ≡ unwrapped_iv kek bytes → same ≡ same_list iv initial_value → k ≡ unless same (bare 28) → k ≡ unwrap_check kek bytes room
+unfolding unwrap_check ◌and_then◌
+unwrap_settled m room kek bytes iv same k h e f g q =
     q
-    ∙ ap (λ (b : Bool). unless b (bare 28)) (g ∙ ap (λ (l : List ℕ). same_list l initialValue) f)
-    ∙ ap (λ (x : Check). x and_then check28 (unwrappedIv kek bytes)) (e ∙ ap (λ (n : ℕ). check23 n and_then check6 n room) h)
+    ∙ ap (λ (b : Bool). unless b (bare 28)) (g ∙ ap (λ (l : List ℕ). same_list l initial_value) f)
+    ∙ ap (λ (x : Check). x and_then check28 (unwrapped_iv kek bytes)) (e ∙ ap (λ (n : ℕ). check23 n and_then check6 n room) h)
 
 -- ---- the wrapped bytes unwrapped in the scratch
 
@@ -49,21 +49,21 @@ unwrap-settled m room kek bytes iv same k h e f g q =
 abbrev rest : List ℕ → List ℕ
 rest bytes = take (length bytes - 8) (drop 8 bytes)
 
-pub copied-rest : (bytes d r : List ℕ) → length d ≡ keyLength bytes → r ≡ take (length (rest bytes)) (rest bytes) ++ drop (length (rest bytes)) d → r ≡ rest bytes
-copied-rest bytes d r e h =
-    copied-whole (rest bytes) d r (e ∙ sym (length-take-le (length bytes - 8) (drop 8 bytes) (simp length-drop (omega arith)))) h
+pub copied_rest : (bytes d r : List ℕ) → length d ≡ key_length bytes → r ≡ take (length (rest bytes)) (rest bytes) ++ drop (length (rest bytes)) d → r ≡ rest bytes
+copied_rest bytes d r e h =
+    copied_whole (rest bytes) d r (e ∙ sym (length-take-le (length bytes - 8) (drop 8 bytes) (simp length-drop (omega arith)))) h
 
-pub unwrapped-in-scratch : (kek bytes s v a r : List ℕ) → 8 ≤ length bytes → s ≡ rest bytes → v ≡ take 8 bytes
-    → a ≡ (passesOf true kek (v, s)).0 → r ≡ (passesOf true kek (v, s)).1 → (a ≡ unwrappedIv kek bytes) × (r ≡ unwrappedKey kek bytes)
-unfolding unwrappedIv unwrappedKey unwrapRegisters
-unwrapped-in-scratch kek bytes s v a r long es ev ea er =
+pub unwrapped_in_scratch : (kek bytes s v a r : List ℕ) → 8 ≤ length bytes → s ≡ rest bytes → v ≡ take 8 bytes
+    → a ≡ (passes_of true kek (v, s)).0 → r ≡ (passes_of true kek (v, s)).1 → (a ≡ unwrapped_iv kek bytes) × (r ≡ unwrapped_key kek bytes)
+unfolding unwrapped_iv unwrapped_key unwrap_registers
+unwrapped_in_scratch kek bytes s v a r long es ev ea er =
     let e : s ≡ drop 8 bytes = es ∙ take_all (length bytes - 8) (drop 8 bytes) (simp length-drop (omega arith)) in
-    let q : passesOf true kek (v, s) ≡ passesOf true kek (take 8 bytes, drop 8 bytes) = ap (passesOf true kek) (registers≡ ev e) in
+    let q : passes_of true kek (v, s) ≡ passes_of true kek (take 8 bytes, drop 8 bytes) = ap (passes_of true kek) (registers≡ ev e) in
     (ea ∙ ap (λ (x : Registers). x.0) q, er ∙ ap (λ (x : Registers). x.1) q)
 
 -- the part of the scratch l that is lent to the unwrapping
-pub lent : (n : ℕ) (bytes l : List ℕ) → n ≡ keyLength bytes → 8 ≤ length bytes → n ≤ 192 → n ≤ length l
-    → (8 ≤ length bytes) × (length (take n l) ≤ 192) × (length (take n l) ≡ keyLength bytes)
+pub lent : (n : ℕ) (bytes l : List ℕ) → n ≡ key_length bytes → 8 ≤ length bytes → n ≤ 192 → n ≤ length l
+    → (8 ≤ length bytes) × (length (take n l) ≤ 192) × (length (take n l) ≡ key_length bytes)
 lent n bytes l e long short room = let t = length-take-le n l room in (long, omega arith, t ∙ e)
 
 -- the first n bytes of the scratch, which are the key z, are copied
@@ -75,8 +75,8 @@ module _ (n : ℕ) (z d : List ℕ) (h : length z ≡ n) where
   key-counted = sym (ap length (take_at z d n h) ∙ h)
 
   pub released : (m : ℕ) (f v out : List ℕ) (k : Check)
-      → f ≡ take (length (take n (z ++ d))) (take n (z ++ d)) ++ drop (length (take n (z ++ d))) out → z ≡ v → n ≡ m → pass ≡ k → f ≡ bufferAfter k m v out
+      → f ≡ take (length (take n (z ++ d))) (take n (z ++ d)) ++ drop (length (take n (z ++ d))) out → z ≡ v → n ≡ m → pass ≡ k → f ≡ buffer_after k m v out
   released m f v out k ef q e p =
       copied-front (take n (z ++ d)) out ef
       ∙ ap₂ (λ (l : List ℕ) (i : ℕ). l ++ drop i out) (take_at z d n h ∙ q) (sym key-counted ∙ e)
-      ∙ ap (λ (x : Check). bufferAfter x m v out) p
+      ∙ ap (λ (x : Check). buffer_after x m v out) p

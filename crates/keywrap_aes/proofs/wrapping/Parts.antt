@@ -8,40 +8,40 @@ use borrow.Author.Tests.{leb-true}
 use borrow.Rule.Slice.PartMut.{mid_of, put_mid, same_len_mid}
 use lib.ListN.{length, take, drop, length-drop}
 use lib.Seq.{take-length, take_at, drop_at, drop-drop, length-take-le}
-use Rattle.refusal.specs.Checks.{Reason, Check, pass, refuse, ◌andThen◌, check6}
-use Rattle.refusal.proofs.Passing.{before-passed, last-passed, test-passed}
-use Rattle.rfc3394.specs.Rfc3394.{initialValue, wrapRegisters, wrapped}
-use Rattle.keywrap_aes.specs.Internal.{passesOf}
-use Rattle.keywrap.specs.Calls.{check23, wrapCheck}
-use Rattle.keywrap.proofs.Lengths.{passed-high, copied-whole}
+use Rattle.refusal.specs.Checks.{Reason, Check, pass, refuse, ◌and_then◌, check6}
+use Rattle.refusal.proofs.Passing.{before-passed, last-passed, test_passed}
+use Rattle.rfc3394.specs.Rfc3394.{initial_value, wrap_registers, wrapped}
+use Rattle.keywrap_aes.specs.Internal.{passes_of}
+use Rattle.keywrap.specs.Calls.{check23, wrap_check}
+use Rattle.keywrap.proofs.Lengths.{passed-high, copied_whole}
 
 -- ---- the tests
 
-pub wrap-refused : (n room : ℕ) (x : Reason) → refuse x ≡ check23 n → refuse x ≡ wrapCheck n room
-unfolding wrapCheck ◌andThen◌
-wrap-refused n room x e = ap (λ (k : Check). k and_then check6 (n + 8) room) e
+pub wrap_refused : (n room : ℕ) (x : Reason) → refuse x ≡ check23 n → refuse x ≡ wrap_check n room
+unfolding wrap_check ◌and_then◌
+wrap_refused n room x e = ap (λ (k : Check). k and_then check6 (n + 8) room) e
 
-pub wrap-passed : (n room : ℕ) (r : Check) → pass ≡ check23 n → r ≡ check6 (n + 8) room → r ≡ wrapCheck n room
-unfolding wrapCheck ◌andThen◌
-wrap-passed n room r e h = h ∙ ap (λ (k : Check). k and_then check6 (n + 8) room) e
+pub wrap_passed : (n room : ℕ) (r : Check) → pass ≡ check23 n → r ≡ check6 (n + 8) room → r ≡ wrap_check n room
+unfolding wrap_check ◌and_then◌
+wrap_passed n room r e h = h ∙ ap (λ (k : Check). k and_then check6 (n + 8) room) e
 
-pub wrap-bounds : (n room : ℕ) → wrapCheck n room ≡ pass → (n ≤ 192) × (n + 8 ≤ room)
-unfolding wrapCheck
-wrap-bounds n room e = (passed-high n (before-passed _ _ e), leb-true (n + 8) room (test-passed _ _ (last-passed _ _ e)))
+pub wrap_bounds : (n room : ℕ) → wrap_check n room ≡ pass → (n ≤ 192) × (n + 8 ≤ room)
+unfolding wrap_check
+wrap_bounds n room e = (passed-high n (before-passed _ _ e), leb-true (n + 8) room (test_passed _ _ (last-passed _ _ e)))
 
 -- ---- the key wrapped in its place
 
 -- from the start of a part that was put back
-drop-part : (n k : ℕ) (l z : List ℕ) → n ≤ length l → drop n (put_mid n k l z) ≡ z ++ drop k (drop n l)
-drop-part n k l z h = drop_at (take n l) (z ++ drop k (drop n l)) n (length-take-le n l h)
+drop_part : (n k : ℕ) (l z : List ℕ) → n ≤ length l → drop n (put_mid n k l z) ≡ z ++ drop k (drop n l)
+drop_part n k l z h = drop_at (take n l) (z ++ drop k (drop n l)) n (length-take-le n l h)
 
 module _ (kek key out : List ℕ) (k : ℕ) (z : List ℕ) (room : length key + 8 ≤ length out) (ek : k ≡ length key)
     (hz : z ≡ take (length key) key ++ drop (length key) (mid_of 8 k out)) where
   ez : z ≡ key
-  ez = copied-whole key (mid_of 8 k out) z (length-take-le k (drop 8 out) (simp length-drop (omega arith)) ∙ ek) hz
+  ez = copied_whole key (mid_of 8 k out) z (length-take-le k (drop 8 out) (simp length-drop (omega arith)) ∙ ek) hz
 
   placed : drop 8 (put_mid 8 k out z) ≡ z ++ drop k (drop 8 out)
-  placed = drop-part 8 k out z (omega arith)
+  placed = drop_part 8 k out z (omega arith)
 
   z-length : length z ≡ k
   z-length = ap length ez ∙ sym ek
@@ -50,17 +50,17 @@ module _ (kek key out : List ℕ) (k : ℕ) (z : List ℕ) (room : length key + 
   key-there = ap (take k) placed ∙ take_at z (drop k (drop 8 out)) k z-length ∙ ez
 
   pub wrapped-in-place : (a r f : List ℕ) → length a ≡ 8
-      → a ≡ (passesOf false kek (initialValue, mid_of 8 k (put_mid 8 k out z))).0
-      → r ≡ (passesOf false kek (initialValue, mid_of 8 k (put_mid 8 k out z))).1
+      → a ≡ (passes_of false kek (initial_value, mid_of 8 k (put_mid 8 k out z))).0
+      → r ≡ (passes_of false kek (initial_value, mid_of 8 k (put_mid 8 k out z))).1
       → f ≡ take (length a) a ++ drop (length a) (put_mid 8 k (put_mid 8 k out z) r)
       → f ≡ wrapped kek key ++ drop (length key + 8) out
-  unfolding wrapped wrapRegisters
+  unfolding wrapped wrap_registers
   wrapped-in-place a r f la ea er ef =
       let w : List ℕ = put_mid 8 k out z in
       let l : 8 ≤ length w = rw (same_len_mid 8 k out z (z-length ∙ sym (length-take-le k (drop 8 out) (simp length-drop (omega arith))))) (omega arith) in
       let e8 : 8 + k ≡ length key + 8 = omega arith in
       let d : drop 8 (put_mid 8 k w r) ≡ r ++ drop (length key + 8) out
-      = drop-part 8 k w r l
+      = drop_part 8 k w r l
       ∙ ap (λ (x : List ℕ). r ++ x)
       (ap (drop k) placed ∙ drop_at z (drop k (drop 8 out)) k z-length ∙ drop-drop k 8 out ∙ ap (λ (n : ℕ). drop n out) e8) in
       ef
@@ -68,5 +68,5 @@ module _ (kek key out : List ℕ) (k : ℕ) (z : List ℕ) (room : length key + 
       ∙ sym (append_assoc a r (drop (length key + 8) out))
       ∙ ap (λ (x : List ℕ). x ++ drop (length key + 8) out)
       (ap₂ (λ (x y : List ℕ). x ++ y)
-      (ea ∙ ap (λ (l : List ℕ). (passesOf false kek (initialValue, l)).0) key-there)
-      (er ∙ ap (λ (l : List ℕ). (passesOf false kek (initialValue, l)).1) key-there))
+      (ea ∙ ap (λ (l : List ℕ). (passes_of false kek (initial_value, l)).0) key-there)
+      (er ∙ ap (λ (l : List ℕ). (passes_of false kek (initial_value, l)).1) key-there))

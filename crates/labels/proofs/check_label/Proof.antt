@@ -1,6 +1,6 @@
 use mathlib.Core.Path.{sym, ◌∙◌}
 use borrow.Author.Rules.{rules}
-use Rattle.labels.proofs.charset.Forms.{form-low, form-high}
+use Rattle.labels.proofs.charset.Forms.{form_low, form_high}
 use Rattle.labels.proofs.Labels.{left-to-syntax, length-refused, byte-refused}
 use Rattle.labels.proofs.check_label.Statement.{statement}
 use Rattle.labels.proofs.check_label.Tie as tie
@@ -8,7 +8,7 @@ use Rattle.labels.proofs.check_label.Tie as tie
 check-syntax-requires : tie.Need-check-syntax-requires
 check-syntax-requires c κs =
     let well = sym c.enum_told.given.1 ∙ c.before.before.form_of.ensures in
-    (form-low _ _ _ well, form-high _ _ _ well)
+    (form_low _ _ _ well, form_high _ _ _ well)
 
 returns : tie.Need-returns
 returns c = left-to-syntax _ (sym c.before.enum_told.given.1 ∙ c.before.before.before.form_of.ensures) c.check-syntax.ensures

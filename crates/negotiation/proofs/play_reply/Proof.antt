@@ -5,7 +5,7 @@ use native.Mathlib.Omega.{arith}
 use lib.ListN.{length}
 use lib.Seq.{length-take-le}
 use Rattle.refusal.specs.Answers.{answer_of}
-use Rattle.offer_rules.proofs.Rounds.{wrote-fits}
+use Rattle.offer_rules.proofs.Rounds.{wrote_fits}
 use borrow.Author.Rules.{rules}
 use Rattle.negotiation.proofs.play_reply.Statement.{statement}
 use Rattle.negotiation.proofs.play_reply.Tie as tie
@@ -13,7 +13,7 @@ use Rattle.negotiation.proofs.play_reply.Tie as tie
 fits : (c : tie.After-count) → let q = c.before.before.before in c.count.given.0.0 ≤ length q.answer.new.1.1.0
 fits c =
     let q = c.before.before.before in
-    let within = wrote-fits _ _ _ _ (sym q.answer.ensures.0 ∙ ap answer_of c.count.given.1) in
+    let within = wrote_fits _ _ _ _ (sym q.answer.ensures.0 ∙ ap answer_of c.count.given.1) in
     let kept = q.answer.auto.1.1.0 in
     omega arith
 

@@ -6,28 +6,28 @@ use borrow.Author.Rules.{rules}
 use lib.ListN.{length}
 use lib.Seq.{length-take-le}
 use Rattle.refusal.specs.Answers.{answer_of}
-use Rattle.offer_rules.specs.Answers.{ask, firstRound}
-use Rattle.offer_rules.proofs.Rounds.{wrote-fits}
-use Rattle.offers.specs.Answers.{firstRoundOf}
-use Rattle.offer_rules.specs.Negotiation.{negotiated, negotiatedBuffer}
+use Rattle.offer_rules.specs.Answers.{ask, first_round}
+use Rattle.offer_rules.proofs.Rounds.{wrote_fits}
+use Rattle.offers.specs.Answers.{first_round_of}
+use Rattle.offer_rules.specs.Negotiation.{negotiated, negotiated_buffer}
 use Rattle.offer_exchange.proofs.Steps.{unasked, server-refused, server-wrote}
 use Rattle.offer_exchange.proofs.negotiate.Statement.{statement}
 use Rattle.offer_exchange.proofs.negotiate.Tie as tie
 
 -- what the first round and the server answered
-asks : (c : tie.After-answer) → let p = c.before.before.before.before.before in let a = p.before.before.before.before.args in firstRound a.offered.now a.supported.now ≡ ask c.before.before.before.first.given.0.0 c.before.before.before.first.given.0.1.0
-asks c = let p = c.before.before.before.before.before in sym p.choose.ensures ∙ ap firstRoundOf c.before.before.before.first.given.1
+asks : (c : tie.After-answer) → let p = c.before.before.before.before.before in let a = p.before.before.before.before.args in first_round a.offered.now a.supported.now ≡ ask c.before.before.before.first.given.0.0 c.before.before.before.first.given.0.1.0
+asks c = let p = c.before.before.before.before.before in sym p.choose.ensures ∙ ap first_round_of c.before.before.before.first.given.1
 
 -- the count that the server answers lies within its buffer
 fits : (c : tie.After-count) → let q = c.before.before.before.before in c.count.given.0.0 ≤ length q.answer.new.1.1.0
 fits c =
     let q = c.before.before.before.before in
-    let within = wrote-fits _ _ _ _ (sym q.answer.ensures.0 ∙ ap answer_of c.count.given.1) in
+    let within = wrote_fits _ _ _ _ (sym q.answer.ensures.0 ∙ ap answer_of c.count.given.1) in
     let kept = q.answer.auto.1.1.0 in
     omega arith
 
 returns : tie.Need-returns
-unfolding negotiated negotiatedBuffer
+unfolding negotiated negotiated_buffer
 returns c =
     let p = c.before.before in
     let a = p.before.before.before.before.args in

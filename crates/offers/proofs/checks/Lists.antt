@@ -11,9 +11,9 @@ use lib.Dec.{eqb}
 use lib.ListN.{length, get_or, take, drop, drop_of_length-le}
 use lib.Seq.{drop-cons}
 use Rattle.slices.proofs.Lists.{rest-drop}
-use Rattle.refusal.specs.Checks.{Reason, Check, pass, refuse, ◌andThen◌}
-use Rattle.refusal.proofs.Passing.{within_low, before-passed, test-passed, first-refuses, second-decides, then-assoc}
-use Rattle.offer_rules.specs.Rfc5448.{stands, repeats, isFirst, check10, check11}
+use Rattle.refusal.specs.Checks.{Reason, Check, pass, refuse, ◌and_then◌}
+use Rattle.refusal.proofs.Passing.{within_low, before-passed, test_passed, first_refuses, second_decides, then_assoc}
+use Rattle.offer_rules.specs.Rfc5448.{stands, repeats, is_first, check10, check11}
 
 module _ (value : ℕ) (s : List ℕ) (i : ℕ) (inv : stands value s ≡ stands value (drop i s)) where
   pub stands-hit : i < length s → get_or s i 0 ≡ value → true ≡ stands value s
@@ -42,18 +42,18 @@ module _ (s : List ℕ) (i : ℕ) (inv : repeats s ≡ repeats (drop i s)) where
   repeats-done h = sym (inv ∙ rw drop_of_length-le)
 
 -- the first element of a list that has one decides
-pub first_head : (value : ℕ) (s : List ℕ) → 1 ≤ length s → eqb (get_or s 0 0) value ≡ isFirst value s
-unfolding isFirst
+pub first_head : (value : ℕ) (s : List ℕ) → 1 ≤ length s → eqb (get_or s 0 0) value ≡ is_first value s
+unfolding is_first
 first_head value [] h = let none : ⊥ = omega arith in elim none [ ]
 first_head value (x ∷ s) h = refl
 
 -- a list that 10 passes has a first element
 pub has_first : (offers : List ℕ) → (check10 offers and_then check11 offers) ≡ pass → 1 ≤ length offers
-has_first offers e = within_low 1 16 (length offers) (test-passed _ _ (before-passed _ _ e))
+has_first offers e = within_low 1 16 (length offers) (test_passed _ _ (before-passed _ _ e))
 
 -- two tests after those that were made
 pub two-refused : (a b c : Check) {x : Reason} → a ≡ refuse x → refuse x ≡ (a and_then b and_then c)
-two-refused a b c e = first-refuses (a and_then b) c (sym (first-refuses a b e))
+two-refused a b c e = first_refuses (a and_then b) c (sym (first_refuses a b e))
 
-pub two-decide : (a b c : Check) → a ≡ pass → (b and_then c) ≡ (a and_then b and_then c)
-two-decide a b c e = second-decides a (b and_then c) e ∙ sym (then-assoc a b c)
+pub two_decide : (a b c : Check) → a ≡ pass → (b and_then c) ≡ (a and_then b and_then c)
+two_decide a b c e = second_decides a (b and_then c) e ∙ sym (then_assoc a b c)

@@ -8,11 +8,11 @@ use native.Mathlib.Omega.{arith}
 use borrow.Author.Rules.{rules}
 use lib.ListN.{length, take, drop, length-take, length-drop}
 use lib.Seq.{length-paste, length-take-le}
-use Rattle.hmac.specs.Rfc2104.{hmacSha256}
-use Rattle.hmac.proofs.Laws.{hmacSha256-length}
-use Rattle.prf_plus.specs.PrfPlus.{blocks, prfPlus, blockCount}
-use Rattle.slices.proofs.Copies.{copied-part}
-use Rattle.prf_plus.proofs.Parts.{mac-of-input, next-under-key}
+use Rattle.hmac.specs.Rfc2104.{hmac_sha256}
+use Rattle.hmac.proofs.Laws.{hmac_sha256-length}
+use Rattle.prf_plus.specs.PrfPlus.{blocks, prfPlus, block_count}
+use Rattle.slices.proofs.Copies.{copied_part}
+use Rattle.prf_plus.proofs.Parts.{mac_of_input, next_under_key}
 use Rattle.prf_plus.proofs.Steps.{next-out, closer}
 use Rattle.prf_plus.proofs.fill.Statement.{statement}
 use Rattle.prf_plus.proofs.fill.Tie as tie
@@ -20,7 +20,7 @@ use Rattle.prf_plus.proofs.fill.Tie as tie
 abbrev invariant-loop : tie.invariant-loop
 invariant-loop key a b c d n out₀ k begun i₀ from₀ at₀ out i from at =
     (from ≡ 32 * (i - 1)) × (at ≡ min n (32 * i)) × (32 * i < n + 32)
-    × (length out ≡ length out₀) × (out ≡ take at (blocks hmacSha256 key (a ++ (b ++ (c ++ d))) i) ++ drop at out₀)
+    × (length out ≡ length out₀) × (out ≡ take at (blocks hmac_sha256 key (a ++ (b ++ (c ++ d))) i) ++ drop at out₀)
 
 abbrev decreases-loop : tie.decreases-loop
 decreases-loop key a b c d n out₀ k begun i₀ from₀ at₀ out i from at = n - at
@@ -72,20 +72,20 @@ loop-again c =
     let full : l.at ≡ 32 * l.i = omega arith in
     let keyed = here.before.before.before.new in
     let previous : List ℕ = take (l.at - l.from) (drop l.from l.out) in
-    let mac = mac-of-input previous s.a.now s.b.now s.c.now s.d.now (l.i + 1) keyed.result.outer here.before.after.ensures p.finish.ensures in
-    let b = next-under-key key text s.out.now l.out l.i l.from l.at keyed.ensures.0 keyed.ensures.1 mac l.invariant.0 full l.invariant.4 in
-    let copied = copied-part l.out (take m t) l.at c.before.before.copy.ensures.1 in
+    let mac = mac_of_input previous s.a.now s.b.now s.c.now s.d.now (l.i + 1) keyed.result.outer here.before.after.ensures p.finish.ensures in
+    let b = next_under_key key text s.out.now l.out l.i l.from l.at keyed.ensures.0 keyed.ensures.1 mac l.invariant.0 full l.invariant.4 in
+    let copied = copied_part l.out (take m t) l.at c.before.before.copy.ensures.1 in
     let long : length (take m t) ≤ m = simp length-take (omega arith) in
     let fits : l.at + length (take m t) ≤ length l.out = omega (arith, l.invariant.3) in (
       omega arith,
       omega arith,
       omega arith,
       ap length copied ∙ length-paste l.out l.at (take m t) (length (take m t)) fits (le_refl (length (take m t))) ∙ l.invariant.3,
-      next-out hmacSha256 hmacSha256-length key text s.out.now l.out _ t l.i m l.at full (omega arith) l.invariant.4 b copied,
+      next-out hmac_sha256 hmac_sha256-length key text s.out.now l.out _ t l.i m l.at full (omega arith) l.invariant.4 b copied,
     )
 
 returns : tie.Need-returns invariant-loop decreases-loop
-unfolding prfPlus blockCount
+unfolding prfPlus block_count
 returns c =
     let l = c.before.loop in
     let s = c.before.before.before.before.before.before.before.before.before.before.before.args in

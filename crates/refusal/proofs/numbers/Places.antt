@@ -4,7 +4,7 @@ use mathlib.Core.Path.{◌≡◌, refl}
 use mathlib.Core.List.{List, [], ◌∷◌}
 use types.Run.{OneOf, miss}
 use denote.Enum.Declared.{tag_of}
-use Rattle.refusal.specs.Answers.{reasonOf, place_in}
+use Rattle.refusal.specs.Answers.{reason_of, place_in}
 use Rattle.refusal.specs.declared.Refusal.{Refusal}
 use Rattle.refusal.specs.contracts.Refusal.{the_type}
 use Rattle.refusal.specs.declared.Refusal.TheVariants.{
@@ -66,7 +66,7 @@ others =
     0 ∷ 1 ∷ 3 ∷ 4 ∷ 5 ∷ 6 ∷ 7 ∷ 8 ∷ 9 ∷ 10 ∷ 11 ∷ 12 ∷ 13 ∷ 14 ∷ 16 ∷ 17 ∷ 18 ∷ 19 ∷ 20 ∷ 21 ∷ 22 ∷ 23 ∷ 24 ∷ 25 ∷ 26 ∷ 27 ∷
     28 ∷ 29 ∷ 30 ∷ 31 ∷ 32 ∷ 33 ∷ 34 ∷ 35 ∷ 36 ∷ 37 ∷ 38 ∷ 39 ∷ 40 ∷ 41 ∷ 42 ∷ 43 ∷ 44 ∷ 45 ∷ 46 ∷ 47 ∷ 48 ∷ 49 ∷ []
 
-pub unplaced : (x : Refusal) → OneOf others (tag_of the_type x) → 0 ≡ place_in (reasonOf x)
+pub unplaced : (x : Refusal) → OneOf others (tag_of the_type x) → 0 ≡ place_in (reason_of x)
 unplaced RootKeyLength h = refl
 unplaced LabelLength h = refl
 unplaced (LabelByte i) h = absurd (miss others 2 tt h)

@@ -1,6 +1,6 @@
 -- `sha1_block::compress` meets its contract: one run of rounds after another, each with the window that it finds (proofs/Rounds.antt).
 use Rattle.std.proofs.Common.{refl, ◌∙◌, lit≤, rules}
-use Rattle.sha1_block.proofs.Rounds.{by-ch, by-parity, by-maj, by-last-parity, no-round, all-rounds}
+use Rattle.sha1_block.proofs.Rounds.{by-ch, by-parity, by-maj, by-last-parity, no_round, all_rounds}
 use Rattle.sha1_block.proofs.compress.Statement.{statement}
 use Rattle.sha1_block.proofs.compress.Tie as tie
 
@@ -28,7 +28,7 @@ returns c =
     let w32 = r32.group-words3.ensures b w16 in
     let w48 = r48.group-words4.ensures b w32 in
     let w64 = r64.group-words5.ensures b w48 in
-    let s0 = no-round h b c0.kept.ensures in
+    let s0 = no_round h b c0.kept.ensures in
     let s16 = by-ch h b 0 0 0 16 w0 s0 refl (lit≤ tt) (lit≤ tt) c16.rounds-0-to-15.ensures in
     let s20 = by-ch h b 16 16 0 4 w16 s16 refl (lit≤ tt) (lit≤ tt) c20.rounds-16-to-19.ensures in
     let s32 = by-parity h b 20 16 4 12 w16 s20 refl (lit≤ tt) (lit≤ tt) (lit≤ tt) c32.rounds-20-to-31.ensures in
@@ -37,7 +37,7 @@ returns c =
     let s60 = by-maj h b 48 48 0 12 w48 s48 refl (lit≤ tt) (lit≤ tt) (lit≤ tt) c60.rounds-48-to-59.ensures in
     let s64 = by-last-parity h b 60 48 12 4 w48 s60 refl (lit≤ tt) (lit≤ tt) c64.rounds-60-to-63.ensures in
     let s80 = by-last-parity h b 64 64 0 16 w64 s64 refl (lit≤ tt) (lit≤ tt) c80.rounds-64-to-79.ensures in
-    c.sum.ensures ∙ all-rounds h b c.before.variables-of.ensures s80
+    c.sum.ensures ∙ all_rounds h b c.before.variables-of.ensures s80
 
 pub compress-spec : {M : Type 1} → statement M
 compress-spec =

@@ -4,22 +4,22 @@ use native.Mathlib.Nat.{mod-add-mod}
 use lib.Bits.{bit_xor, bit_and}
 use Rattle.fips180.specs.Words.{ROTL, Ch, Maj}
 use Rattle.fips180.specs.Sha1.{Parity, T, step}
-use Rattle.fips180.proofs.Bits.{xor, xor_assoc, one-and-ch, sum-maj}
-use Rattle.fips180.proofs.Rotations.{left_lt, left-xor, left_and}
+use Rattle.fips180.proofs.Bits.{xor, xor_assoc, one-and_ch, sum_maj}
+use Rattle.fips180.proofs.Rotations.{left_lt, left_xor, left_and}
 use Rattle.sha1_block.specs.Internal.{variables}
 
 module _ (x y z : ℕ) (hx : x < 2 ^ 32) (hy : y < 2 ^ 32) (hz : z < 2 ^ 32) where
   pub rotated-ch : {p q : ℕ} → p ≡ ROTL 30 z → q ≡ ROTL 30 (bit_xor y z) → bit_xor p (bit_and x q) ≡ Ch x (ROTL 30 y) (ROTL 30 z)
-  rotated-ch ep eq = (λ i. bit_xor (ep i) (bit_and x ((eq ∙ left-xor y z hy hz) i))) ∙ one-and-ch x (ROTL 30 y) (ROTL 30 z) hx (left_lt y hy) (left_lt z hz)
+  rotated-ch ep eq = (λ i. bit_xor (ep i) (bit_and x ((eq ∙ left_xor y z hy hz) i))) ∙ one-and_ch x (ROTL 30 y) (ROTL 30 z) hx (left_lt y hy) (left_lt z hz)
 
   pub rotated-parity : {q : ℕ} → q ≡ ROTL 30 (bit_xor y z) → bit_xor x q ≡ Parity x (ROTL 30 y) (ROTL 30 z)
   unfolding xor
-  rotated-parity eq = ap (bit_xor x) (eq ∙ left-xor y z hy hz) ∙ xor_assoc x (ROTL 30 y) (ROTL 30 z) hx (left_lt y hy) (left_lt z hz)
+  rotated-parity eq = ap (bit_xor x) (eq ∙ left_xor y z hy hz) ∙ xor_assoc x (ROTL 30 y) (ROTL 30 z) hx (left_lt y hy) (left_lt z hz)
 
   pub rotated-maj : {p q r : ℕ} → p ≡ ROTL 30 (bit_xor y z) → q ≡ ROTL 30 (bit_and y z) → r ≡ (bit_and x p + q) % 2 ^ 32 → r ≡ Maj x (ROTL 30 y) (ROTL 30 z)
   rotated-maj ep eq er =
-      er ∙ (λ i. (bit_and x ((ep ∙ left-xor y z hy hz) i) + (eq ∙ left_and y z hy hz) i) % 2 ^ 32)
-      ∙ sum-maj x (ROTL 30 y) (ROTL 30 z) hx (left_lt y hy) (left_lt z hz)
+      er ∙ (λ i. (bit_and x ((ep ∙ left_xor y z hy hz) i) + (eq ∙ left_and y z hy hz) i) % 2 ^ 32)
+      ∙ sum_maj x (ROTL 30 y) (ROTL 30 z) hx (left_lt y hy) (left_lt z hz)
 
 -- a round: the sum, which is taken modulo 2 ^ 32 at each step, and the values kept
 pub stepped : (s : List ℕ) (v k w : ℕ) {a p e q r t : ℕ} → a ≡ ROTL 5 (get_or s 0 0) → p ≡ (a + v) % 2 ^ 32 → e ≡ ROTL 30 (get_or s 4 0) → q ≡ (p + e) % 2 ^ 32
@@ -33,10 +33,10 @@ stepped s v k w ea ep ee eq er et =
     λ i. five i ∷ get_or s 0 0 ∷ ROTL 30 (get_or s 1 0) ∷ ROTL 30 (get_or s 2 0) ∷ ROTL 30 (get_or s 3 0) ∷ []
 
 -- a hash value's working variables, from the values kept of it
-pub kept-variables : (h : List ℕ) (c d e : ℕ) → length h ≡ 5 → ROTL 30 c ≡ get_or h 2 0 → ROTL 30 d ≡ get_or h 3 0 → ROTL 30 e ≡ get_or h 4 0
+pub kept_variables : (h : List ℕ) (c d e : ℕ) → length h ≡ 5 → ROTL 30 c ≡ get_or h 2 0 → ROTL 30 d ≡ get_or h 3 0 → ROTL 30 e ≡ get_or h 4 0
     → variables (get_or h 0 0 ∷ get_or h 1 0 ∷ c ∷ d ∷ e ∷ []) ≡ h
 unfolding variables
-kept-variables h c d e l ec ed ee = (λ i. get_or h 0 0 ∷ get_or h 1 0 ∷ ec i ∷ ed i ∷ ee i ∷ []) ∙ listed h l
+kept_variables h c d e l ec ed ee = (λ i. get_or h 0 0 ∷ get_or h 1 0 ∷ ec i ∷ ed i ∷ ee i ∷ []) ∙ listed h l
   where
     listed : (h : List ℕ) → length h ≡ 5 → get_or h 0 0 ∷ get_or h 1 0 ∷ get_or h 2 0 ∷ get_or h 3 0 ∷ get_or h 4 0 ∷ [] ≡ h
     listed [] l = absurd (omega arith)

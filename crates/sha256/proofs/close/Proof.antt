@@ -1,6 +1,6 @@
 -- `sha256::close` meets its contract: one block more, or two (proofs/Closing.antt of fips180).
 use Rattle.std.proofs.Common.{◌≡◌, ◌%◌, ◌≤◌, length, arith, rules}
-use Rattle.fips180.proofs.Closing.{mark-kept, close-one, close-two}
+use Rattle.fips180.proofs.Closing.{mark_kept, close-one, close-two}
 use Rattle.fips180.specs.Sha256.{compress}
 use Rattle.sha256.proofs.close.Statement.{statement}
 use Rattle.sha256.proofs.close.Tie as tie
@@ -9,7 +9,7 @@ compress-last-requires : tie.Need-compress-last-requires
 compress-last-requires c κs =
     let d = c.before.before.before in
     let a = d.before.before.args in
-    mark-kept a.block.now (a.count % 64) (omega arith) d.before.before.requires d.mark.ensures
+    mark_kept a.block.now (a.count % 64) (omega arith) d.before.before.requires d.mark.ensures
 
 returns : tie.Need-returns
 returns c =

@@ -1,12 +1,12 @@
 -- `sha256::digest` meets its contract: the whole blocks from the message itself, the bytes after them from a block (`at_once` of fips180).
 use Rattle.std.proofs.Common.{◌^◌, ◌<◌, length, ap, ◌∙◌, arith, rules}
-use Rattle.fips180.proofs.Absorbing.{begun-length, at_once}
+use Rattle.fips180.proofs.Absorbing.{begun_length, at_once}
 use Rattle.fips180.specs.Sha256.{compress, H0, digest, sha256}
 use Rattle.sha256.proofs.digest.Statement.{statement}
 use Rattle.sha256.proofs.digest.Tie as tie
 
 last-digest-requires : tie.Need-last-digest-requires
-last-digest-requires c κs = ap length c.before.before.begin.ensures ∙ begun-length c.before.before.before.before.before.before.before.args.message.now
+last-digest-requires c κs = ap length c.before.before.begin.ensures ∙ begun_length c.before.before.before.before.before.before.before.args.message.now
 
 returns : tie.Need-returns
 unfolding sha256 H0

@@ -5,7 +5,7 @@ use Rattle.fips180.proofs.Absorbing.{block-kept, closed-law}
 use Rattle.fips180.proofs.Stream.{absorbed-append}
 use Rattle.fips180.specs.Sha256.{compress, H0, digest}
 use Rattle.sha256.specs.Stream.{started, absorbed}
-use Rattle.sha256.proofs.Stream.{digest-law}
+use Rattle.sha256.proofs.Stream.{digest_law}
 use Rattle.sha256.proofs.digest_of_two.Statement.{statement}
 use Rattle.sha256.proofs.digest_of_two.Tie as tie
 
@@ -28,7 +28,7 @@ returns c =
     let second = a.second.now in
     let f : two.absorb-into2.result < 2 ^ 64 = search rules in
     let all = two.absorb-into2.ensures ∙ ap (λ (s : Progress). absorbed s second) one.absorb-into.ensures ∙ sym (absorbed-append compress started first second) in
-    closed-law compress started (first ++ second) refl all digest f c.last-digest.ensures ∙ digest-law (first ++ second)
+    closed-law compress started (first ++ second) refl all digest f c.last-digest.ensures ∙ digest_law (first ++ second)
 
 pub digest-of-two-spec : {M : Type 1} → statement M
 digest-of-two-spec = tie.close (tie.spec (λ c κs. search rules) absorb-into-requires-2 last-digest-requires returns)

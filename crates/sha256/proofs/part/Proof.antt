@@ -1,5 +1,5 @@
 use Rattle.std.proofs.Common.{refl, rules}
-use Rattle.sha256.proofs.Parts.{last-part}
+use Rattle.sha256.proofs.Parts.{last_part}
 use Rattle.sha256.proofs.part.Statement.{statement}
 use Rattle.sha256.proofs.part.Tie as tie
 
@@ -22,7 +22,7 @@ returns-6 : tie.Need-returns-6
 returns-6 c =
     let a = c.before.args in
     let r = c.match.rest in
-    last-part a.j a.a.now a.b.now a.c.now a.d.now a.e.now a.f.now r.0.0.0.0.1 r.0.0.0.1 r.0.0.1 r.0.1 r.1
+    last_part a.j a.a.now a.b.now a.c.now a.d.now a.e.now a.f.now r.0.0.0.0.1 r.0.0.0.1 r.0.0.1 r.0.1 r.1
 
 pub part-spec : {M : Type 1} → statement M
 part-spec = tie.close (tie.spec returns returns-2 returns-3 returns-4 returns-5 returns-6)

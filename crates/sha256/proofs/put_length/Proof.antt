@@ -1,11 +1,11 @@
--- `sha256::put_length` meets its contract: eight stores, and the bytes of the count of bits (`length-put` of fips180).
-use Rattle.fips180.proofs.Closing.{length-put}
+-- `sha256::put_length` meets its contract: eight stores, and the bytes of the count of bits (`length_put` of fips180).
+use Rattle.fips180.proofs.Closing.{length_put}
 use Rattle.std.proofs.Common.{rules}
 use Rattle.sha256.proofs.put_length.Statement.{statement}
 use Rattle.sha256.proofs.put_length.Tie as tie
 
 returns : tie.Need-returns
-returns c = length-put c.args.block.now c.args.count c.requires
+returns c = length_put c.args.block.now c.args.count c.requires
 
 pub put-length-spec : {M : Type 1} → statement M
 put-length-spec =

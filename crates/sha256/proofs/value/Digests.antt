@@ -3,7 +3,7 @@ use Rattle.std.proofs.Common.{◌≡◌, ℕ, zero, suc, ◌+◌, ◌-◌, ◌*�
 use lib.Seq.{paste}
 use Rattle.slices.specs.Numbers.{be32}
 use Rattle.fips180.specs.Sha256.{digest}
-use Rattle.slices.proofs.Copies.{copied-part}
+use Rattle.slices.proofs.Copies.{copied_part}
 
 -- the digest's first j words, and zeros after them
 unfoldable pub written : List ℕ → ℕ → List ℕ
@@ -40,13 +40,13 @@ pub next_word : (h : List ℕ) (j n : ℕ) {r w y : List ℕ} → j < 8 → n �
     → take (4 * j) r ++ (y ++ drop (n - 4 * j) (drop (4 * j) r)) ≡ written h (j + 1)
 next_word h j n {r} {w} {y} l en er ew ey =
     (λ i. take (4 * j) r ++ (y ++ drop (en i - 4 * j) (drop (4 * j) r)))
-    ∙ copied-part r w (4 * j) (ey ∙ (λ i. take (length w) w ++ drop (length w) (take (en i - 4 * j) (drop (4 * j) r))))
+    ∙ copied_part r w (4 * j) (ey ∙ (λ i. take (length w) w ++ drop (length w) (take (en i - 4 * j) (drop (4 * j) r))))
     ∙ (λ i. paste (er i) (4 * j) (ew i) (length (ew i))) ∙ one_word h j l
 
 pub none_written : (h : List ℕ) → replicate 32 0 ≡ written h 0
 unfolding written
 none_written h = refl
 
-pub all-written : (h : List ℕ) {j : ℕ} {r : List ℕ} → j ≡ 8 → r ≡ written h j → r ≡ digest h
+pub all_written : (h : List ℕ) {j : ℕ} {r : List ℕ} → j ≡ 8 → r ≡ written h j → r ≡ digest h
 unfolding written digest
-all-written h e er = er ∙ ap (written h) e
+all_written h e er = er ∙ ap (written h) e

@@ -2,7 +2,7 @@
 use Rattle.std.proofs.Common.{◌≡◌, ℕ, ◌-◌, ◌*◌, ◌≤◌, ap, ◌∙◌, arith, rules}
 use Rattle.fips180.specs.Sha256.{rounds}
 use Rattle.sha256_block.specs.Internal.{window}
-use Rattle.sha256_block.proofs.Rounds.{group, kept, no-round, all-rounds}
+use Rattle.sha256_block.proofs.Rounds.{group, kept, no_round, all_rounds}
 use Rattle.sha256_block.proofs.compress.Statement.{statement}
 use Rattle.sha256_block.proofs.compress.Tie as tie
 
@@ -13,7 +13,7 @@ abbrev decreases-loop : tie.decreases-loop
 decreases-loop h b w₀ s₀ g₀ w s g = 4 - g
 
 loop-holds : tie.Need-loop-init invariant-loop decreases-loop
-loop-holds c = (omega arith, no-round _ _, c.load.ensures)
+loop-holds c = (omega arith, no_round _ _, c.load.ensures)
 
 loop-again : tie.Need-loop-preserved invariant-loop decreases-loop
 loop-again c =
@@ -30,7 +30,7 @@ returns c =
     let p = c.before.before in
     let a = p.before.before.before.args in
     let four : p.loop.g ≡ 4 = omega arith in
-    c.sum.ensures ∙ all-rounds a.h a.b.now (p.loop.invariant.1 ∙ ap (λ (g : ℕ). rounds a.h a.b.now (g * 16)) four)
+    c.sum.ensures ∙ all_rounds a.h a.b.now (p.loop.invariant.1 ∙ ap (λ (g : ℕ). rounds a.h a.b.now (g * 16)) four)
 
 pub compress-spec : {M : Type 1} → statement M
 compress-spec =

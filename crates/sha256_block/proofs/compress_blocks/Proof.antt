@@ -1,6 +1,6 @@
 -- After k turns, the hash value after k blocks.
 use Rattle.std.proofs.Common.{◌≡◌, ℕ, ◌-◌, ◌/◌, ◌≤◌, length, refl, ap, ◌∙◌, arith, length-drop, length-take}
-use Rattle.fips180.specs.Hash.{blocksBy}
+use Rattle.fips180.specs.Hash.{blocks_by}
 use Rattle.fips180.proofs.Blocks.{blocks-turn}
 use Rattle.fips180.specs.Sha256.{blocks, compress}
 use Rattle.sha256_block.proofs.compress_blocks.Statement.{statement}
@@ -13,7 +13,7 @@ abbrev decreases-loop : tie.decreases-loop
 decreases-loop h₀ message k₀ k-end h k = k-end - k
 
 loop-holds : tie.Need-loop-init invariant-loop decreases-loop
-unfolding blocksBy
+unfolding blocks_by
 loop-holds c = (omega arith, refl, refl)
 
 compress-requires : tie.Need-compress-requires invariant-loop decreases-loop

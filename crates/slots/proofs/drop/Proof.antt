@@ -7,14 +7,14 @@ use lib.Count.{ones, ones-le}
 use Rattle.refusal.specs.Answers.{returned}
 use Rattle.slot_rules.specs.Table.{isLive}
 use Rattle.slot_rules.specs.Stored.{Fits, table_of, freeing}
-use Rattle.slots.proofs.BitLaws.{length-mapped}
+use Rattle.slots.proofs.BitLaws.{length_mapped}
 use Rattle.slots.proofs.Calls.{live, drop-count, drop-none, drop-frees, drop-leaves}
 use Rattle.slots.proofs.drop.Statement.{statement}
 use Rattle.slots.proofs.drop.Tie as tie
 
 -- the slots at entry
 stored : (s : tie.Start) → Fits s.args.slots
-stored s = search (rules, length-mapped)
+stored s = search (rules, length_mapped)
 
 -- the slot is live
 found : (c : tie.Then1) → let a = c.before.before.args in isLive (table_of a.slots) a.number ≡ true

@@ -5,11 +5,11 @@ use Prim.Native.Nat.{◌<◌}
 use lib.Bits.{bit_or}
 use lib.ListN.{set}
 use Rattle.refusal.specs.Checks.{pass}
-use Rattle.refusal.specs.Answers.{checkedAs}
+use Rattle.refusal.specs.Answers.{checked_as}
 use Rattle.slot_rules.specs.Table.{lowestFree}
-use Rattle.slot_rules.specs.Calls.{putCheck}
+use Rattle.slot_rules.specs.Calls.{put_check}
 use Rattle.slot_rules.specs.Stored.{Fits, table_of}
-use Rattle.slots.proofs.BitLaws.{length-mapped}
+use Rattle.slots.proofs.BitLaws.{length_mapped}
 use Rattle.slot_rules.proofs.Stored.{room, parent-below}
 use Rattle.slots.proofs.Calls.{byte_fits, put-number, put-none, put-takes, put-leaves}
 use Rattle.slots.proofs.put.Statement.{statement}
@@ -17,11 +17,11 @@ use Rattle.slots.proofs.put.Tie as tie
 
 -- the slots at entry
 stored : (s : tie.Start) → Fits s.args.slots
-stored s = search (rules, length-mapped)
+stored s = search (rules, length_mapped)
 
 -- the tests passed, so that a slot is free and the parent fits a byte
-passed : (c : tie.After-enum-told) → let a = c.before.before.before.args in putCheck (table_of a.slots) a.parent ≡ pass
-passed c = sym c.before.before.check-put.ensures ∙ ap checkedAs c.enum_told.given.1
+passed : (c : tie.After-enum-told) → let a = c.before.before.before.args in put_check (table_of a.slots) a.parent ≡ pass
+passed c = sym c.before.before.check-put.ensures ∙ ap checked_as c.enum_told.given.1
 
 found : (c : tie.After-lowest-free) → c.lowest-free.result < 64
 found c =
@@ -48,7 +48,7 @@ returns : tie.Need-returns
 returns c =
     let s = c.before.before.before.before in
     let a = s.args in
-    let no = sym c.before.before.before.check-put.ensures ∙ ap checkedAs c.before.check.given.1 in
+    let no = sym c.before.before.before.check-put.ensures ∙ ap checked_as c.before.check.given.1 in
     (put-none a.slots a.parent _ no, put-leaves a.slots a.parent _ a.name no)
 
 returns-2 : tie.Need-returns-2

@@ -5,7 +5,7 @@ use Prim.Native.Nat.{ℕ, ◌+◌, ◌-◌, ◌≤◌, ◌<◌}
 use native.Mathlib.Omega.{arith}
 use lib.ListN.{length, get_or, length-set}
 use Rattle.fips197.specs.State.{State}
-use Rattle.fips197.specs.KeyExpansion.{rcon, roundKey}
+use Rattle.fips197.specs.KeyExpansion.{rcon, round_key}
 use Rattle.tables.proofs.Filled.{filled}
 use Rattle.aes128.proofs.keys.Expansion.{at_zero, next-step, constant-step, expanded}
 use borrow.Author.Rules.{rules}
@@ -14,13 +14,13 @@ use Rattle.aes128.proofs.keys.expand_key.Tie as tie
 
 abbrev invariant-loop : tie.invariant-loop
 invariant-loop ks₀ x₀ c₀ i₀ ks x c i =
-    (i ≤ 10) × (length ks ≡ 11) × (x ≡ roundKey x₀ i) × (c ≡ rcon i) × ((n : ℕ) → n < i + 1 → get_or ks n [] ≡ roundKey x₀ n)
+    (i ≤ 10) × (length ks ≡ 11) × (x ≡ round_key x₀ i) × (c ≡ rcon i) × ((n : ℕ) → n < i + 1 → get_or ks n [] ≡ round_key x₀ n)
 
 abbrev decreases-loop : tie.decreases-loop
 decreases-loop ks₀ x₀ c₀ i₀ ks x c i = 10 - i
 
 loop-holds : tie.Need-loop-init invariant-loop decreases-loop
-unfolding roundKey rcon
+unfolding round_key rcon
 loop-holds c = (omega arith, refl, refl, refl, at_zero _ refl)
 
 loop-again : tie.Need-loop-preserved invariant-loop decreases-loop
@@ -34,7 +34,7 @@ loop-again c =
       length-set p.loop.ks (i + 1) c.before.next-key.result ∙ len,
       e,
       constant-step k i p.loop.c _ p.loop.invariant.3 c.next-constant.ensures,
-      filled State (λ (n : ℕ) (y : State). y ≡ roundKey k n) p.loop.ks (i + 1) _ [] (omega (arith, len)) e p.loop.invariant.4,
+      filled State (λ (n : ℕ) (y : State). y ≡ round_key k n) p.loop.ks (i + 1) _ [] (omega (arith, len)) e p.loop.invariant.4,
     )
 
 returns : tie.Need-returns invariant-loop decreases-loop

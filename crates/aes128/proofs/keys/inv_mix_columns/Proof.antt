@@ -1,11 +1,11 @@
 use Rattle.fips197.proofs.Four.{four}
-use Rattle.fips197.specs.State.{invMixColumns}
+use Rattle.fips197.specs.State.{inv_mix_columns}
 use borrow.Author.Rules.{rules}
 use Rattle.aes128.proofs.keys.inv_mix_columns.Statement.{statement}
 use Rattle.aes128.proofs.keys.inv_mix_columns.Tie as tie
 
 returns : tie.Need-returns
-unfolding invMixColumns
+unfolding inv_mix_columns
 returns c = four c.before.before.before.before.before.before.inv-mix-column.ensures c.before.before.before.before.inv-mix-column2.ensures c.before.before.inv-mix-column3.ensures c.inv-mix-column4.ensures
 
 pub inv-mix-columns-spec : {M : Type 1} → statement M

@@ -1,4 +1,4 @@
-use Rattle.aes128.proofs.keys.Expansion.{next-words}
+use Rattle.aes128.proofs.keys.Expansion.{next_words}
 use borrow.Author.Rules.{rules}
 use Rattle.aes128.proofs.keys.next_key.Statement.{statement}
 use Rattle.aes128.proofs.keys.next_key.Tie as tie
@@ -6,7 +6,7 @@ use Rattle.aes128.proofs.keys.next_key.Tie as tie
 returns : tie.Need-returns
 returns c =
     let s = c.before.before.before.before.before.before.before.before.before.before.args in
-    next-words s.t1 s.c _ _ _ _ _ c.before.before.before.before.before.before.before.key-core.ensures c.before.before.before.before.before.before.add-column.ensures c.before.before.before.before.add-column2.ensures c.before.before.add-column3.ensures
+    next_words s.t1 s.c _ _ _ _ _ c.before.before.before.before.before.before.before.key-core.ensures c.before.before.before.before.before.before.add-column.ensures c.before.before.before.before.add-column2.ensures c.before.before.add-column3.ensures
     c.add-column4.ensures
 
 pub next-key-spec : {M : Type 1} → statement M

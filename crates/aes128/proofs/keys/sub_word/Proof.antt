@@ -2,7 +2,7 @@ use mathlib.Core.Path.{refl}
 use Prim.Native.Nat.{◌≤◌, ◌-◌}
 use native.Mathlib.Omega.{arith}
 use borrow.Author.Rules.{rules}
-use Rattle.aes128.proofs.keys.Expansion.{Subbed, sub-turn, sub-end}
+use Rattle.aes128.proofs.keys.Expansion.{Subbed, sub_turn, sub_end}
 use Rattle.aes128.proofs.keys.sub_word.Statement.{statement}
 use Rattle.aes128.proofs.keys.sub_word.Tie as tie
 
@@ -18,12 +18,12 @@ loop-holds c = (omega arith, (refl, λ k h. absurd (omega (arith, h))))
 loop-again : tie.Need-loop-preserved invariant-loop decreases-loop
 loop-again c =
     let l = c.before.before.before.loop in
-    (omega arith, sub-turn c.before.before.before.before.args.t1 l.i l.r _ _ (omega arith) l.invariant.1 c.before.wide.ensures.0 c.before.wide.ensures.1 c.entry.ensures)
+    (omega arith, sub_turn c.before.before.before.before.args.t1 l.i l.r _ _ (omega arith) l.invariant.1 c.before.wide.ensures.0 c.before.wide.ensures.1 c.entry.ensures)
 
 returns : tie.Need-returns invariant-loop decreases-loop
 returns c =
     let l = c.before.loop in
-    sub-end c.before.before.args.t1 l.i l.r (omega arith) l.invariant.1
+    sub_end c.before.before.args.t1 l.i l.r (omega arith) l.invariant.1
 
 pub sub-word-spec : {M : Type 1} → statement M
 sub-word-spec =

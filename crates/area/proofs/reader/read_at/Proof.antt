@@ -39,7 +39,7 @@ use denote.Triple.Table.{entered, cited}
 use denote.Triple.Walked.{says, Stays, stay_none_slice, stay_none, walk_of, Goes-none_slice, Goes-none, Walks, ends_at, walked, walk_Meets}
 use denote.Exit.{yes}
 use denote.Triple.Clauses.{ensured, lasts}
-use Rattle.area.specs.Internal.{stepAt}
+use Rattle.area.specs.Internal.{step_at}
 use Rattle.area.specs.declared.reader.Reader.{Reader}
 use Rattle.area.specs.declared.reader.Step.{Step}
 use Rattle.area.specs.contracts.reader.Reader as T
@@ -90,7 +90,7 @@ module _ {M : Type 1} {𝓤 : Ura M} (𝓛 : Logic 𝓤) (mem : Memory → SProp
   v = slice_val s.ref_ptr (length s.now)
 
   abbrev found : Step
-  found = stepAt s.now n
+  found = step_at s.now n
 
   -- the struct's type as a local of a body has it
   abbrev αᵉ : NamedLft
@@ -155,14 +155,14 @@ module _ {M : Type 1} {𝓤 : Ura M} (𝓛 : Logic 𝓤) (mem : Memory → SProp
       nothing ! $ move ! (1 ∷ 0 ∷ []) $ fjoin ! $ move ! (1 ∷ 0 ∷ []) $ join ! $ frame ! $ done !
 
   abbrev NextSaid : Reader → Step → Type 0
-  NextSaid r t = t ≡ stepAt r.area.now r.at
+  NextSaid r t = t ≡ step_at r.area.now r.at
 
   next-said : (r : Reader) (t : Step) → ent 𝓤 (ensured 𝓛 next.ended (next.clauses 𝓛 mem run) (κ, tt) (r, tt) tt t) (fact 𝓤 (NextSaid r t))
   next-said r t = ex_e 𝓤 _ (λ ws. snd∗ 𝓤 (sem 𝓛 (lasts next.ended (κ, tt) (r, tt) ws)) (fact 𝓤 (NextSaid r t)))
 
   -- what the three said is what is found
   told : (r p : Reader) (t : Step) → NewSaid r → MovedSaid r p → NextSaid p t → t ≡ found
-  told r p t e₁ e₂ e₃ = e₃ ∙ (ap (λ (x : Bor (List ℕ)). stepAt x.now p.at) (e₂.0 ∙ e₁.0) ∙ ap (stepAt s.now) e₂.1)
+  told r p t e₁ e₂ e₃ = e₃ ∙ (ap (λ (x : Bor (List ℕ)). step_at x.now p.at) (e₂.0 ∙ e₁.0) ∙ ap (step_at s.now) e₂.1)
 
   exits : (t : Step) (u : Val) → t ≡ found → ent 𝓤 (⋆ 𝓛 (‵ ((S.the_row).own_val t (u ∷ [])) ∷ (‵ (flft κ q) ⊛ ‵ ftrue) ∷ ‵ Own ∷ [])) (Post u)
   exits t u e =
@@ -215,20 +215,20 @@ module _ {M : Type 1} {𝓤 : Ura M} (𝓛 : Logic 𝓤) (mem : Memory → SProp
       (λ κs qs bounds a g are.
       via 𝓤 _ (fst∗ 𝓤 _ (emp 𝓤)) (walk 𝓛 mem run κs.0 qs.0 a.0 a.1.0 are.1.0.1 C Λ fm known-new known-moved known_next are.0))
 
-read-at-meets : {M : Type 1} {𝓤 : Ura M} (𝓛 : Logic 𝓤) (mem : Memory → SProp 𝓤) (run : Routine → Fun 𝓤) (𝓣 : Tables 𝓤 𝓛.H)
+read_at_meets : {M : Type 1} {𝓤 : Ura M} (𝓛 : Logic 𝓤) (mem : Memory → SProp 𝓤) (run : Routine → Fun 𝓤) (𝓣 : Tables 𝓤 𝓛.H)
     → Triple 𝓤 (𝓣.C #new) (New 𝓛 mem run) → Triple 𝓤 (𝓣.C #moved) (Moved 𝓛 mem run) → Triple 𝓤 (𝓣.C #next) (Next 𝓛 mem run)
     → Meets 𝓛 read_at.signature (WpFn 𝓤 𝓛.H 𝓣.C 𝓣.Λ code.function) (read_at.spec 𝓛 mem run)
-read-at-meets {𝓤 = 𝓤} 𝓛 mem run 𝓣 known-new known-moved known_next =
+read_at_meets {𝓤 = 𝓤} 𝓛 mem run 𝓣 known-new known-moved known_next =
     walk_Meets 𝓛 read_at.ended stayed (Goes-none_slice 𝓛 1 (0 ∷ []) tt (plain (λ _. u8)) yes, (Goes-none 𝓛 1 (λ _. usize) yes (λ κs x f. refl), tt))
     (read_at.clauses 𝓛 mem run) (WpFn 𝓤 𝓛.H 𝓣.C 𝓣.Λ code.function) (WpFn-mono 𝓤 𝓛.H 𝓛.laws 𝓣 code.function)
     (read-at-walks 𝓛 mem run 𝓣.C 𝓣.Λ (fm_of 𝓤 𝓛.H 𝓛.laws 𝓣) known-new known-moved known_next)
 
-pub read-at-spec : {M : Type 1} → stated.statement M
+pub read_at_spec : {M : Type 1} → stated.statement M
 unfolding code.routine tables_of
-read-at-spec 𝓤 𝓛 𝓜 𝓡 =
+read_at_spec 𝓤 𝓛 𝓜 𝓡 =
     entered 𝓤 𝓛.H (triple_of 𝓛 read_at.signature (read_at.spec 𝓛 𝓜.mem 𝓡.run))
     (tables 𝓤 𝓛.H 𝓜 𝓡 code.env).C (tables 𝓤 𝓛.H 𝓜 𝓡 code.env).Λ #read-at code.function (code.unfolded 𝓤 𝓛.H 𝓜 𝓡)
-    (read-at-meets 𝓛 𝓜.mem 𝓡.run (tables_of 𝓤 𝓛.H 𝓜 (tables 𝓤 𝓛.H 𝓜 𝓡 code.env))
+    (read_at_meets 𝓛 𝓜.mem 𝓡.run (tables_of 𝓤 𝓛.H 𝓜 (tables 𝓤 𝓛.H 𝓜 𝓡 code.env))
     (cited 𝓤 𝓛.H (New 𝓛 𝓜.mem 𝓡.run) 𝓜 𝓡 code.env #new new-def.routine code.calls-area::reader::Reader::new (new-thm.met 𝓤 𝓛 𝓜 𝓡))
     (cited 𝓤 𝓛.H (Moved 𝓛 𝓜.mem 𝓡.run) 𝓜 𝓡 code.env #moved moved-def.routine code.calls-area::reader::Reader::moved (moved-thm.met 𝓤 𝓛 𝓜 𝓡))
     (cited 𝓤 𝓛.H (Next 𝓛 𝓜.mem 𝓡.run) 𝓜 𝓡 code.env #next next-def.routine code.calls-area::reader::Reader::next (next-thm.met 𝓤 𝓛 𝓜 𝓡)))

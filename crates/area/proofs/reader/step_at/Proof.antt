@@ -5,8 +5,8 @@ use native.Mathlib.Omega.{arith}
 use borrow.Author.Tests.{leb-true, leb-false}
 use lib.ListN.{length, drop, length-drop}
 use Rattle.slices.proofs.Lists.{rest-drop}
-use Rattle.area.specs.Internal.{metAt}
-use Rattle.area.proofs.reader.Onward.{step_end, step-met, step_past}
+use Rattle.area.specs.Internal.{met_at}
+use Rattle.area.proofs.reader.Onward.{step_end, step_met, step_past}
 use borrow.Author.Rules.{rules}
 use Rattle.area.proofs.reader.step_at.Statement.{statement}
 use Rattle.area.proofs.reader.step_at.Tie as tie
@@ -34,7 +34,7 @@ returns : tie.Need-returns
 returns c =
     let k = c.before.before in
     let a = k.before.before.before.args in
-    c.met.ensures ∙ ap (metAt a.at) (rest-drop a.at a.area.now) ∙ step-met a.area.now a.at (omega (arith, four k))
+    c.met.ensures ∙ ap (met_at a.at) (rest-drop a.at a.area.now) ∙ step_met a.area.now a.at (omega (arith, four k))
 
 returns-2 : tie.Need-returns-2
 returns-2 c = let a = c.before.before.before.before.args in step_past a.area.now a.at c.if2.true (fewer c.before)

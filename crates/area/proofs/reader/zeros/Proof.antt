@@ -4,12 +4,12 @@ use mathlib.Core.Path.{◌≡◌, refl}
 use native.Mathlib.Omega.{arith}
 use borrow.Author.Rules.{rules}
 use lib.ListN.{length}
-use Rattle.area.proofs.reader.Padding.{zerosTo, zeros-not, zeros-on, zeros-all}
+use Rattle.area.proofs.reader.Padding.{zeros_to, zeros-not, zeros-on, zeros_all}
 use Rattle.area.proofs.reader.zeros.Statement.{statement}
 use Rattle.area.proofs.reader.zeros.Tie as tie
 
 abbrev invariant-loop : tie.invariant-loop
-invariant-loop bytes start end i₀ i = (i ≤ end) × (end ≤ length bytes) × (zerosTo end bytes start ≡ zerosTo end bytes i)
+invariant-loop bytes start end i₀ i = (i ≤ end) × (end ≤ length bytes) × (zeros_to end bytes start ≡ zeros_to end bytes i)
 
 abbrev decreases-loop : tie.decreases-loop
 decreases-loop bytes start end i₀ i = end - i
@@ -28,7 +28,7 @@ loop-again c =
     (omega arith, l.invariant.1, zeros-on _ _ _ l.i (omega arith) l.invariant.1 l.invariant.2 c.if1.false)
 
 returns-2 : tie.Need-returns-2 invariant-loop decreases-loop
-returns-2 c = let l = c.before.loop in zeros-all _ _ _ l.i (omega arith) l.invariant.2
+returns-2 c = let l = c.before.loop in zeros_all _ _ _ l.i (omega arith) l.invariant.2
 
 pub zeros-spec : {M : Type 1} → statement M
 zeros-spec =

@@ -8,14 +8,14 @@ returns c =
     let k = c.before in
     let p = k.before in
     let x = p.before.before.before.before.args in
-    kind-absent x.absent x.changed x.file.now x.other.now x.i p.before.id-at.ensures p.place_of.ensures k.count.ensures c.if1.true
+    kind-absent x.absent x.changed x.file.now x.other.now x.i p.before.id_at.ensures p.place_of.ensures k.count.ensures c.if1.true
 
 returns-2 : tie.Need-returns-2
 returns-2 c =
     let k = c.before.before in
     let p = k.before in
     let x = p.before.before.before.before.args in
-    kind-any x.absent x.changed x.file.now x.other.now x.i p.before.id-at.ensures p.place_of.ensures k.count.ensures c.before.if1.false c.if2.true
+    kind-any x.absent x.changed x.file.now x.other.now x.i p.before.id_at.ensures p.place_of.ensures k.count.ensures c.before.if1.false c.if2.true
 
 returns-3 : tie.Need-returns-3
 returns-3 c =
@@ -24,7 +24,7 @@ returns-3 c =
     let k = b.before.before.before in
     let p = k.before in
     let x = p.before.before.before.before.args in
-    kind-told x.absent x.changed x.file.now x.other.now x.i p.before.id-at.ensures p.place_of.ensures k.count.ensures
+    kind-told x.absent x.changed x.file.now x.other.now x.i p.before.id_at.ensures p.place_of.ensures k.count.ensures
     b.before.before.if1.false b.body_at.ensures s.before.body-at2.ensures s.same_bytes.ensures c.if3.true
 
 returns-4 : tie.Need-returns-4
@@ -34,7 +34,7 @@ returns-4 c =
     let k = b.before.before.before in
     let p = k.before in
     let x = p.before.before.before.before.args in
-    kind-told x.absent x.changed x.file.now x.other.now x.i p.before.id-at.ensures p.place_of.ensures k.count.ensures
+    kind-told x.absent x.changed x.file.now x.other.now x.i p.before.id_at.ensures p.place_of.ensures k.count.ensures
     b.before.before.if1.false b.body_at.ensures s.before.body-at2.ensures s.same_bytes.ensures c.if3.false
 
 pub kind-of-spec : {M : Type 1} → statement M

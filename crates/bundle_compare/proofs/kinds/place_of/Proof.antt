@@ -28,13 +28,13 @@ returns : tie.Need-returns invariant-loop decreases-loop
 returns c =
     let k = c.before.before in
     let l = k.before.before.loop in
-    sym (place-on _ _ _ l.j _ (omega arith) k.id-at.ensures c.before.same_id.ensures c.if1.true l.invariant.1)
+    sym (place-on _ _ _ l.j _ (omega arith) k.id_at.ensures c.before.same_id.ensures c.if1.true l.invariant.1)
 
 loop-again : tie.Need-loop-preserved invariant-loop decreases-loop
 loop-again c =
     let k = c.before.before in
     let l = k.before.before.loop in
-    (omega arith, place-on _ _ _ l.j _ (omega arith) k.id-at.ensures c.before.same_id.ensures c.if1.false l.invariant.1)
+    (omega arith, place-on _ _ _ l.j _ (omega arith) k.id_at.ensures c.before.same_id.ensures c.if1.false l.invariant.1)
 
 returns-2 : tie.Need-returns-2 invariant-loop decreases-loop
 returns-2 c = let l = c.before.loop in place_end _ _ l.j _ (omega arith) l.invariant.1

@@ -4,12 +4,12 @@ use native.Mathlib.Omega.{arith}
 use lib.ListN.{drop}
 use borrow.Author.Rules.{rules}
 use Rattle.slices.specs.Same.{same_list}
-use Rattle.bundle_contents.proofs.ids.Words.{words-on, words-differ, words_last, word-ends}
+use Rattle.bundle_contents.proofs.ids.Words.{words-on, words_differ, words_last, word-ends}
 use Rattle.bundle_contents.proofs.ids.same_words.Statement.{statement}
 use Rattle.bundle_contents.proofs.ids.same_words.Tie as tie
 
 returns : tie.Need-returns
-returns c = words-differ _ _ 12 c.before.before.word_at.ensures.0 c.before.word-at2.ensures.0 c.if1.true
+returns c = words_differ _ _ 12 c.before.before.word_at.ensures.0 c.before.word-at2.ensures.0 c.if1.true
 
 -- the last word is the same, then the first, then the second
 last : (c : tie.Else1) → let x = c.before.before.before.before.before.args in same_list (drop 12 x.a.now) (drop 12 x.b.now) ≡ true
@@ -28,10 +28,10 @@ two c =
     words-on _ _ 4 (omega arith) (omega arith) c.before.before.word-at5.ensures c.before.word-at6.ensures (one k) c.if3.false
 
 returns-2 : tie.Need-returns-2
-returns-2 c = words-differ _ _ 0 c.before.before.word-at3.ensures.0 c.before.word-at4.ensures.0 c.if2.true
+returns-2 c = words_differ _ _ 0 c.before.before.word-at3.ensures.0 c.before.word-at4.ensures.0 c.if2.true
 
 returns-3 : tie.Need-returns-3
-returns-3 c = words-differ _ _ 4 c.before.before.word-at5.ensures.0 c.before.word-at6.ensures.0 c.if3.true
+returns-3 c = words_differ _ _ 4 c.before.before.word-at5.ensures.0 c.before.word-at6.ensures.0 c.if3.true
 
 returns-4 : tie.Need-returns-4
 returns-4 c =

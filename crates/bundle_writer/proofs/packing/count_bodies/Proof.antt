@@ -3,17 +3,17 @@ use mathlib.Core.Path.{◌≡◌, refl, sym, ap, ◌∙◌}
 use native.Mathlib.Omega.{arith}
 use borrow.Author.Rules.{rules}
 use lib.ListN.{length, drop}
-use Rattle.refusal.specs.Answers.{checkedAs}
-use Rattle.bundle_rules.specs.Bundle.{packed, framesCheck}
+use Rattle.refusal.specs.Answers.{checked_as}
+use Rattle.bundle_rules.specs.Bundle.{packed, frames_check}
 use Rattle.radius_attributes.proofs.Walking.{Step, step}
-use Rattle.bundle_writer.proofs.packing.Walking.{frames-stop, frames-on, frames-end, count-on, count-end}
+use Rattle.bundle_writer.proofs.packing.Walking.{frames_stop, frames_on, frames_end, count-on, count_end}
 use Rattle.bundle_writer.proofs.packing.Testing.{told, refused-count}
 use Rattle.bundle_writer.proofs.packing.count_bodies.Statement.{statement}
 use Rattle.bundle_writer.proofs.packing.count_bodies.Tie as tie
 
 abbrev invariant-loop : tie.invariant-loop
 invariant-loop bytes size at₀ n₀ at n =
-    (at ≤ length bytes) × (n ≤ at) × (framesCheck (packed bytes) ≡ framesCheck (packed (drop at bytes))) × (length (packed bytes) ≡ n + length (packed (drop at bytes)))
+    (at ≤ length bytes) × (n ≤ at) × (frames_check (packed bytes) ≡ frames_check (packed (drop at bytes))) × (length (packed bytes) ≡ n + length (packed (drop at bytes)))
 
 abbrev decreases-loop : tie.decreases-loop
 decreases-loop bytes size at₀ n₀ at n = length bytes - at
@@ -34,7 +34,7 @@ returns : tie.Need-returns invariant-loop decreases-loop
 returns c =
     let k = c.before.before.before.before.before in
     let l = k.before.before.before.loop in
-    refused-count _ (frames-stop _ l.at _ (made k) (sym c.before.before.before.check-frame.ensures ∙ ap checkedAs c.before.why.given.1) l.invariant.2)
+    refused-count _ (frames_stop _ l.at _ (made k) (sym c.before.before.before.check-frame.ensures ∙ ap checked_as c.before.why.given.1) l.invariant.2)
 
 add-n : tie.Need-overflow-add-n invariant-loop decreases-loop
 add-n c = omega (arith, (made c.before.before.before.before).inside)
@@ -48,14 +48,14 @@ loop-again c =
     let l = k.before.before.before.loop in (
       omega (arith, (made k).inside),
       omega (arith, (made k).some),
-      frames-on _ l.at _ (made k) (sym c.before.before.check-frame.ensures ∙ ap checkedAs c.enum_told.given.1) l.invariant.2,
+      frames_on _ l.at _ (made k) (sym c.before.before.check-frame.ensures ∙ ap checked_as c.enum_told.given.1) l.invariant.2,
       count-on _ l.at _ l.n (made k) l.invariant.3,
     )
 
 returns-2 : tie.Need-returns-2 invariant-loop decreases-loop
 returns-2 c =
     let l = c.before.loop in
-    told (frames-end _ l.at (omega arith) l.invariant.2) (count-end _ l.at l.n (omega arith) l.invariant.3)
+    told (frames_end _ l.at (omega arith) l.invariant.2) (count_end _ l.at l.n (omega arith) l.invariant.3)
 
 pub count-bodies-spec : {M : Type 1} → statement M
 count-bodies-spec =

@@ -4,14 +4,14 @@ use native.Mathlib.Omega.{arith}
 use lib.ListN.{length, drop}
 use mathlib.Core.List.{map}
 use Rattle.refusal.specs.Checks.{pass}
-use Rattle.bundle_rules.specs.Bundle.{keyIdIn, idRepeats, packed, framesCheck}
-use Rattle.radius_attributes.proofs.Walking.{Step, step-at}
-use Rattle.bundle_writer.proofs.packing.Walking.{later-pass, id-part, body-long, repeats-here, repeats-on, repeats-not}
+use Rattle.bundle_rules.specs.Bundle.{key_id_in, id_repeats, packed, frames_check}
+use Rattle.radius_attributes.proofs.Walking.{Step, step_at_lem}
+use Rattle.bundle_writer.proofs.packing.Walking.{later_pass, id_part, body_long, repeats_here, repeats-on, repeats-not}
 use Rattle.bundle_writer.proofs.packing.id_repeats.Statement.{statement}
 use Rattle.bundle_writer.proofs.packing.id_repeats.Tie as tie
 
 abbrev invariant-loop : tie.invariant-loop
-invariant-loop bytes size at₀ at = (at ≤ length bytes) × (framesCheck (packed (drop at bytes)) ≡ pass) × (idRepeats (map keyIdIn (packed bytes)) ≡ idRepeats (map keyIdIn (packed (drop at bytes))))
+invariant-loop bytes size at₀ at = (at ≤ length bytes) × (frames_check (packed (drop at bytes)) ≡ pass) × (id_repeats (map key_id_in (packed bytes)) ≡ id_repeats (map key_id_in (packed (drop at bytes))))
 
 abbrev decreases-loop : tie.decreases-loop
 decreases-loop bytes size at₀ at = length bytes - at
@@ -20,10 +20,10 @@ loop-holds : tie.Need-loop-init invariant-loop decreases-loop
 loop-holds c = (omega arith, c.before.requires, refl)
 
 made : (c : tie.After-length-at invariant-loop decreases-loop) → Step c.before.before.before.before.args.bytes.now c.before.before.loop.at c.length_at.result
-made c = step-at _ _ _ (omega arith) c.length_at.ensures
+made c = step_at_lem _ _ _ (omega arith) c.length_at.ensures
 
 long : (c : tie.After-length-at invariant-loop decreases-loop) → c.before.before.loop.at + 76 ≤ length c.before.before.before.before.args.bytes.now
-long c = body-long _ _ _ (made c) c.before.before.loop.invariant.1
+long c = body_long _ _ _ (made c) c.before.before.loop.invariant.1
 
 length-at-requires : tie.Need-length-at-requires invariant-loop decreases-loop
 length-at-requires c κs = (omega arith, c.before.loop.invariant.1)
@@ -44,13 +44,13 @@ part-id-stands-end : tie.Need-slice-bounds-id-stands-end invariant-loop decrease
 part-id-stands-end c = omega (arith, long c)
 
 id-stands-requires : tie.Need-id-stands-requires invariant-loop decreases-loop
-id-stands-requires c κs = ((made c.before).inside, later-pass _ _ _ (made c.before) c.before.before.before.loop.invariant.1)
+id-stands-requires c κs = ((made c.before).inside, later_pass _ _ _ (made c.before) c.before.before.before.loop.invariant.1)
 
 returns : tie.Need-returns invariant-loop decreases-loop
 returns c =
     let k = c.before.before.before in
     let l = k.before.before.loop in
-    repeats-here _ _ l.at _ (made k) (id-part _ l.at _ (made k) l.invariant.1) (sym c.before.id-stands.ensures ∙ c.if1.true) l.invariant.2
+    repeats_here _ _ l.at _ (made k) (id_part _ l.at _ (made k) l.invariant.1) (sym c.before.id-stands.ensures ∙ c.if1.true) l.invariant.2
 
 loop-less : tie.Need-loop-smaller invariant-loop decreases-loop
 loop-less c = omega (arith, (made c.before.before.before).some, (made c.before.before.before).inside)
@@ -60,8 +60,8 @@ loop-again c =
     let k = c.before.before.before in
     let l = k.before.before.loop in (
       omega (arith, (made k).inside),
-      later-pass _ l.at _ (made k) l.invariant.1,
-      repeats-on _ _ l.at _ (made k) (id-part _ l.at _ (made k) l.invariant.1) (sym c.before.id-stands.ensures ∙ c.if1.false) l.invariant.2,
+      later_pass _ l.at _ (made k) l.invariant.1,
+      repeats-on _ _ l.at _ (made k) (id_part _ l.at _ (made k) l.invariant.1) (sym c.before.id-stands.ensures ∙ c.if1.false) l.invariant.2,
     )
 
 returns-2 : tie.Need-returns-2 invariant-loop decreases-loop

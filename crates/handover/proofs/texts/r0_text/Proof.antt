@@ -1,7 +1,7 @@
 use native.Mathlib.Omega.{arith}
 use lib.ListN.{length, length-set}
 use mathlib.Core.Path.{◌≡◌, ap}
-use Rattle.handover_rules.specs.Handover.{r0Label}
+use Rattle.handover_rules.specs.Handover.{r0_label}
 use Rattle.handover.proofs.texts.Texts.{r0-spa, r0-laid}
 use borrow.Author.Rules.{rules}
 use Rattle.handover.proofs.texts.r0_text.Statement.{statement}
@@ -12,11 +12,11 @@ sizes : (c : tie.Start) → (length c.args.t1 ≡ 16) × (length c.args.t2 ≡ 6
 sizes c = (search rules, search rules)
 
 part-text-end : tie.Need-slice-bounds-text-end
-unfolding r0Label
+unfolding r0_label
 part-text-end c = simp length-set (omega (arith, ap length c.before.before.copy.ensures.1))
 
 part-text-end-2 : tie.Need-slice-bounds-text-end-2
-unfolding r0Label
+unfolding r0_label
 part-text-end-2 c =
     let s = c.before.before in
     let h = s.before.before.before.before in
@@ -24,7 +24,7 @@ part-text-end-2 c =
     omega (arith, (r0-spa k.args.t2 (sizes k).1 h.copy.ensures.1 s.copy2.ensures.1).1)
 
 returns : tie.Need-returns
-unfolding r0Label
+unfolding r0_label
 returns c =
     let d = c.before in
     let s = d.before.before.before.before in

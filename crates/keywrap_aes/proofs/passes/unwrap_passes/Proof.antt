@@ -3,15 +3,15 @@ use mathlib.Core.Path.{◌≡◌, refl, sym, ap, ◌∙◌}
 use Prim.Native.Nat.{ℕ, ◌*◌, ◌≤◌}
 use native.Mathlib.Omega.{arith}
 use lib.ListN.{length}
-use Rattle.fips197.specs.Cipher.{eqInvCipher}
-use Rattle.rfc3394.specs.Rfc3394.{high, Registers, unwrapPasses}
+use Rattle.fips197.specs.Cipher.{eq_inv_cipher}
+use Rattle.rfc3394.specs.Rfc3394.{high, Registers, unwrap_passes}
 use Rattle.keywrap_aes.proofs.passes.Parts.{unpasses-less, count_less}
 use borrow.Author.Rules.{rules}
 use Rattle.keywrap_aes.proofs.passes.unwrap_passes.Statement.{statement}
 use Rattle.keywrap_aes.proofs.passes.unwrap_passes.Tie as tie
 
 abbrev invariant-loop : tie.invariant-loop
-invariant-loop ks b₀ n x₀ c₀ j₀ b x c j = (j ≤ 6) × (c ≤ 144) × (c ≡ n * j) × (length b ≡ length b₀) × (unwrapPasses (eqInvCipher ks) n j (high x, b) ≡ unwrapPasses (eqInvCipher ks) n 6 (high x₀, b₀))
+invariant-loop ks b₀ n x₀ c₀ j₀ b x c j = (j ≤ 6) × (c ≤ 144) × (c ≡ n * j) × (length b ≡ length b₀) × (unwrap_passes (eq_inv_cipher ks) n j (high x, b) ≡ unwrap_passes (eq_inv_cipher ks) n 6 (high x₀, b₀))
 
 abbrev decreases-loop : tie.decreases-loop
 decreases-loop ks b₀ n x₀ c₀ j₀ b x c j = j
@@ -35,17 +35,17 @@ loop-again c =
       omega arith,
       h.1,
       k.unwrap-pass.auto.1.1.0 ∙ l.invariant.3,
-      unpasses-less (eqInvCipher s.ks.now) s.n l.j _ (high l.x) l.b _ _ (omega arith) h.1 k.unwrap-pass.ensures.0 k.unwrap-pass.ensures.1 ∙ l.invariant.4,
+      unpasses-less (eq_inv_cipher s.ks.now) s.n l.j _ (high l.x) l.b _ _ (omega arith) h.1 k.unwrap-pass.ensures.0 k.unwrap-pass.ensures.1 ∙ l.invariant.4,
     )
 
 returns : tie.Need-returns invariant-loop decreases-loop
-unfolding unwrapPasses
+unfolding unwrap_passes
 returns c =
     let l = c.before.loop in
     let s = c.before.before.before.args in
     let e : l.j ≡ 0 = omega arith in
-    let q : ◌≡◌ {A = Registers} (high l.x, l.b) (unwrapPasses (eqInvCipher s.ks.now) s.n 6 (high s.a, s.b.now))
-    = ap (λ (m : ℕ). unwrapPasses (eqInvCipher s.ks.now) s.n m (high l.x, l.b)) (sym e) ∙ l.invariant.4 in
+    let q : ◌≡◌ {A = Registers} (high l.x, l.b) (unwrap_passes (eq_inv_cipher s.ks.now) s.n 6 (high s.a, s.b.now))
+    = ap (λ (m : ℕ). unwrap_passes (eq_inv_cipher s.ks.now) s.n m (high l.x, l.b)) (sym e) ∙ l.invariant.4 in
     (ap (λ (w : Registers). w.0) q, ap (λ (w : Registers). w.1) q)
 
 pub unwrap-passes-spec : {M : Type 1} → statement M

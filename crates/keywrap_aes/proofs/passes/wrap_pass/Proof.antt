@@ -6,20 +6,20 @@ use native.Mathlib.Omega.{arith}
 use borrow.Rule.Slice.PartMut.{same_len_mid}
 use lib.ListN.{length}
 use Rattle.fips197.specs.Cipher.{cipher}
-use Rattle.rfc3394.specs.Rfc3394.{high, Registers, wrapPass}
+use Rattle.rfc3394.specs.Rfc3394.{high, Registers, wrap_pass}
 use Rattle.keywrap_aes.proofs.passes.Parts.{pass-more}
 use borrow.Author.Rules.{rules}
 use Rattle.keywrap_aes.proofs.passes.wrap_pass.Statement.{statement}
 use Rattle.keywrap_aes.proofs.passes.wrap_pass.Tie as tie
 
 abbrev invariant-loop : tie.invariant-loop
-invariant-loop ks b₀ n c x0₀ x1₀ m i₀ b x0 x1 i = (m ≡ n) × (i ≤ n) × (length b ≡ length b₀) × ◌≡◌ {A = Registers} (high (x0 ∷ x1 ∷ []), b) (wrapPass (cipher ks) c i (high (x0₀ ∷ x1₀ ∷ []), b₀))
+invariant-loop ks b₀ n c x0₀ x1₀ m i₀ b x0 x1 i = (m ≡ n) × (i ≤ n) × (length b ≡ length b₀) × ◌≡◌ {A = Registers} (high (x0 ∷ x1 ∷ []), b) (wrap_pass (cipher ks) c i (high (x0₀ ∷ x1₀ ∷ []), b₀))
 
 abbrev decreases-loop : tie.decreases-loop
 decreases-loop ks b₀ n c x0₀ x1₀ m i₀ b x0 x1 i = n - i
 
 loop-holds : tie.Need-loop-init invariant-loop decreases-loop
-unfolding wrapPass
+unfolding wrap_pass
 loop-holds c = (refl, omega arith, refl, refl)
 
 loop-again : tie.Need-loop-preserved invariant-loop decreases-loop
@@ -38,8 +38,8 @@ returns c =
     let l = c.before.loop in
     let s = c.before.before.before.before.before.args in
     let e : l.i ≡ s.n = omega arith in (
-      ap (λ (w : Registers). w.0) l.invariant.3 ∙ ap (λ (m : ℕ). (wrapPass (cipher s.ks.now) s.c m (high s.t2, s.b.now)).0) e,
-      ap (λ (w : Registers). w.1) l.invariant.3 ∙ ap (λ (m : ℕ). (wrapPass (cipher s.ks.now) s.c m (high s.t2, s.b.now)).1) e,
+      ap (λ (w : Registers). w.0) l.invariant.3 ∙ ap (λ (m : ℕ). (wrap_pass (cipher s.ks.now) s.c m (high s.t2, s.b.now)).0) e,
+      ap (λ (w : Registers). w.1) l.invariant.3 ∙ ap (λ (m : ℕ). (wrap_pass (cipher s.ks.now) s.c m (high s.t2, s.b.now)).1) e,
     )
 
 pub wrap-pass-spec : {M : Type 1} → statement M

@@ -4,20 +4,20 @@ use Prim.Native.Nat.{ℕ, ◌+◌, ◌-◌, ◌*◌, ◌≤◌}
 use native.Mathlib.Omega.{arith}
 use lib.ListN.{length}
 use Rattle.fips197.specs.Cipher.{cipher}
-use Rattle.rfc3394.specs.Rfc3394.{high, Registers, wrapPasses}
+use Rattle.rfc3394.specs.Rfc3394.{high, Registers, wrap_passes}
 use Rattle.keywrap_aes.proofs.passes.Parts.{passes-more, count-more}
 use borrow.Author.Rules.{rules}
 use Rattle.keywrap_aes.proofs.passes.wrap_passes.Statement.{statement}
 use Rattle.keywrap_aes.proofs.passes.wrap_passes.Tie as tie
 
 abbrev invariant-loop : tie.invariant-loop
-invariant-loop ks b₀ n x₀ c₀ j₀ b x c j = (j ≤ 6) × (c ≤ 24 * j) × (c ≡ n * j) × (length b ≡ length b₀) × ◌≡◌ {A = Registers} (high x, b) (wrapPasses (cipher ks) n j (high x₀, b₀))
+invariant-loop ks b₀ n x₀ c₀ j₀ b x c j = (j ≤ 6) × (c ≤ 24 * j) × (c ≡ n * j) × (length b ≡ length b₀) × ◌≡◌ {A = Registers} (high x, b) (wrap_passes (cipher ks) n j (high x₀, b₀))
 
 abbrev decreases-loop : tie.decreases-loop
 decreases-loop ks b₀ n x₀ c₀ j₀ b x c j = 6 - j
 
 loop-holds : tie.Need-loop-init invariant-loop decreases-loop
-unfolding wrapPasses
+unfolding wrap_passes
 loop-holds c = (omega arith, omega arith, omega arith, refl, refl)
 
 loop-again : tie.Need-loop-preserved invariant-loop decreases-loop
@@ -37,8 +37,8 @@ returns c =
     let l = c.before.loop in
     let s = c.before.before.before.args in
     let e : l.j ≡ 6 = omega arith in
-    let q : ◌≡◌ {A = Registers} (high l.x, l.b) (wrapPasses (cipher s.ks.now) s.n 6 (high s.a, s.b.now))
-    = l.invariant.4 ∙ ap (λ (m : ℕ). wrapPasses (cipher s.ks.now) s.n m (high s.a, s.b.now)) e in
+    let q : ◌≡◌ {A = Registers} (high l.x, l.b) (wrap_passes (cipher s.ks.now) s.n 6 (high s.a, s.b.now))
+    = l.invariant.4 ∙ ap (λ (m : ℕ). wrap_passes (cipher s.ks.now) s.n m (high s.a, s.b.now)) e in
     (ap (λ (w : Registers). w.0) q, ap (λ (w : Registers). w.1) q)
 
 pub wrap-passes-spec : {M : Type 1} → statement M

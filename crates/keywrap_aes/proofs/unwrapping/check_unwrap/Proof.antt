@@ -1,4 +1,4 @@
-use Rattle.refusal.specs.Checks.{bare, unless, ◌andThen◌}
+use Rattle.refusal.specs.Checks.{bare, unless, ◌and_then◌}
 use mathlib.Core.Bool.{Bool}
 use mathlib.Core.Path.{ap, ap₂, ◌∙◌}
 use borrow.Author.Rules.{rules}
@@ -8,7 +8,7 @@ use Rattle.keywrap_aes.proofs.unwrapping.check_unwrap.Tie as tie
 returns : tie.Need-returns
 returns c =
     c.then-check.ensures
-    ∙ ap₂ ◌andThen◌ (c.before.before.unless.ensures ∙ ap (λ (b : Bool). unless b (bare 23)) c.before.before.before.is-wrappable.ensures)
+    ∙ ap₂ ◌and_then◌ (c.before.before.unless.ensures ∙ ap (λ (b : Bool). unless b (bare 23)) c.before.before.before.is-wrappable.ensures)
     c.before.check-room.ensures
 
 pub check-unwrap-spec : {M : Type 1} → statement M

@@ -1,6 +1,6 @@
 use Rattle.keywrap.proofs.Lengths.{passed-high}
-use Rattle.keywrap_aes.proofs.wrapping.Parts.{wrap-refused, wrap-passed}
-use Rattle.refusal.specs.Answers.{checkedAs}
+use Rattle.keywrap_aes.proofs.wrapping.Parts.{wrap_refused, wrap_passed}
+use Rattle.refusal.specs.Answers.{checked_as}
 use Rattle.refusal.specs.Checks.{bare, unless}
 use Prim.Native.Nat.{◌≤◌}
 use mathlib.Core.Bool.{Bool}
@@ -13,21 +13,21 @@ use Rattle.keywrap_aes.proofs.wrapping.check_wrap.Tie as tie
 add-check-room : tie.Need-overflow-add-check-room
 add-check-room c =
     let k = c.before.before in
-    let e = sym (k.unless.ensures ∙ ap (λ (b : Bool). unless b (bare 23)) k.before.is-wrappable.ensures) ∙ ap checkedAs c.enum_told.given.1 in
+    let e = sym (k.unless.ensures ∙ ap (λ (b : Bool). unless b (bare 23)) k.before.is-wrappable.ensures) ∙ ap checked_as c.enum_told.given.1 in
     let h : k.before.before.args.n ≤ 192 = passed-high _ e in
     omega arith
 
 returns : tie.Need-returns
 returns c =
     let k = c.before.before.before in
-    wrap-refused k.before.before.args.n k.before.before.args.room _
-    (sym (ap checkedAs c.before.length.given.1) ∙ k.unless.ensures ∙ ap (λ (b : Bool). unless b (bare 23)) k.before.is-wrappable.ensures)
+    wrap_refused k.before.before.args.n k.before.before.args.room _
+    (sym (ap checked_as c.before.length.given.1) ∙ k.unless.ensures ∙ ap (λ (b : Bool). unless b (bare 23)) k.before.is-wrappable.ensures)
 
 returns-2 : tie.Need-returns-2
 returns-2 c =
     let k = c.before.before.before in
-    wrap-passed k.before.before.args.n k.before.before.args.room _
-    (sym (ap checkedAs c.before.enum_told.given.1) ∙ k.unless.ensures ∙ ap (λ (b : Bool). unless b (bare 23)) k.before.is-wrappable.ensures)
+    wrap_passed k.before.before.args.n k.before.before.args.room _
+    (sym (ap checked_as c.before.enum_told.given.1) ∙ k.unless.ensures ∙ ap (λ (b : Bool). unless b (bare 23)) k.before.is-wrappable.ensures)
     c.check-room.ensures
 
 pub check-wrap-spec : {M : Type 1} → statement M

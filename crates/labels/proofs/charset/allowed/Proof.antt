@@ -1,14 +1,14 @@
 use borrow.Author.Rules.{rules}
-use Rattle.labels.specs.Bytes.{labelByte, serverByte}
+use Rattle.labels.specs.Bytes.{label_byte, server_byte}
 use Rattle.labels.proofs.charset.allowed.Statement.{statement}
 use Rattle.labels.proofs.charset.allowed.Tie as tie
 
 returns : tie.Need-returns
-unfolding labelByte
+unfolding label_byte
 returns c = rw c.before.enum_told.given.1 c.between.ensures
 
 returns-2 : tie.Need-returns-2
-unfolding serverByte
+unfolding server_byte
 returns-2 c = rw c.before.enum-told2.given.1 c.between2.ensures
 
 returns-3 : tie.Need-returns-3

@@ -6,7 +6,7 @@ use borrow.Author.Rules.{rules}
 use lib.ListN.{length, drop}
 use native.Mathlib.Omega.{arith}
 use Rattle.labels.specs.Syntax.{count}
-use Rattle.labels.proofs.syntax.Counts.{count_next, count-end}
+use Rattle.labels.proofs.syntax.Counts.{count_next, count_end}
 use Rattle.labels.proofs.syntax.count_marks.Statement.{statement}
 use Rattle.labels.proofs.syntax.count_marks.Tie as tie
 
@@ -70,10 +70,10 @@ returns c =
     let l = c.before.loop in
     let s = c.before.before.before.args.s.now in
     let past : length s ≤ l.i = omega arith in (
-      omega (arith, l.invariant.3.1, count-end 32 s l.i past),
+      omega (arith, l.invariant.3.1, count_end 32 s l.i past),
       (
-        omega (arith, l.invariant.4.1, count-end 44 s l.i past),
-        omega (arith, l.invariant.5.1, count-end 64 s l.i past),
+        omega (arith, l.invariant.4.1, count_end 44 s l.i past),
+        omega (arith, l.invariant.5.1, count_end 64 s l.i past),
       ),
     )
 

@@ -5,13 +5,13 @@ use native.Mathlib.Nat.{zero-add}
 use native.Mathlib.Omega.{arith}
 use borrow.Author.Rules.{rules}
 use lib.ListN.{length, drop}
-use Rattle.offer_rules.specs.Rfc5448.{firstSupported}
+use Rattle.offer_rules.specs.Rfc5448.{first_supported}
 use Rattle.offers.proofs.peer.Lists.{supported-hit, supported-miss, supported-done}
 use Rattle.offers.proofs.peer.first_supported.Statement.{statement}
 use Rattle.offers.proofs.peer.first_supported.Tie as tie
 
 abbrev invariant-loop : tie.invariant-loop
-invariant-loop offers supported i₀ i = (i ≤ length offers) × (firstSupported offers supported ≡ i + firstSupported (drop i offers) supported)
+invariant-loop offers supported i₀ i = (i ≤ length offers) × (first_supported offers supported ≡ i + first_supported (drop i offers) supported)
 
 abbrev decreases-loop : tie.decreases-loop
 decreases-loop offers supported i₀ i = length offers - i

@@ -1,7 +1,7 @@
 -- `offers::peer::recheck` meets its contract: where the tests of the reply pass, the comparison of the lists decides.
 use mathlib.Core.Path.{sym, ap, ◌∙◌}
 use borrow.Author.Rules.{rules}
-use Rattle.refusal.specs.Answers.{checkedAs}
+use Rattle.refusal.specs.Answers.{checked_as}
 use Rattle.refusal.proofs.Answering.{passed}
 use Rattle.offers.proofs.peer.Lists.{reply-refused, renewed-so, altered}
 use Rattle.offers.proofs.peer.recheck.Statement.{statement}
@@ -11,7 +11,7 @@ returns : tie.Need-returns
 returns c =
     let p = c.before.before.before in
     let a = p.before.before.before.args in
-    reply-refused a.original.now a.choice a.renewed.now (sym p.check-reply.ensures ∙ ap checkedAs c.before.why.given.1)
+    reply-refused a.original.now a.choice a.renewed.now (sym p.check-reply.ensures ∙ ap checked_as c.before.why.given.1)
 
 returns-2 : tie.Need-returns-2
 returns-2 c =

@@ -6,23 +6,23 @@ use borrow.Author.Tests.{leb-true}
 use borrow.Author.Rules.{rules}
 use lib.ListN.{length, drop}
 use lib.Seq.{length-take-le}
-use Rattle.refusal.specs.Answers.{checkedAs}
-use Rattle.refusal.proofs.Passing.{last-passed, test-passed}
-use Rattle.refusal.proofs.Answering.{passed, refused-so, written-so}
-use Rattle.offer_rules.specs.Rfc5448.{renewedList, answerCheck}
-use Rattle.offer_rules.specs.Answers.{serverAnswer, serverBuffer}
+use Rattle.refusal.specs.Answers.{checked_as}
+use Rattle.refusal.proofs.Passing.{last-passed, test_passed}
+use Rattle.refusal.proofs.Answering.{passed, refused_so, written_so}
+use Rattle.offer_rules.specs.Rfc5448.{renewed_list, answer_check}
+use Rattle.offer_rules.specs.Answers.{server_answer, server_buffer}
 use Rattle.offers.proofs.server.answer.Statement.{statement}
 use Rattle.offers.proofs.server.answer.Tie as tie
 
 -- what the tests came to
-checked : (c : tie.After-then-check) → let a = c.before.before.before.before.before.args in checkedAs c.then-check.result ≡ answerCheck a.offers.now a.reply (length a.out.now)
-unfolding answerCheck
+checked : (c : tie.After-then-check) → let a = c.before.before.before.before.before.args in checked_as c.then-check.result ≡ answer_check a.offers.now a.reply (length a.out.now)
+unfolding answer_check
 checked c = rw (c.then-check.ensures, c.before.before.check-reply.ensures, c.before.check-room.ensures) refl
 
 -- where they passed, there is room
 room : (c : tie.After-enum-told) → let a = c.before.before.before.before.before.before.before.args in length a.offers.now + 1 ≤ length a.out.now
-unfolding answerCheck
-room c = leb-true _ _ (test-passed _ _ (last-passed _ _ (passed (checked c.before.before) c.enum_told.given.1)))
+unfolding answer_check
+room c = leb-true _ _ (test_passed _ _ (last-passed _ _ (passed (checked c.before.before) c.enum_told.given.1)))
 
 put-list-requires : tie.Need-put-list-requires
 put-list-requires c κs =
@@ -36,21 +36,21 @@ slice-aggregate-put-list : tie.Need-slice-aggregate-put-list
 slice-aggregate-put-list c = sym (length-take-le _ _ (omega (arith, room c.before)))
 
 returns : tie.Need-returns
-unfolding serverAnswer serverBuffer
+unfolding server_answer server_buffer
 returns c =
     let p = c.before.before.before in
     let a = p.before.before.before.before.before.args in
-    refused-so (length a.offers.now + 1) (renewedList a.offers.now a.reply) a.out.now (checked p) c.before.why.given.1
+    refused_so (length a.offers.now + 1) (renewed_list a.offers.now a.reply) a.out.now (checked p) c.before.why.given.1
 
 returns-2 : tie.Need-returns-2
-unfolding serverAnswer serverBuffer
+unfolding server_answer server_buffer
 returns-2 c =
     let k = c.before.before.before.before in
     let p = k.before.before in
     let a = p.before.before.before.before.before.args in
     let n = length a.offers.now + 1 in
     let copied = ap (λ (l : List ℕ). l ++ drop n a.out.now) c.before.before.put-list.ensures in
-    let r = written-so n (renewedList a.offers.now a.reply) a.out.now (checked p) k.enum_told.given.1 copied in
+    let r = written_so n (renewed_list a.offers.now a.reply) a.out.now (checked p) k.enum_told.given.1 copied in
     (r.0, r.1)
 
 pub answer-spec : {M : Type 1} → statement M

@@ -1,4 +1,4 @@
-use Rattle.sha1_block.proofs.round.Functions.{kept-variables}
+use Rattle.sha1_block.proofs.round.Functions.{kept_variables}
 use Rattle.std.proofs.Common.{rules}
 use Rattle.sha1_block.proofs.round.kept.Statement.{statement}
 use Rattle.sha1_block.proofs.round.kept.Tie as tie
@@ -8,7 +8,7 @@ returns c =
     let x = c.before.before.unrotated in
     let y = c.before.unrotated2 in
     let z = c.unrotated3 in
-    kept-variables c.before.before.before.args.t1 x.result y.result z.result (search rules) x.ensures y.ensures z.ensures
+    kept_variables c.before.before.before.args.t1 x.result y.result z.result (search rules) x.ensures y.ensures z.ensures
 
 pub kept-spec : {M : Type 1} → statement M
 kept-spec =

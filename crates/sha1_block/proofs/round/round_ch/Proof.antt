@@ -1,11 +1,11 @@
 use Rattle.std.proofs.Common.{◌≡◌, ℕ, ap, ◌∙◌, rules}
 use Rattle.fips180.specs.Sha1.{step}
-use Rattle.sha1_block.specs.Internal.{variables, stepBy}
+use Rattle.sha1_block.specs.Internal.{variables, step_by}
 use Rattle.sha1_block.proofs.round.round_ch.Statement.{statement}
 use Rattle.sha1_block.proofs.round.round_ch.Tie as tie
 
 returns : tie.Need-returns
-unfolding variables stepBy
+unfolding variables step_by
 returns c =
     let a = c.before.before.args in
     let stepped : variables c.step.result ≡ step c.before.ch.result 0x5a827999 a.w (variables a.t1) = c.step.ensures in

@@ -1,6 +1,6 @@
 -- `sha1_block::window::four_maj` meets its contract: one round after another.
 use Rattle.std.proofs.Common.{◌≡◌, ◌+◌, get_or, rules}
-use Rattle.sha1_block.specs.Internal.{variables, stepBy}
+use Rattle.sha1_block.specs.Internal.{variables, step_by}
 use Rattle.fips180.specs.Words.{Maj}
 use Rattle.sha1_block.proofs.window.Rounds.{four}
 use Rattle.sha1_block.proofs.window.four_maj.Statement.{statement}
@@ -10,10 +10,10 @@ returns : tie.Need-returns
 returns c =
     let a = c.before.before.before.before.before.before.before.before.args in
     let w = a.w.now in
-    let one : variables c.before.before.before.before.before.before.round-maj.result ≡ stepBy Maj 0x8f1bbcdc (get_or w a.j 0) (variables a.s) = c.before.before.before.before.before.before.round-maj.ensures in
-    let two : variables c.before.before.before.before.round-maj2.result ≡ stepBy Maj 0x8f1bbcdc (get_or w (a.j + 1) 0) (variables c.before.before.before.before.before.before.round-maj.result) = c.before.before.before.before.round-maj2.ensures in
-    let three : variables c.before.before.round-maj3.result ≡ stepBy Maj 0x8f1bbcdc (get_or w (a.j + 2) 0) (variables c.before.before.before.before.round-maj2.result) = c.before.before.round-maj3.ensures in
-    let last : variables c.round-maj4.result ≡ stepBy Maj 0x8f1bbcdc (get_or w (a.j + 3) 0) (variables c.before.before.round-maj3.result) = c.round-maj4.ensures in
+    let one : variables c.before.before.before.before.before.before.round-maj.result ≡ step_by Maj 0x8f1bbcdc (get_or w a.j 0) (variables a.s) = c.before.before.before.before.before.before.round-maj.ensures in
+    let two : variables c.before.before.before.before.round-maj2.result ≡ step_by Maj 0x8f1bbcdc (get_or w (a.j + 1) 0) (variables c.before.before.before.before.before.before.round-maj.result) = c.before.before.before.before.round-maj2.ensures in
+    let three : variables c.before.before.round-maj3.result ≡ step_by Maj 0x8f1bbcdc (get_or w (a.j + 2) 0) (variables c.before.before.before.before.round-maj2.result) = c.before.before.round-maj3.ensures in
+    let last : variables c.round-maj4.result ≡ step_by Maj 0x8f1bbcdc (get_or w (a.j + 3) 0) (variables c.before.before.round-maj3.result) = c.round-maj4.ensures in
     four Maj 0x8f1bbcdc w a.j (variables a.s) one two three last
 
 pub four-maj-spec : {M : Type 1} → statement M

@@ -1,6 +1,6 @@
 -- `sha1_block::window::four_parity` meets its contract: one round after another.
 use Rattle.std.proofs.Common.{◌≡◌, ◌+◌, get_or, rules}
-use Rattle.sha1_block.specs.Internal.{variables, stepBy}
+use Rattle.sha1_block.specs.Internal.{variables, step_by}
 use Rattle.fips180.specs.Sha1.{Parity}
 use Rattle.sha1_block.proofs.window.Rounds.{four}
 use Rattle.sha1_block.proofs.window.four_parity.Statement.{statement}
@@ -10,10 +10,10 @@ returns : tie.Need-returns
 returns c =
     let a = c.before.before.before.before.before.before.before.before.args in
     let w = a.w.now in
-    let one : variables c.before.before.before.before.before.before.round-parity.result ≡ stepBy Parity a.k (get_or w a.j 0) (variables a.s) = c.before.before.before.before.before.before.round-parity.ensures in
-    let two : variables c.before.before.before.before.round-parity2.result ≡ stepBy Parity a.k (get_or w (a.j + 1) 0) (variables c.before.before.before.before.before.before.round-parity.result) = c.before.before.before.before.round-parity2.ensures in
-    let three : variables c.before.before.round-parity3.result ≡ stepBy Parity a.k (get_or w (a.j + 2) 0) (variables c.before.before.before.before.round-parity2.result) = c.before.before.round-parity3.ensures in
-    let last : variables c.round-parity4.result ≡ stepBy Parity a.k (get_or w (a.j + 3) 0) (variables c.before.before.round-parity3.result) = c.round-parity4.ensures in
+    let one : variables c.before.before.before.before.before.before.round-parity.result ≡ step_by Parity a.k (get_or w a.j 0) (variables a.s) = c.before.before.before.before.before.before.round-parity.ensures in
+    let two : variables c.before.before.before.before.round-parity2.result ≡ step_by Parity a.k (get_or w (a.j + 1) 0) (variables c.before.before.before.before.before.before.round-parity.result) = c.before.before.before.before.round-parity2.ensures in
+    let three : variables c.before.before.round-parity3.result ≡ step_by Parity a.k (get_or w (a.j + 2) 0) (variables c.before.before.before.before.round-parity2.result) = c.before.before.round-parity3.ensures in
+    let last : variables c.round-parity4.result ≡ step_by Parity a.k (get_or w (a.j + 3) 0) (variables c.before.before.round-parity3.result) = c.round-parity4.ensures in
     four Parity a.k w a.j (variables a.s) one two three last
 
 pub four-parity-spec : {M : Type 1} → statement M

@@ -1,6 +1,6 @@
 -- `sha256::Sha256::finish_with` meets its contract. The loop's invariant: the first j parts are absorbed.
 use Rattle.std.proofs.Common.{◌≡◌, ℕ, ◌-◌, ◌^◌, ◌<◌, ◌≤◌, List, [], ◌∷◌, length, take, refl, ap, ◌∙◌, arith, rules}
-use Rattle.fips180.proofs.Absorbing.{block-kept, closed-law, absorbedAll, next-part, all-six}
+use Rattle.fips180.proofs.Absorbing.{block-kept, closed-law, absorbedAll, next_part, all-six}
 use Rattle.fips180.specs.Sha256.{compress, digest}
 use Rattle.sha256.specs.Stream.{progress}
 use Rattle.sha256.specs.Internal.{parts}
@@ -34,7 +34,7 @@ loop-again c =
       omega arith,
       block-kept compress _ _ l.invariant.1 c.absorb-into.ensures,
       f,
-      next-part compress (progress a.self) (a.a.now ∷ a.b.now ∷ a.c.now ∷ a.d.now ∷ a.e.now ∷ a.f.now ∷ []) l.j a.f.now (omega arith) l.invariant.3 p.part.ensures c.absorb-into.ensures,
+      next_part compress (progress a.self) (a.a.now ∷ a.b.now ∷ a.c.now ∷ a.d.now ∷ a.e.now ∷ a.f.now ∷ []) l.j a.f.now (omega arith) l.invariant.3 p.part.ensures c.absorb-into.ensures,
     )
 
 last-digest-requires : tie.Need-last-digest-requires invariant-loop decreases-loop

@@ -1,6 +1,6 @@
 -- `sha256::value::to_bytes` meets its contract. The loop's invariant: the first j words are written (proofs/Digests.antt, `next_word`).
 use Rattle.std.proofs.Common.{◌≡◌, ℕ, ◌+◌, ◌-◌, ◌*◌, ◌≤◌, length, sym, refl, ap, ◌∙◌, arith, length-drop, length-take, rules}
-use Rattle.sha256.proofs.value.Digests.{written, written-length, next_word, none_written, all-written}
+use Rattle.sha256.proofs.value.Digests.{written, written-length, next_word, none_written, all_written}
 use Rattle.sha256.proofs.value.to_bytes.Statement.{statement}
 use Rattle.sha256.proofs.value.to_bytes.Tie as tie
 
@@ -29,7 +29,7 @@ loop-again c =
 returns : tie.Need-returns invariant-loop decreases-loop
 returns c =
     let e : c.before.loop.j ≡ 8 = omega arith in
-    all-written _ e c.before.loop.invariant.2
+    all_written _ e c.before.loop.invariant.2
 
 pub to-bytes-spec : {M : Type 1} → statement M
 to-bytes-spec =

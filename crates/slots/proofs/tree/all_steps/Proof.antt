@@ -6,7 +6,7 @@ use native.Mathlib.Omega.{arith}
 use lib.Dec.{eqb}
 use lib.ListN.{length, get_or, set, length-set}
 use lib.Pow.{shr-shr}
-use Rattle.slots.proofs.Steps.{Filled, filled_next, filled-whole}
+use Rattle.slots.proofs.Steps.{Filled, filled_next, filled_whole}
 use Rattle.slots.proofs.tree.all_steps.Statement.{statement}
 use Rattle.slots.proofs.tree.all_steps.Tie as tie
 
@@ -42,7 +42,7 @@ returns c =
     let a = c.before.before.args in
     let l = c.before.loop in
     let e : l.s ≡ 64 = omega arith in
-    filled-whole a.taken a.parents.now l.steps (λ j h. let k : j < l.s = omega arith in l.invariant.3 j k)
+    filled_whole a.taken a.parents.now l.steps (λ j h. let k : j < l.s = omega arith in l.invariant.3 j k)
 
 pub all-steps-spec : {M : Type 1} → statement M
 all-steps-spec =

@@ -1,6 +1,6 @@
 use borrow.Author.Rules.{rules}
 use mathlib.Core.Path.{◌∙◌}
-use Rattle.slots.proofs.BitLaws.{length-mapped}
+use Rattle.slots.proofs.BitLaws.{length_mapped}
 use Rattle.slot_rules.specs.Stored.{Fits}
 use Rattle.slots.proofs.Calls.{gone-live}
 use Rattle.slots.proofs.tree.gone.Statement.{statement}
@@ -8,7 +8,7 @@ use Rattle.slots.proofs.tree.gone.Tie as tie
 
 -- the slots at entry
 stored : (s : tie.Start) → Fits s.args.slots
-stored s = search (rules, length-mapped)
+stored s = search (rules, length_mapped)
 
 returns : tie.Need-returns
 returns c =

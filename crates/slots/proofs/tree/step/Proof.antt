@@ -1,6 +1,6 @@
 use borrow.Author.Rules.{rules}
 use mathlib.Core.Path.{sym, ◌∙◌}
-use Rattle.slots.specs.Internal.{stepFrom}
+use Rattle.slots.specs.Internal.{step_from}
 use Rattle.slots.proofs.Steps.{below}
 use Rattle.slots.proofs.tree.step.Statement.{statement}
 use Rattle.slots.proofs.tree.step.Tie as tie
@@ -11,11 +11,11 @@ element-copy-out-wide c =
     below a.taken a.s (sym c.before.has-bit.ensures ∙ c.if1.true)
 
 returns : tie.Need-returns
-unfolding stepFrom
+unfolding step_from
 returns c = simp (sym c.before.before.before.has-bit.ensures ∙ c.before.before.if1.true) c.wide.ensures
 
 returns-2 : tie.Need-returns-2
-unfolding stepFrom
+unfolding step_from
 returns-2 c = simp (sym c.before.has-bit.ensures ∙ c.if1.false)
 
 pub step_spec : {M : Type 1} → statement M

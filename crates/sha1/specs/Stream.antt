@@ -1,9 +1,0 @@
--- SHA-1 after a block, by the hash in progress of FIPS 180-4 (Stream.antt of the crate fips180). `AfterBlockIsHash` of that crate's Statements.antt
--- says that it is the standard's hash.
-use Rattle.std.specs.Prelude.{ℕ, List}
-use Rattle.fips180.specs.Sha1.{compress, digest}
-use Rattle.fips180.specs.Stream.{startedAfter, absorbedBy, finishedBy}
-
--- the digest of a block, of which only the hash value is given, and of a message after it
-abbrev pub digestAfter : List ℕ → List ℕ → List ℕ
-digestAfter value message = finishedBy compress digest (absorbedBy compress (startedAfter value) message)

@@ -1,0 +1,16 @@
+-- `sha1_hash::put_length` meets its contract: eight stores, and the bytes of the count of bits (`length_put` of fips180).
+use Rattle.fips180.proofs.Closing.{length_put}
+use Rattle.std.proofs.Common.{rules}
+use Rattle.sha1_hash.proofs.put_length.Statement.{statement}
+use Rattle.sha1_hash.proofs.put_length.Tie as tie
+
+returns : tie.Need-returns
+returns c = length_put c.args.block.now c.args.count c.requires
+
+pub put-length-spec : {M : Type 1} → statement M
+put-length-spec =
+    tie.close
+    (tie.spec (λ c. search rules) (λ c. search rules) (λ c. search rules) (λ c. search rules) (λ c. search rules)
+    (λ c. search rules) (λ c. search rules) (λ c. search rules) (λ c. search rules) (λ c. search rules)
+    (λ c. search rules) (λ c. search rules) (λ c. search rules) (λ c. search rules) (λ c. search rules)
+    (λ c. search rules) (λ c. search rules) returns)
