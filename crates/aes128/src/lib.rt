@@ -1,6 +1,7 @@
 // AES-128 by FIPS 197: the cipher, and the inverse cipher in its equivalent form (section 5.3.5). The state is four columns of four bytes,
 // passed by value through each step. SubBytes is taken with the step after it, by a table: in a round, what a byte brings to its mixed column
 // is looked up as one word of 32 bits. From round to round a column is such a word, so that the compiler keeps it in a register.
+#![tactic(auto)]
 
 mod columns; // columns of the state as words of 32 bits
 mod keys; // the round keys of the cipher and of the equivalent inverse cipher

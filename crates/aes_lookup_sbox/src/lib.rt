@@ -2,6 +2,8 @@
 // The table is a `match`, which the compiler lays in constants; an array of constants would be laid on the stack wherever it is named. The
 // byte is a number of 32 bits, since the compiled look-up is then one load. A look-up that is called at one place alone is inlined
 // there, so each place has its own; tables with the same entries are one in the compiled code.
+#![tactic(auto)]
+
 ghost use Rattle.std.specs.Prelude.{◌≡◌, get_or};
 ghost use Rattle.aes_sbox.specs.Tables.{sbox};
 ghost use Rattle.tables.specs.Table.{NoneBelow};

@@ -1,6 +1,8 @@
 // The keys of EAP-AKA' (document 02, request 11): from CK and IK of a SIM to CK' and IK' (3GPP TS 33.402, Annex A.2), and on to K_encr, K_aut,
 // K_re, MSK and EMSK (RFC 5448, section 3.3). The texts are hashed in parts. Only keys of 16 bytes are joined, to those of 32 that the two
 // derivations take.
+#![tactic(auto)]
+
 ghost use Rattle.std.specs.Prelude.{◌≡◌, ◌++◌, length, take, drop};
 ghost use Rattle.refusal.specs.Checks.{◌and_then◌};
 ghost use Rattle.refusal.specs.Answers.{checked_as, answer_of, answer_to, buffer_after};

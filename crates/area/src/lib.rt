@@ -1,5 +1,7 @@
 // Reads the attribute area that carries the offers (document 01, "Attribute area"; RFC 5448 sections 3.1 and 3.2). The walk goes
 // through the attributes once and keeps the offers aside, so that only an area that is read whole alters the buffer lent for them.
+#![tactic(auto)]
+
 ghost use Rattle.std.specs.Prelude.{◌≡◌, List, [], ◌∷◌, ℕ, ◌+◌, ◌^◌, ◌≤◌, ◌<◌, length, take, drop};
 ghost use Rattle.refusal.specs.Answers.{reason_of};
 ghost use Rattle.area_format.specs.Area.{Standing, standing, fault_at, read_on, attributes, area_answer, area_buffer};

@@ -1,5 +1,6 @@
 // The attribute area that carries the offers (document 01, "Attribute area"; RFC 5448 sections 3.1 and 3.2): the attributes that stand in it, and the
 // definition of what reading it answers. There is no code here.
+#![tactic(auto)]
 
 // Attribute Length counts four-byte words, the name length counts bytes: a type for each, so that neither is taken for the other.
 #[derive(Drop)]

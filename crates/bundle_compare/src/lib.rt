@@ -1,4 +1,6 @@
 // What changed between two bundles (document 02, request 10): the list of the Key IDs that differ, and its counts.
+#![tactic(auto)]
+
 ghost use Rattle.std.specs.Prelude.{◌≡◌, cond, [], ◌++◌, ◌+◌, ◌≤◌, eqb, length, take, drop};
 ghost use Rattle.refusal.specs.Checks.{pass, ◌and_then◌};
 ghost use Rattle.refusal.specs.Answers.{checked_as};

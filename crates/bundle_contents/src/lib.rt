@@ -1,4 +1,6 @@
 // The table of contents and the bodies of a bundle (document 02, request 9): the tests of a file that its reader and the comparison of two share.
+#![tactic(auto)]
+
 ghost use Rattle.std.specs.Prelude.{◌≡◌, ◌-◌, ◌≤◌, length};
 ghost use Rattle.refusal.specs.Answers.{checked_as};
 ghost use Rattle.bundle_contents.specs.Internal.{HasLines, Inside};

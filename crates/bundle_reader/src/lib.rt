@@ -1,4 +1,6 @@
 // A bundle (document 02, request 9) read: the attributes of a file, packed end to end.
+#![tactic(auto)]
+
 ghost use Rattle.std.specs.Prelude.{◌≡◌, length};
 ghost use Rattle.refusal.specs.Checks.{pass};
 ghost use Rattle.refusal.specs.Answers.{answer_of};

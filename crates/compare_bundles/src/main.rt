@@ -1,6 +1,8 @@
 // Prints what changed between two bundles (document 02, request 10): `compare_bundles FIRST SECOND` writes a line for each Key ID that differs
 // between the two files, and then the counts. Where a file is refused it writes the number instead, and which file it is. What keeps it from
 // comparing, as a file that cannot be read, goes to standard error. A program of Rattle's has no exit status of its own to give.
+#![tactic(auto)]
+
 use bundle_compare::{Compared, Counts};
 use bundle_contents::check_bundle;
 use libc::{STDERR_FILENO, STDOUT_FILENO};

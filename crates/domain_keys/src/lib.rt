@@ -1,5 +1,7 @@
 // The keys of a domain (document 02, request 6): the domain root key of RFC 5295, section 4, under the EMSK, and the re-authentication root
 // key of RFC 5296, section 4.1, under that. Each call writes 64 bytes of prf+ at the start of out and answers 64.
+#![tactic(auto)]
+
 ghost use Rattle.std.specs.Prelude.{◌≡◌, length};
 ghost use Rattle.refusal.specs.Checks.{◌and_then◌, check1};
 ghost use Rattle.refusal.specs.Answers.{checked_as, answer_of};

@@ -1,5 +1,7 @@
 // The handover keys of source document 003, sections 4.2, 4.3 and 5 (document 02, request 2): the R0-Key under an rRK, the R1-Key under an R0-Key,
 // and the R0Name. A refusal alters nothing, and nothing is derived before all tests have passed.
+#![tactic(auto)]
+
 ghost use Rattle.std.specs.Prelude.{◌≡◌, ◌++◌, ◌≤◌, length, drop};
 ghost use Rattle.refusal.specs.Checks as Checks;
 ghost use Rattle.refusal.specs.Checks.{bare, ◌and_then◌, check6};

@@ -1,6 +1,8 @@
 // HMAC-SHA-256 (RFC 2104). `mac` is the MAC of one message, `mac_of_parts` that of one in up to five parts. A caller that has many under one
 // key keeps the hash values after the key's two blocks in a `Keyed` (section 4). It begins each message's hash after the inner value, and
 // `finish` comes to the MAC.
+#![tactic(auto)]
+
 ghost use Rattle.std.specs.Prelude.{◌≡◌, ◌++◌};
 ghost use Rattle.fips180.specs.Sha256.{sha256, compress, H0};
 ghost use Rattle.sha256.specs.Stream.{progress, absorbed, finished, joined};

@@ -1,4 +1,6 @@
 // The blocks that HMAC makes of a key (RFC 2104, section 2), whatever the hash is: a short key filled up with zeros, and a block masked.
+#![tactic(auto)]
+
 ghost use Rattle.std.specs.Prelude.{◌≡◌, ◌++◌, ◌-◌, length, take, replicate};
 ghost use Rattle.rfc2104.specs.Rfc2104 as Rfc2104;
 

@@ -1,5 +1,7 @@
 // HMAC-SHA-1 (RFC 2104). A caller that has many messages under one key keeps the hash values after the key's two blocks in a `Keyed`
 // (section 4), and each message starts with them.
+#![tactic(auto)]
+
 ghost use Rattle.std.specs.Prelude.{◌≡◌, ◌+◌, ◌<◌, length};
 ghost use Rattle.fips180.specs.Sha1.{sha1};
 ghost use Rattle.rfc2104.specs.Rfc2104 as Rfc2104;

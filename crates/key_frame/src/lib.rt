@@ -1,5 +1,7 @@
 // The frame of the RADIUS Key attribute (source document 004, section 3.1): its fields, the tests of an attribute that need no KEK, and sixteen bytes by value,
 // as IDs and KEKs are.
+#![tactic(auto)]
+
 ghost use Rattle.std.specs.Prelude.{◌≡◌, ◌≤◌, length, get_or};
 ghost use Rattle.refusal.specs.Checks.{◌and_then◌, check20};
 ghost use Rattle.refusal.specs.Answers.{checked_as};

@@ -1,5 +1,7 @@
 // Key names (source document 001, section 4.1; document 01, "Visited keys"): the first 8 bytes of SHA-256 over Session-ID then label. The
 // two are hashed one after the other and are not joined in a buffer.
+#![tactic(auto)]
+
 ghost use Rattle.std.specs.Prelude.{◌≡◌, length};
 ghost use Rattle.refusal.specs.Checks.{◌and_then◌};
 ghost use Rattle.refusal.specs.Answers.{checked_as, answer_of};

@@ -1,4 +1,6 @@
 // The reader of the RADIUS Key attribute (source document 004, section 3.1): it tests an attribute, unwraps the key under a KEK, and returns the fields.
+#![tactic(auto)]
+
 ghost use Rattle.std.specs.Prelude.{◌≡◌, ◌+◌, ◌≤◌, length};
 ghost use Rattle.refusal.specs.Answers.{Answer, answer_of, reason_of};
 ghost use Rattle.slices.specs.Numbers.{be32_at};

@@ -1,4 +1,6 @@
 // The writer of the RADIUS Key attribute (source document 004, section 3.1): a key, wrapped under a KEK, with the fields that name it.
+#![tactic(auto)]
+
 ghost use Rattle.std.specs.Prelude.{◌≡◌, ◌++◌, ◌+◌, ◌≤◌, length, take, drop};
 ghost use Rattle.refusal.specs.Checks.{◌and_then◌, check20};
 ghost use Rattle.refusal.specs.Answers.{checked_as, answer_of};

@@ -1,4 +1,5 @@
 // RFC 3394 over AES-128: a key wrapped, and a wrapped key unwrapped.
+#![tactic(auto)]
 
 mod passes; // the six passes over a key's blocks
 mod step; // one step of the wrap, and of the unwrapping

@@ -1,5 +1,7 @@
 // Tests of texts. Those of a label are document 01's numbers 2 and 3 ("Refusal numbers"), and document 02's 32; those of server IDs and domains are 7 and 8.
 // This is the one place that tests them.
+#![tactic(auto)]
+
 ghost use Rattle.std.specs.Prelude.{◌≡◌, ◌≤◌, length};
 ghost use Rattle.labels.specs.Checks.{label_check, check32};
 ghost use Rattle.refusal.specs.Answers.{checked_as};

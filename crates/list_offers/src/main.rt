@@ -1,5 +1,7 @@
 // Lists the offers of an attribute area (document 01, "Checked cases"): reads the area from standard input and writes its offers
 // and the length of its name, or the refusal, to standard output. The peer's own name that it lends is empty, so it reads leniently.
+#![tactic(auto)]
+
 use area::AreaRead;
 use area_format::Way;
 use libc::{STDIN_FILENO, STDOUT_FILENO};

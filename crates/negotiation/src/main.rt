@@ -1,5 +1,7 @@
 // Plays negotiations of the key derivation function between a peer and a server and prints each step: the checked cases P6 to P13 of
 // document 01, longer lists, and negotiations in which a list or a reply was altered on the way (document 02, request 14).
+#![tactic(auto)]
+
 use libc::STDOUT_FILENO;
 use offers::{FirstRound, Renewed};
 use refusal::{Answered, Refusal};

@@ -1,4 +1,6 @@
 // A whole negotiation of the key derivation function between a peer and a server in which each gets what the other sent (RFC 5448 section 3.2).
+#![tactic(auto)]
+
 ghost use Rattle.std.specs.Prelude.{◌≡◌};
 ghost use Rattle.offer_rules.specs.Negotiation.{negotiated, negotiated_buffer};
 ghost use Rattle.offers.specs.Answers.{first_round_of, renewed_of};

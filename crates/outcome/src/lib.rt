@@ -1,5 +1,7 @@
 // What the calls return to C: the structs of include/ketvaulo.h, each made from the answer of the function that does the work. Here is
 // `kv_outcome`, which most calls return; a module has the struct of each family that has one of its own.
+#![tactic(auto)]
+
 pub mod areas;
 pub mod comparisons;
 pub mod key_attributes;

@@ -1,5 +1,7 @@
 // Signs a RADIUS packet and checks one: the Message-Authentication-Code attribute of MAC Type 2, HMAC-SHA-256 (request 8; source
 // document 004, section 3.3). The definitions are those of `packet_rules`.
+#![tactic(auto)]
+
 ghost use Rattle.std.specs.Prelude.{◌≡◌, ◌+◌, ◌≤◌, length, replicate};
 ghost use Rattle.std.proofs.Math.Seq.{paste};
 ghost use Rattle.refusal.specs.Answers.{checked_as, answer_of};

@@ -1,5 +1,7 @@
 // The expansion prf+ (RFC 4306, section 2.13; document 01, "Hash, MAC and expansion"), with HMAC-SHA-256. The text S comes in four
 // parts, so that no caller joins them in a buffer.
+#![tactic(auto)]
+
 ghost use Rattle.std.specs.Prelude.{◌≡◌, ◌++◌, ◌≤◌, length, drop};
 ghost use Rattle.refusal.specs.Checks.{◌and_then◌};
 ghost use Rattle.refusal.specs.Answers.{checked_as, answer_of, answer_to, buffer_after};

@@ -1,5 +1,7 @@
 // Refusals by name and by number, the tests of a call in their order, and the answer of a call that writes (document 01, "Refusal
 // numbers"). Every other crate checks its input with these.
+#![tactic(auto)]
+
 ghost use Rattle.std.specs.Prelude.{◌≡◌, length};
 ghost use Rattle.refusal.specs.Checks.{within, ◌and_then◌, check1, check6};
 ghost use Rattle.refusal.specs.Checks;

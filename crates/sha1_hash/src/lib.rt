@@ -1,5 +1,7 @@
 // SHA-1 of a message (FIPS 180-4), at once, or after a block of which only the hash value is given. No branch and no index goes by the bytes of a
 // message, only by their count.
+#![tactic(auto)]
+
 ghost use Rattle.std.specs.Prelude.{◌≡◌, ℕ, ◌+◌, ◌*◌, ◌/◌, ◌%◌, ◌^◌, ◌≤◌, List, ◌++◌, length, take, drop};
 ghost use Rattle.std.proofs.Math.Seq.{paste};
 ghost use Rattle.slices.specs.Numbers.{be64};

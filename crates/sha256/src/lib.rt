@@ -1,5 +1,7 @@
 // SHA-256 of a message (FIPS 180-4): at once, or by a hash in progress that is passed by value. No branch and no index goes by the bytes
 // absorbed, only by their count.
+#![tactic(auto)]
+
 ghost use Rattle.std.specs.Prelude.{◌≡◌, ◌+◌, ◌-◌, ◌*◌, ◌/◌, ◌%◌, ◌^◌, ◌<◌, ◌≤◌, ◌∷◌, ◌++◌, length, take, replicate};
 ghost use Rattle.std.proofs.Math.Seq.{paste};
 ghost use Rattle.slices.specs.Numbers.{be64};

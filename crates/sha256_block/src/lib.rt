@@ -1,4 +1,6 @@
 // SHA-256's compression (FIPS 180-4): the hash value after the whole blocks of a message.
+#![tactic(auto)]
+
 ghost use Rattle.std.specs.Prelude.{◌≡◌, ℕ, ◌+◌, ◌-◌, ◌*◌, ◌/◌, ◌%◌, ◌^◌, ◌<◌, ◌≤◌, List, length, slice_index, slice_set};
 ghost use Rattle.fips180.specs.Words.{word};
 ghost use Rattle.fips180.specs.Sha256 as Sha256;

@@ -1,5 +1,7 @@
 // Slices of bytes and of 16-bit values: equality, copying, numbers high byte first. The laws of byte lists that several crates need are in
 // proofs/. Bytes are copied by the kit's `bytes::copy`.
+#![tactic(auto)]
+
 ghost use Rattle.std.specs.Prelude.{◌≡◌, ◌++◌, min, length, take, drop};
 ghost use Rattle.slices.specs.Numbers as Numbers;
 ghost use Rattle.slices.specs.Same.{same_list};

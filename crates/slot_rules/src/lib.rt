@@ -1,5 +1,6 @@
 // Slots for live keys (document 02, requests 12 and 13): how they are stored, the definitions that the calls are proved to meet, and what is
 // proved of the definitions. There is no code here.
+#![tactic(auto)]
 
 // The name of a key, as the crate `key_name` makes it.
 #[repr(C)]

@@ -1,5 +1,7 @@
 // Sixty-four slots for live keys, each free or holding the name of a key and its parent (document 02, requests 12 and 13). The slots are passed by
 // value, and come back with the answer.
+#![tactic(auto)]
+
 ghost use Rattle.std.specs.Prelude.{◌≡◌, ◌<◌};
 ghost use Rattle.refusal.specs.Answers.{checked_as, answer_of};
 ghost use Rattle.slot_rules.specs.Table.{lowestFree, liveCount};

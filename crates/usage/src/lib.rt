@@ -1,6 +1,8 @@
 // Usage keys (RFC 5295; source document 000, section 3; document 01, "Usage keys"): n bytes of prf+ under the EMSK, with a text S of the
 // label, a zero byte, optional data and n. The label of a domain root key is refused (document 02, request 6). The crate `requests` has the
 // definitions.
+#![tactic(auto)]
+
 ghost use Rattle.std.specs.Prelude.{◌≡◌, length};
 ghost use Rattle.refusal.specs.Checks.{◌and_then◌, check1};
 ghost use Rattle.refusal.specs.Answers.{checked_as, answer_of};

@@ -1,6 +1,8 @@
 // Computes test vectors of the primitives and prints a line for each result: the source, the input in words, the bytes. Most inputs are
 // published. Fourteen are not: ten messages at the edges of the padding, and four keys that are wrapped. The file stdout has the
 // expected lines; docs/VECTORS.md says where each comes from.
+#![tactic(auto)]
+
 ghost use Rattle.std.specs.Prelude.{◌≤◌};
 
 use libc::STDOUT_FILENO;

@@ -1,5 +1,7 @@
 // The visited-domain keys of source document 001, as document 01 reads it ("Visited keys"): the VRK under the EMSK, a VMSK for a server
 // and its domain under the VRK, and the V-rRK under a VMSK. Each call writes 64 bytes of prf+ at the start of out and answers 64.
+#![tactic(auto)]
+
 ghost use Rattle.std.specs.Prelude.{◌≡◌, length};
 ghost use Rattle.refusal.specs.Checks.{◌and_then◌, check1};
 ghost use Rattle.refusal.specs.Answers.{checked_as, answer_of};
