@@ -42,8 +42,8 @@ fn join(first: &[u8], second: &[u8], keys: &mut [u8])
     requires keys_len { length keys.old ≡ 32 }
     ensures { keys.new ≡ first.now ++ second.now }
 {
-    bytes::copy(first, keys);
-    bytes::copy(second, &mut keys[16..]);
+    slices::copy(first, keys);
+    slices::copy(second, &mut keys[16..]);
 }
 
 // Writes the two halves of 32 bytes, the second first.

@@ -74,7 +74,7 @@ fn put_entry(kind: u8, id: &[u8], at: usize, out: &mut [u8]) -> usize
     }
     out[at] = kind;
     let start = at + 1;
-    bytes::copy(id, &mut out[start..]);
+    slices::copy(id, &mut out[start..]);
     start + id.len()
 }
 

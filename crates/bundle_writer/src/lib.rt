@@ -19,7 +19,7 @@ fn put_at(bytes: &[u8], at: usize, out: &mut [u8])
     requires { at + length bytes.now ≤ length out.old }
     ensures { out.new ≡ take at out.old ++ (bytes.now ++ drop (at + length bytes.now) out.old) }
 {
-    bytes::copy(bytes, &mut out[at..]);
+    slices::copy(bytes, &mut out[at..]);
 }
 
 // Writes the line of a body to out, from index `at` on.

@@ -49,7 +49,7 @@ fn id(s: &[u8]) -> [u8; ID]
     ensures { result ≡ s.now }
 {
     let mut r = [0u8; ID];
-    bytes::copy(&s[..ID], &mut r);
+    slices::copy(&s[..ID], &mut r);
     r
 }
 
@@ -58,7 +58,7 @@ fn address(s: &[u8]) -> [u8; SPA]
     ensures { result ≡ s.now }
 {
     let mut r = [0u8; SPA];
-    bytes::copy(&s[..SPA], &mut r);
+    slices::copy(&s[..SPA], &mut r);
     r
 }
 
@@ -70,10 +70,10 @@ fn derive(keyed: Keyed, text: &mut [u8], out: &mut [u8])
     ensures { out.new ≡ two_macs keyed.inner keyed.outer text.old ++ drop 32 out.old }
 {
     let first = keyed.mac_of(text);
-    bytes::copy(&first, out);
+    slices::copy(&first, out);
     text[0] = 2;
     let second = keyed.mac_of(text);
-    bytes::copy(&second[..12], &mut out[20..]);
+    slices::copy(&second[..12], &mut out[20..]);
 }
 
 // Writes the R0-Key of an access domain and a supplicant under an rRK: 32 bytes at the start of out.
@@ -119,7 +119,7 @@ pub fn r0_name<'a>(r0_key: &'a [u8], ad_id: &'a [u8], spa: &'a [u8], out: &mut [
         Checked::Passed => {
             let text = name_text(id(ad_id), address(spa));
             let hash = sha256::digest_of_two(r0_key, &text);
-            bytes::copy(&hash[..NAME], out);
+            slices::copy(&hash[..NAME], out);
             Answered::Accepted(NAME)
         }
     }

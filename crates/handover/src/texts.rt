@@ -9,10 +9,10 @@ pub(crate) fn r0_text(ad_id: [u8; 16], spa: [u8; 6]) -> [u8; 44]
     ensures { result ≡ r0_input ad_id spa 1 }
 {
     let mut text = [0u8; 44];
-    bytes::copy(b"\x01\x00R0 Key derivation\x00", &mut text);
+    slices::copy(b"\x01\x00R0 Key derivation\x00", &mut text);
     text[43] = 1;
-    bytes::copy(&spa, &mut text[36..]);
-    bytes::copy(&ad_id, &mut text[20..]);
+    slices::copy(&spa, &mut text[36..]);
+    slices::copy(&ad_id, &mut text[20..]);
     text
 }
 
@@ -21,11 +21,11 @@ pub(crate) fn r1_text(ad_id: [u8; 16], an_id: [u8; 16], spa: [u8; 6]) -> [u8; 60
     ensures { result ≡ r1_input ad_id an_id spa 1 }
 {
     let mut text = [0u8; 60];
-    bytes::copy(b"\x01\x00R1 Key derivation\x00", &mut text);
+    slices::copy(b"\x01\x00R1 Key derivation\x00", &mut text);
     text[59] = 1;
-    bytes::copy(&spa, &mut text[52..]);
-    bytes::copy(&an_id, &mut text[36..]);
-    bytes::copy(&ad_id, &mut text[20..]);
+    slices::copy(&spa, &mut text[52..]);
+    slices::copy(&an_id, &mut text[36..]);
+    slices::copy(&ad_id, &mut text[20..]);
     text
 }
 
@@ -34,8 +34,8 @@ pub(crate) fn name_text(ad_id: [u8; 16], spa: [u8; 6]) -> [u8; 33]
     ensures { result ≡ ascii "R0 Key Name" ++ (ad_id ++ spa) }
 {
     let mut text = [0u8; 33];
-    bytes::copy(b"R0 Key Name", &mut text);
-    bytes::copy(&spa, &mut text[27..]);
-    bytes::copy(&ad_id, &mut text[11..]);
+    slices::copy(b"R0 Key Name", &mut text);
+    slices::copy(&spa, &mut text[27..]);
+    slices::copy(&ad_id, &mut text[11..]);
     text
 }

@@ -13,7 +13,7 @@ pub fn filled(s: &[u8]) -> [u8; BLOCK]
 {
     let mut r = [0u8; BLOCK];
     let n = slices::least(s.len(), BLOCK);
-    bytes::copy(&s[..n], &mut r);
+    slices::copy(&s[..n], &mut r);
     r
 }
 

@@ -70,6 +70,6 @@ pub fn sixteen(s: &[u8]) -> [u8; 16]
 {
     let mut r = [0u8; 16];
     let n = least(s.len(), 16);
-    bytes::copy(&s[..n], &mut r);
+    slices::copy(&s[..n], &mut r);
     r
 }

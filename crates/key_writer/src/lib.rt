@@ -16,7 +16,7 @@ fn put_at(bytes: &[u8], at: usize, out: &mut [u8])
     requires { at + length bytes.now ≤ length out.old }
     ensures { out.new ≡ take at out.old ++ (bytes.now ++ drop (at + length bytes.now) out.old) }
 {
-    bytes::copy(bytes, &mut out[at..]);
+    slices::copy(bytes, &mut out[at..]);
 }
 
 // Writes bytes 0 to 51 of an attribute that is `length_byte` bytes long: all that stands before the wrapped key.

@@ -6,7 +6,7 @@ ghost use Rattle.rfc3394.specs.Rfc3394.{wrapped};
 ghost use Rattle.keywrap.specs.Calls.{wrap_check};
 
 use crate::passes::{eight_bytes, passes};
-use bytes::copy;
+use slices::copy;
 use keywrap::is_wrappable;
 use refusal::{Answered, Checked, Refusal, check_room, unless};
 

@@ -49,7 +49,7 @@ fn fill<'a>(
         let number = next as u8;
         let t = k.finish(begun, &out[from..at], a, b, c, d, &[number]);
         let m = slices::least(Sha256::DIGEST, n - at);
-        bytes::copy(&t[..m], &mut out[at..]);
+        slices::copy(&t[..m], &mut out[at..]);
         i = next;
         from = at;
         at += m;

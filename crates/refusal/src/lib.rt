@@ -184,7 +184,7 @@ pub fn put(check: Checked, bytes: &[u8], out: &mut [u8]) -> Answered
     match all {
         Checked::Failed(reason) => Answered::Refused(reason),
         Checked::Passed => {
-            bytes::copy(bytes, out);
+            slices::copy(bytes, out);
             Answered::Accepted(n)
         }
     }

@@ -25,7 +25,7 @@ fn put(bytes: &mut [u8], at: usize, part: &[u8])
     requires { at + length part.now ≤ length bytes.old }
     ensures { bytes.new ≡ paste bytes.old at part.now (length part.now) }
 {
-    bytes::copy(part, &mut bytes[at..]);
+    slices::copy(part, &mut bytes[at..]);
 }
 
 // Writes the digest of a last hash value to the start of `bytes`.
@@ -55,7 +55,7 @@ fn marked(s: &[u8]) -> [u8; 64]
     let n = s.len();
     let rest = n - n % 64;
     let mut block: [u8; 64] = [0; 64];
-    bytes::copy(&s[rest..], &mut block);
+    slices::copy(&s[rest..], &mut block);
     block[n % 64] = 0x80;
     block
 }

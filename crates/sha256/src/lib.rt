@@ -30,7 +30,7 @@ fn put(bytes: &mut [u8], at: usize, part: &[u8])
     requires { at + length part.now ≤ length bytes.old }
     ensures { bytes.new ≡ paste bytes.old at part.now (length part.now) }
 {
-    bytes::copy(part, &mut bytes[at..]);
+    slices::copy(part, &mut bytes[at..]);
 }
 
 // Ends the message after the block's first `at` bytes: a bit 1, and zeros.

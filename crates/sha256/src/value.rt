@@ -26,7 +26,7 @@ pub(crate) fn to_bytes(h: [u32; 8]) -> [u8; Sha256::DIGEST]
     let mut r = [0u8; Sha256::DIGEST];
     for j in 0..8 {
         let word = slices::be32(h[j]);
-        bytes::copy(&word, &mut r[4 * j..]);
+        slices::copy(&word, &mut r[4 * j..]);
     }
     r
 }

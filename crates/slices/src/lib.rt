@@ -1,5 +1,5 @@
 // Slices of bytes and of 16-bit values: equality, copying, numbers high byte first. The laws of byte lists that several crates need are in
-// proofs/. Bytes are copied by the kit's `bytes::copy`.
+// proofs/.
 #![tactic(auto)]
 
 ghost use Rattle.std.specs.Prelude.{◌≡◌, ◌++◌, min, length, take, drop};
@@ -78,6 +78,14 @@ pub fn same_values(s: &[u16], t: &[u16]) -> bool
         i += 1;
     }
     same
+}
+
+// Copies to the start of `to` as many bytes of `from` as fit there.
+pub fn copy(from: &[u8], to: &mut [u8])
+    ensures { to.new ≡ take (length to.old) from.now ++ drop (length from.now) to.old }
+{
+    let n = least(from.len(), to.len());
+    to[..n].copy_from_slice(&from[..n]);
 }
 
 // Copies values to the start of out, as many as it has room for.

@@ -1,0 +1,13 @@
+use mathlib.Core.Path.{refl, sym, ap}
+use borrow.Author.Rules.{rules}
+use Rattle.refusal.specs.Checks.{Check, ◌and_then◌}
+use Rattle.refusal.specs.Answers.{checked_as}
+use Rattle.refusal.proofs.then_check.Goals as goal
+
+pub returns-in-Failed : goal.returns-in-Failed
+unfolding ◌and_then◌
+returns-in-Failed c = ap (λ (x : Check). x and_then checked_as c.args.next) (sym (ap checked_as c.so_far-1.given.1))
+
+pub returns-in-Passed : goal.returns-in-Passed
+unfolding ◌and_then◌
+returns-in-Passed c = simp c.enum_told-1.given.1 refl

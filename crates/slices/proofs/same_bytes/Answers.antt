@@ -1,0 +1,23 @@
+-- `slices::same_bytes` meets its contract. The loop's invariant: the lists are equal exactly if the elements compared so far are and the rest is.
+use Prim.Native.Nat.{◌≤◌, ◌-◌}
+use mathlib.Core.Path.{◌≡◌, refl}
+use mathlib.Core.Bool.{◌&&◌}
+use native.Mathlib.Omega.{arith}
+use lib.ListN.{length, drop}
+use Rattle.slices.specs.Same.{same_list}
+use Rattle.slices.proofs.Same.{lengths_differ, same-on, same_end}
+use Rattle.slices.proofs.same_bytes.Goals as goal
+
+pub returns-then-a-b : goal.returns-then-a-b
+returns-then-a-b c = lengths_differ _ _ c.if-a-b.true
+
+pub loop-i-init : goal.loop-i-init
+loop-i-init c = (omega arith, refl)
+
+pub loop-i-preserved : goal.loop-i-preserved
+loop-i-preserved c =
+    let l = c.loop-i in
+    (omega arith, same-on _ _ l.i l.same l.invariant.1 (omega arith) (omega arith))
+
+pub returns : goal.returns
+returns c = let l = c.loop-i in same_end _ _ l.i l.same l.invariant.1 (omega arith) (omega arith)
