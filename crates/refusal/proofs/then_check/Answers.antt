@@ -6,8 +6,8 @@ use Rattle.refusal.proofs.then_check.Goals as goal
 
 pub returns-in-Failed : goal.returns-in-Failed
 unfolding ◌and_then◌
-returns-in-Failed c = ap (λ (x : Check). x and_then checked_as c.args.next) (sym (ap checked_as c.so_far-1.given.1))
+returns-in-Failed c = rw c.in-Failed.is refl
 
 pub returns-in-Passed : goal.returns-in-Passed
 unfolding ◌and_then◌
-returns-in-Passed c = simp c.enum_told-1.given.1 refl
+returns-in-Passed c = rw c.in-Passed.is refl
