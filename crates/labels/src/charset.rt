@@ -8,7 +8,7 @@ ghost use Rattle.refusal.specs.Checks.{within};
 use refusal::in_range;
 
 // The bytes that a label, a server ID and a domain may hold.
-#[derive(Drop)]
+#[derive(Clone, Copy)]
 pub(crate) enum ByteSet {
     Label,
     Server,
