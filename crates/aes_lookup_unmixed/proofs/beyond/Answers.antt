@@ -2,11 +2,7 @@
 use native.Mathlib.Omega.{arith}
 use Rattle.aes_sbox.specs.Tables.{unmixed_sbox}
 use Rattle.tables.proofs.Table.{beyond_end}
-use Rattle.aes_lookup_unmixed.proofs.beyond.Statement.{statement}
-use Rattle.aes_lookup_unmixed.proofs.beyond.Tie as tie
+use Rattle.aes_lookup_unmixed.proofs.beyond.Goals as goal
 
-returns : tie.Need-returns
+pub returns : goal.returns
 returns c = beyond_end 256 c.args.x unmixed_sbox (omega arith) c.requires
-
-pub beyond-spec : {M : Type 1} → statement M
-beyond-spec = tie.close (tie.spec returns)
