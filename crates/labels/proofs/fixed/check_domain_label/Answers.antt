@@ -6,5 +6,3 @@ use Rattle.labels.proofs.fixed.check_domain_label.Goals as goal
 pub returns : goal.returns
 unfolding check31 dsrk_label
 returns c = rw (c.unless.ensures, c.same_bytes-same.ensures) refl
-
--- TODO: of the older proof's line: (λ c. refl) (λ c κs. tt) (λ c κs. tt)

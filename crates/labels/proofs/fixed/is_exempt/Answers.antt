@@ -5,5 +5,3 @@ use Rattle.labels.proofs.fixed.is_exempt.Goals as goal
 pub returns : goal.returns
 unfolding exempt vrk_label visited_reauth_label rrk_label
 returns c = rw (c.same_bytes-vrk.ensures, c.same_bytes-visited_reauth.ensures, c.same_bytes-rrk.ensures) refl
-
--- TODO: of the older proof's line: (λ c. refl) (λ c κs. tt) (λ c. refl) (λ c κs. tt) (λ c. refl) (λ c κs. tt)
