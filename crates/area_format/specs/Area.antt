@@ -135,7 +135,7 @@ reading way area own room = judged way area own (walked area room)
 -- the answer of a call, by document 01's number and values: the count of the offers, the name's offset from the area's first byte, its length, and
 -- whether it agrees with the peer's own; or a refusal
 pub data AreaAnswer : Type 0 where
-  answered : (count name_at nameLen : ℕ) (same : Bool) → AreaAnswer
+  answered : (count name_at name_len : ℕ) (same : Bool) → AreaAnswer
   refused : Reason → AreaAnswer
 
 -- what the call answers to a reading, the peer's own name being lent
