@@ -18,7 +18,7 @@ use sha256_block::compress_blocks;
 pub use value::of_block;
 
 // A hash in progress: the hash value after the whole blocks absorbed, the count of all bytes, and the block that is being filled.
-#[derive(Drop)]
+#[derive(Clone, Copy)]
 pub struct Sha256 {
     h: [u32; 8],
     count: u64,

@@ -1,6 +1,6 @@
 -- The digest, written word by word.
 use Rattle.std.proofs.Common.{◌≡◌, ℕ, zero, suc, ◌+◌, ◌-◌, ◌*◌, ◌<◌, ◌≤◌, List, ◌++◌, length, get_or, take, drop, replicate, refl, ap, ◌∙◌, arith}
-use lib.Seq.{paste}
+use Rattle.std.proofs.Math.Seq.{paste}
 use Rattle.slices.specs.Numbers.{be32}
 use Rattle.fips180.specs.Sha256.{digest}
 use Rattle.slices.proofs.Copies.{copied_part}

@@ -3,15 +3,11 @@ use Rattle.std.proofs.Common.{◌≡◌, ◌^◌, ◌<◌, length, sym, ◌∙�
 use Rattle.fips180.proofs.Stream.{finished-closing}
 use Rattle.fips180.specs.Sha256.{compress, digest}
 use Rattle.sha256.specs.Stream.{progress}
-use Rattle.sha256.proofs.Sha256.finish.Statement.{statement}
-use Rattle.sha256.proofs.Sha256.finish.Tie as tie
+use Rattle.sha256.proofs.Sha256.finish.Goals as goal
 
-returns : tie.Need-returns
+pub returns : goal.returns
 returns c =
-    let s = c.before.before.before.before.before.args.self in
+    let s = c.args.self in
     let f : s.count < 2 ^ 64 = search rules in
     let l : length s.block ≡ 64 = search rules in
-    c.last-digest.ensures ∙ sym (finished-closing compress digest (progress s) f l)
-
-pub finish_spec : {M : Type 1} → statement M
-finish_spec = tie.close (tie.spec (λ c κs. search rules) returns)
+    c.last_digest.ensures ∙ sym (finished-closing compress digest (progress s) f l)

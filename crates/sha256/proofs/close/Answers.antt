@@ -1,0 +1,18 @@
+-- `sha256::close` meets its contract: one block more, or two (proofs/Closing.antt of fips180).
+use Rattle.std.proofs.Common.{◌≡◌, ◌%◌, ◌≤◌, length, arith, rules}
+use Rattle.fips180.proofs.Closing.{mark_kept, close-one, close-two}
+use Rattle.fips180.specs.Sha256.{compress}
+use Rattle.sha256.proofs.close.Goals as goal
+
+pub returns-then-at-lt56 : goal.returns-then-at-lt56
+returns-then-at-lt56 c =
+    let a = c.args in
+    let l : length a.block.now ≡ 64 = c.requires in
+    close-one compress a.h.now a.block.now a.count l c.mark.ensures c.if-at-lt56.true c.compress_last.ensures
+
+pub returns : goal.returns
+returns c =
+    let a = c.args in
+    let l : length a.block.now ≡ 64 = c.requires in
+    let m : 56 ≤ a.count % 64 = omega arith in
+    close-two compress a.h.now a.block.now a.count l c.mark.ensures m c.compress_blocks.ensures c.compress_last-2.ensures

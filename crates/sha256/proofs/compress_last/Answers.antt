@@ -1,0 +1,12 @@
+-- `sha256::compress_last` meets its contract: the block with its length, compressed.
+use Rattle.std.proofs.Common.{ap, ◌∙◌, rules}
+use Rattle.fips180.specs.Sha256.{compress}
+use Rattle.fips180.proofs.Blocks.{one_block}
+use Rattle.fips180.proofs.Closing.{length_kept}
+use Rattle.sha256.proofs.compress_last.Goals as goal
+
+pub returns : goal.returns
+returns c =
+    let a = c.args in
+    let put = c.put_length.ensures in
+    c.compress_blocks.ensures ∙ one_block compress _ _ (length_kept a.block.now a.count c.requires put) ∙ ap (compress a.h.now) put
