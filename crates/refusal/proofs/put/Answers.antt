@@ -1,15 +1,11 @@
 -- `refusal::put` meets its contract: by what all its tests came to, its answer and its buffer are those of `answer_to` and `buffer_after`.
-use mathlib.Core.Path.{◌≡◌}
 use Prim.Native.Nat.{◌≤◌}
-use borrow.Author.Rules.{rules}
 use borrow.Author.Tests.{leb-true}
 use lib.ListN.{length}
 use Rattle.slices.proofs.Lists.{copied-front}
 use Rattle.slices.proofs.Copies.{copied_fits}
-use Rattle.refusal.specs.Checks.{◌and_then◌, check6}
-use Rattle.refusal.specs.Answers.{checked_as}
 use Rattle.refusal.proofs.Passing.{last-passed, test_passed}
-use Rattle.refusal.proofs.Answering.{passed, refused_so, written_so}
+use Rattle.refusal.proofs.Answering.{passed, written_so}
 use Rattle.refusal.proofs.put.Goals as goal
 
 pub returns-in-Passed-clause-buffer : goal.returns-in-Passed-clause-buffer

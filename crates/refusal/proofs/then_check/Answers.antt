@@ -1,7 +1,5 @@
-use mathlib.Core.Path.{refl, sym, ap}
-use borrow.Author.Rules.{rules}
-use Rattle.refusal.specs.Checks.{Check, ◌and_then◌}
-use Rattle.refusal.specs.Answers.{checked_as}
+use mathlib.Core.Path.{refl}
+use Rattle.refusal.specs.Checks.{◌and_then◌}
 use Rattle.refusal.proofs.then_check.Goals as goal
 
 pub returns-in-Failed : goal.returns-in-Failed

@@ -1,10 +1,8 @@
 -- `slices::copy_values` meets its contract. The loop's invariant: the values copied so far, and after them what stood there.
-use Prim.Native.Nat.{◌≤◌, ◌<◌, ◌-◌}
-use mathlib.Core.Path.{◌≡◌, refl, sym, ◌∙◌}
-use mathlib.Core.List.{◌++◌}
+use Prim.Native.Nat.{◌<◌}
+use mathlib.Core.Path.{◌≡◌, refl, ◌∙◌}
 use native.Mathlib.Omega.{arith}
-use borrow.Author.Rules.{rules}
-use lib.ListN.{length, take, drop, length-set}
+use lib.ListN.{length, length-set}
 use Rattle.slices.proofs.Lists.{copy-turn, copied_all}
 use Rattle.slices.proofs.copy_values.Goals as goal
 

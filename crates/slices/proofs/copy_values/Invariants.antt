@@ -1,10 +1,7 @@
-use Prim.Native.Nat.{◌≤◌, ◌<◌, ◌-◌}
-use mathlib.Core.Path.{◌≡◌, refl, sym, ◌∙◌}
+use Prim.Native.Nat.{◌≤◌, ◌-◌}
+use mathlib.Core.Path.{◌≡◌}
 use mathlib.Core.List.{◌++◌}
-use native.Mathlib.Omega.{arith}
-use borrow.Author.Rules.{rules}
-use lib.ListN.{length, take, drop, length-set}
-use Rattle.slices.proofs.Lists.{copy-turn, copied_all}
+use lib.ListN.{length, take, drop}
 use Rattle.slices.proofs.copy_values.Given as goal
 
 abbrev pub invariant-loop-j : goal.invariant-loop-j

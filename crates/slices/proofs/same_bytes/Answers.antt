@@ -1,10 +1,6 @@
 -- `slices::same_bytes` meets its contract. The loop's invariant: the lists are equal exactly if the elements compared so far are and the rest is.
-use Prim.Native.Nat.{◌≤◌, ◌-◌}
-use mathlib.Core.Path.{◌≡◌, refl}
-use mathlib.Core.Bool.{◌&&◌}
+use mathlib.Core.Path.{refl}
 use native.Mathlib.Omega.{arith}
-use lib.ListN.{length, drop}
-use Rattle.slices.specs.Same.{same_list}
 use Rattle.slices.proofs.Same.{lengths_differ, same-on, same_end}
 use Rattle.slices.proofs.same_bytes.Goals as goal
 
