@@ -4,16 +4,12 @@ use native.Mathlib.Omega.{arith}
 use lib.Bits.{bit_xor}
 use Rattle.aes_sbox.specs.Field.{xtime}
 use borrow.Author.Rules.{rules}
-use Rattle.aes128.proofs.keys.next_constant.Statement.{statement}
-use Rattle.aes128.proofs.keys.next_constant.Tie as tie
+use Rattle.aes128.proofs.keys.next_constant.Goals as goal
 
-returns : tie.Need-returns
+pub returns : goal.returns
 unfolding xtime
 returns c =
     let x = c.args.c in
     let p : x % 128 * 2 ≡ x * 2 % 256 = omega arith in
     let q : x / 128 * 0x1b ≡ x / 128 % 2 * 0x1b = omega arith in
     ap₂ bit_xor p q
-
-pub next-constant-spec : {M : Type 1} → statement M
-next-constant-spec = tie.close (tie.spec (λ c. search rules) (λ c. search rules) returns)

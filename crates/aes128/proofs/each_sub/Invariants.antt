@@ -1,0 +1,15 @@
+use mathlib.Core.Path.{◌≡◌, refl}
+use Prim.Native.Nat.{ℕ, ◌≤◌, ◌<◌, ◌-◌}
+use native.Mathlib.Omega.{arith}
+use lib.ListN.{get_or}
+use Rattle.aes_sbox.specs.Tables.{sbox}
+use Rattle.aes128.specs.Internal.{byte_of, Square}
+use Rattle.aes128.proofs.Square.{blank, looked-next}
+use borrow.Author.Rules.{rules}
+use Rattle.aes128.proofs.each_sub.Given as goal
+
+abbrev pub invariant-loop-i : goal.invariant-loop-i
+invariant-loop-i l = (l.i ≤ 16) × Square l.w × ((k : ℕ) → k < l.i → byte_of l.w k ≡ get_or sbox (byte_of l.b k) 0)
+
+abbrev pub decreases-loop-i : goal.decreases-loop-i
+decreases-loop-i l = 16 - l.i
