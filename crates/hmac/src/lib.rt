@@ -37,7 +37,7 @@ fn key_value(block: [u8; Sha256::BLOCK], pad: u8) -> [u32; 8]
 }
 
 // A key as it is kept for many messages: the hash values that the inner and the outer hash start with.
-#[derive(Drop)]
+#[derive(Clone, Copy)]
 pub struct Keyed {
     pub inner: [u32; 8],
     outer: [u32; 8],
