@@ -4,13 +4,13 @@
 
 // The name of a key, as the crate `key_name` makes it.
 #[repr(C)]
-#[derive(Drop)]
+#[derive(Clone, Copy)]
 pub struct Name {
     pub bytes: [u8; 8],
 }
 
 // The parent of a key: none, so that the key is a root, or the slot of this number.
-#[derive(Drop)]
+#[derive(Clone, Copy)]
 pub enum Parent {
     Root,
     Below(u64),
@@ -19,7 +19,7 @@ pub enum Parent {
 // Sixty-four slots: a word with a bit for each that is taken, slot 0 the lowest; a name for each; the number of its parent for each, 255 for none.
 // The name and the parent of a free slot count for nothing.
 #[repr(C)]
-#[derive(Drop)]
+#[derive(Clone, Copy)]
 pub struct Slots {
     pub taken: u64,
     pub names: [Name; 64],

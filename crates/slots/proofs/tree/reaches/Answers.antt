@@ -1,11 +1,9 @@
-use borrow.Author.Rules.{rules}
 use mathlib.Core.Path.{◌≡◌, ap, ◌∙◌}
 use mathlib.Core.Bool.{◌||◌}
 use Prim.Native.Nat.{ℕ}
 use lib.Dec.{eqb}
 use Rattle.slots.specs.Internal.{reaches_by}
-use Rattle.slots.proofs.tree.reaches.Statement.{statement}
-use Rattle.slots.proofs.tree.reaches.Tie as tie
+use Rattle.slots.proofs.tree.reaches.Goals as goal
 
 -- by the slots that one, two and three steps come to
 by_steps : (g : ℕ → ℕ) (n s a b c : ℕ) → a ≡ g s → b ≡ g a → c ≡ g b → (eqb s n || (eqb a n || (eqb b n || eqb c n))) ≡ reaches_by g n s
@@ -15,8 +13,5 @@ by_steps g n s a b c p q r =
     let three : c ≡ g (g (g s)) = r ∙ ap g two in
     λ i. eqb s n || (eqb (p i) n || (eqb (two i) n || eqb (three i) n))
 
-returns : tie.Need-returns
-returns c = by_steps _ _ _ _ _ _ c.before.before.step_in.ensures c.before.step-in2.ensures c.step-in3.ensures
-
-pub reaches-spec : {M : Type 1} → statement M
-reaches-spec = tie.close (tie.spec (λ c κs. search rules) (λ c κs. search rules) (λ c κs. search rules) returns)
+pub returns : goal.returns
+returns c = by_steps _ _ _ _ _ _ c.step_in-a.ensures c.step_in-b.ensures c.step_in-c.ensures

@@ -1,0 +1,5 @@
+use Rattle.slots.proofs.BitLaws.{mask_high}
+use Rattle.slots.proofs.bits.mask.Goals as goal
+
+pub returns-else-i-lt32 : goal.returns-else-i-lt32
+returns-else-i-lt32 c = mask_high c.args.i c.if-i-lt32.false c.requires
