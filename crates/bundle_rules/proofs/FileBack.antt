@@ -36,7 +36,7 @@ unfolding lines_of lines_from
 lines_back f at i zero b h r = rw add-zero
 lines_back f at i (suc n) b h (next o w r) =
     let same : suc i + n ≡ i + suc n = omega arith in
-    let later = rw (same) at (lines_back f _ (suc i) n b (omega arith) r) in
+    let later = rw (same) at (lines_back f ((line_at f i).offset + (line_at f i).size) (suc i) n b (omega arith) r) in
     rw (← o, w.size_same) (append_assoc (line_of (line_at f i).offset (body_of f (line_at f i))) _ _ ∙ line_back f i _ b (omega arith) w later)
 
 pub file_back : FileBack

@@ -43,11 +43,11 @@ id_at f k (suc n) (suc i) h =
 
 pub whole_at : (f : List ℕ) {at : ℕ} (k n i : ℕ) → Laid f at (lines_from f k n) → i < n → Whole f (line_at f (k + i))
 unfolding lines_from
-whole_at f k zero i r h = absurd (omega arith)
-whole_at f k (suc n) zero (next o w r) h = rw add-zero w
-whole_at f k (suc n) (suc i) (next o w r) h =
+whole_at f {at = at} k zero i r h = absurd (omega arith)
+whole_at f {at = at} k (suc n) zero (next o w r) h = rw add-zero w
+whole_at f {at = at} k (suc n) (suc i) (next o w r) h =
     let s : suc k + i ≡ k + suc i = omega arith in
-    rw s at (whole_at f (suc k) n i r (omega arith))
+    rw s at (whole_at f {at = (line_at f k).offset + (line_at f k).size} (suc k) n i r (omega arith))
 
 pub none_twice : NoneTwice
 none_twice f e i j l h q =
