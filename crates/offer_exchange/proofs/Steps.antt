@@ -1,9 +1,6 @@
 -- A negotiation step by step: what it comes to by each step's answer.
 use Prim.Native.Nat.{ℕ}
 use mathlib.Core.Path.{◌≡◌, refl}
-use mathlib.Core.Logic.{◌⊎◌, ⊎_elim}
-use native.Mathlib.Omega.{arith}
-use denote.Enum.Declared.{tag_of}
 use mathlib.Core.List.{List}
 use lib.ListN.{take}
 use Rattle.refusal.specs.Checks.{Reason}
@@ -13,16 +10,14 @@ use Rattle.offer_rules.specs.Negotiation.{after_first, buffer_after_first, negot
 use Rattle.offers.specs.Answers.{first_round_of}
 use Rattle.offers.specs.declared.peer.FirstRound.{FirstRound}
 use Rattle.offers.specs.declared.peer.FirstRound.TheVariants.{CarryOn, Ask, Refused}
-use Rattle.offers.specs.contracts.peer.FirstRound.{the_type}
 use Rattle.offer_exchange.specs.Internal.{value_named}
 
 -- an answer that is not an Ask ends the negotiation, and nothing is written
-pub unasked : (first : FirstRound) → (tag_of the_type first ≡ 0) ⊎ (tag_of the_type first ≡ 2) → (offers buffer : List ℕ) → (value_named (first_round_of first) ≡ after_first offers buffer (first_round_of first)) × (buffer ≡ buffer_after_first offers buffer (first_round_of first))
-unasked (CarryOn value) h offers buffer = (refl, refl)
-unasked (Ask value position) h offers buffer =
-    let none : ⊥ = ⊎_elim (λ e. omega arith) (λ e. omega arith) h in
-    elim none [ ]
-unasked (Refused x) h offers buffer = (refl, refl)
+pub unasked : (first : FirstRound) → ((value position : ℕ) → first ≡ Ask value position → ⊥) → (offers buffer : List ℕ)
+    → (value_named (first_round_of first) ≡ after_first offers buffer (first_round_of first)) × (buffer ≡ buffer_after_first offers buffer (first_round_of first))
+unasked (CarryOn value) other offers buffer = (refl, refl)
+unasked (Ask value position) other offers buffer = elim (other value position refl) [ ]
+unasked (Refused x) other offers buffer = (refl, refl)
 
 -- after an Ask, where the server refuses, and where it has written
 module _ (offers supported buffer sent : List ℕ) (value position : ℕ) (asks : first_round offers supported ≡ ask value position) (left : sent ≡ server_buffer offers value buffer) where

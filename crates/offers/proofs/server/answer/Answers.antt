@@ -1,6 +1,7 @@
 use mathlib.Core.Path.{sym, ap}
 use mathlib.Core.List.{List, ◌++◌}
 use Prim.Native.Nat.{ℕ, ◌+◌}
+use native.Mathlib.Omega.{arith}
 use borrow.Author.Tests.{leb-true}
 use lib.ListN.{length, drop}
 use lib.Seq.{length-take-le}
@@ -13,17 +14,20 @@ use Rattle.offers.proofs.server.answer.Goals as goal
 pub slice_bounds-put_list-end : goal.slice_bounds-put_list-end
 slice_bounds-put_list-end c =
     let all = rw (c.check_reply.ensures, c.check_room.ensures) at c.then_check.ensures in
-    leb-true _ _ (test_passed _ _ (last-passed _ _ (passed all c.in-Passed.is)))
+    let room = leb-true _ _ (test_passed _ _ (last-passed _ _ (passed all c.in-Passed.is))) in
+    omega arith
 
 pub slice_bounds-put_list-end-in-Passed : goal.slice_bounds-put_list-end-in-Passed
 slice_bounds-put_list-end-in-Passed c =
     let all = rw (c.check_reply.ensures, c.check_room.ensures) at c.then_check.ensures in
-    sym (length-take-le _ _ (leb-true _ _ (test_passed _ _ (last-passed _ _ (passed all c.in-Passed.is)))))
+    let room = leb-true _ _ (test_passed _ _ (last-passed _ _ (passed all c.in-Passed.is))) in
+    sym (length-take-le _ _ (omega arith))
 
 pub put_list-requires : goal.put_list-requires
 put_list-requires c =
     let all = rw (c.check_reply.ensures, c.check_room.ensures) at c.then_check.ensures in
-    length-take-le _ _ (leb-true _ _ (test_passed _ _ (last-passed _ _ (passed all c.in-Passed.is))))
+    let room = leb-true _ _ (test_passed _ _ (last-passed _ _ (passed all c.in-Passed.is))) in
+    length-take-le _ _ (omega arith)
 
 pub returns-in-Failed : goal.returns-in-Failed
 unfolding server_answer server_buffer answer_check
