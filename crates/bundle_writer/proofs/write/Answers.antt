@@ -1,0 +1,45 @@
+-- Where the count is told, the attributes pass and it is theirs, so that there are not many.
+use Rattle.std.proofs.Common.{◌≡◌, ◌+◌, sym, ◌∙◌, arith}
+use Rattle.refusal.proofs.Answering.{told_count, told_refusal}
+use Rattle.bundle_rules.specs.Bundle.{contents_end}
+use Rattle.bundle_writer.proofs.Parts.{count-length}
+use Rattle.bundle_writer.proofs.Writing.{frames_of, count-high, bytes_few, write_early, write-room, write_refused, write_all}
+use Rattle.bundle_writer.proofs.write.Goals as goal
+
+pub overflow_add-contents : goal.overflow_add-contents
+overflow_add-contents c =
+    let k = told_count _ _ _ c.in-Accepted.ensures in
+    omega (arith, k.1, count-high _ k.0, c.lines_length-contents.ensures)
+
+pub overflow_add-size : goal.overflow_add-size
+overflow_add-size c =
+    let k = told_count _ _ _ c.in-Accepted.ensures in
+    omega (arith, k.1, count-high _ k.0, bytes_few _ k.0, c.lines_length-contents.ensures)
+
+pub returns-then-out-size : goal.returns-then-out-size
+returns-then-out-size c =
+    let k = told_count _ _ _ c.in-Accepted.ensures in
+    let r = write_refused _ _ (write-room _ _ _ k.0 k.1 (omega (arith, k.1, count-high _ k.0, c.if-out-size.true, c.lines_length-contents.ensures))) in
+    record { answer = r.0; buffer = r.1 }
+
+pub put_lines-requires : goal.put_lines-requires
+put_lines-requires c =
+    let k = told_count _ _ _ c.in-Accepted.ensures in
+    let n = count-length _ _ _ _ c.be16.ensures (omega (arith, c.if-out-size.false)) c.put_at.ensures in
+    record {
+      attributes_value = frames_of _ k.0;
+      contents_value = omega (arith, k.1, count-high _ k.0, c.lines_length-contents.ensures);
+      attributes_in_bounds = omega (arith, c.if-out-size.false);
+    }
+
+pub returns-in-Refused : goal.returns-in-Refused
+returns-in-Refused c =
+    let r = write_refused _ _ (write_early _ _ (told_refusal _ _ _ c.in-Refused.ensures)) in
+    record { answer = r.0; buffer = r.1 }
+
+pub returns-else-out-size : goal.returns-else-out-size
+returns-else-out-size c =
+    let k = told_count _ _ _ c.in-Accepted.ensures in
+    let contents : 2 + c.lines_length-contents.result ≡ contents_end c.in-Accepted.n = omega (arith, k.1, count-high _ k.0, c.lines_length-contents.ensures) in
+    let w = write_all c.args.attributes.now c.args.out.now _ _ _ _ _ _ contents k.0 k.1 c.if-out-size.false c.be16.ensures c.put_at.ensures c.put_lines.ensures c.put_at-in-Accepted.ensures in
+    record { answer = w.0; buffer = w.1 }
