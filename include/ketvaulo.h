@@ -102,7 +102,7 @@
  * - What a call leaves on the stack and in registers. No call wipes its stack: ketvaulo_wipe.h has functions that do.
  * - That SHA-1, SHA-256, HMAC and AES are secure. The proofs say that the library computes them as the standards define them.
  *
- * The proofs were checked with the Rattle kit whose KIT-ID is "rattle-kit-5b-plain logic 097e4c862dff5811".
+ * The proofs were checked with the Rattle kit whose KIT-ID is "rattle-kit-13f logic dac8208d650f15bf".
  *
  * Sources
  *

@@ -1,5 +1,5 @@
 #!/usr/bin/env bash
-# Compares the archive that rt staticlib makes with the module from which the archives for controllers are made (tools/controller): the object that
+# Compares the archive that the kit makes with the module from which the archives for controllers are made (tools/controller): the object that
 # the kit's clang makes of that module is the object in the archive, byte for byte. Since the two come from two builds, this also shows that a build
 # can be repeated. Last line: 'N passed, M failed'.
 set -u

@@ -43,7 +43,7 @@ fn input(variable: &str, usual: &Path) -> PathBuf {
 /// The `kv_` functions that the archive defines, by `nm`.
 fn exported_by(archive: &Path) -> Names {
     let listing = Command::new("nm").args(["--defined-only", "--extern-only"]).arg(archive).output().expect("nm runs");
-    assert!(listing.status.success(), "nm cannot read {}: make it by `rt staticlib ketvaulo`", archive.display());
+    assert!(listing.status.success(), "nm cannot read {}: tests/run makes it", archive.display());
     String::from_utf8_lossy(&listing.stdout)
         .lines()
         .filter_map(|line| line.split_once(" T ").map(|(_, name)| name))

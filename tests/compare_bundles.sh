@@ -1,11 +1,11 @@
 #!/usr/bin/env bash
 # Runs the program that compares two bundles on files whose differences are known by how they are made here, from document 02's requests 9
-# and 10, and compares what it writes, to the byte. Takes the program's path (default: target/bin/compare_bundles). Last line: 'N passed, M
+# and 10, and compares what it writes, to the byte. Takes the program's path (default: the one that rt ci and rt run leave in the crate's out/). Last line: 'N passed, M
 # failed'. The status is 0 only if nothing failed.
 set -u
 cd "$(dirname "$0")/.." && . tools/common.sh || exit 2
-program=${1:-target/bin/compare_bundles}
-[ -x "$program" ] || { say "no program $program: run rt check compare_bundles first"; exit 2; }
+program=${1:-crates/compare_bundles/out/compare_bundles}
+[ -x "$program" ] || { say "no program $program: run rt ci, or rt run in crates/compare_bundles, first"; exit 2; }
 program=$(realpath "$program")
 data=$PWD/crates/compare_bundles/data
 scratch=$(mktemp -d) || exit 2

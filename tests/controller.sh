@@ -56,7 +56,7 @@ trap_is_set() { answers cortex-m4 cortex-m4 strict.o | grep -q FAULT; }
 # refuses_widths: a module in which a pointer is made a number is no module for another core
 refuses_widths() {
     "$bin/clang" -S -emit-llvm -Xclang -disable-llvm-passes -x ir "$module" -o "$made/module.ll" || return 1
-    awk '{ print } /^define internal .*::kv_sha256"/ { getline; print; print "  %wide = ptrtoint ptr %a1 to i64" }' \
+    awk '{ print } /^define internal .*::kv_sha256"/ { getline; print; print "  %wide = ptrtoint ptr %a0 to i64" }' \
         "$made/module.ll" >"$made/wide.ll"
     grep -q ptrtoint "$made/wide.ll" && ! KETVAULO_MODULE=$made/wide.ll tools/controller cortex-m4 "$made/wide" >/dev/null 2>&1
 }
@@ -79,10 +79,10 @@ check 'unaligned access trapped: the library' build cortex-m4 strict --trap-unal
 check 'unaligned access trapped: the program' compile cortex-m4 strict.o -DTRAP_UNALIGNED -mno-unaligned-access
 check 'unaligned access trapped: the same answers' answers cortex-m4 strict strict.o
 check 'unaligned access trapped: indeed' trap_is_set
-check 'caught: a length cut to 8 bits' is_caught '/ kv_usage_key(/,/^}/s/, data_len}/, (uint8_t)data_len}/'
+check 'caught: a length cut to 8 bits' is_caught '/ kv_usage_key(/,/^}/s/), data_len, /), (uint8_t)data_len, /'
 check 'caught: a number cut to 32 bits' is_caught '/ kv_usage_key(/,/^}/s/, n, /, (uint32_t)n, /'
 check 'caught: two slices exchanged' \
-    is_caught '/ kv_visited_master_key(/,/^}/s/&server_id_slice, &domain_slice/\&domain_slice, \&server_id_slice/'
+    is_caught '/ kv_visited_master_key(/,/^}/s/slice(server_id), server_id_len, slice(domain), domain_len/slice(domain), domain_len, slice(server_id), server_id_len/'
 check 'caught: an answer that lacks a field' is_caught '/ kv_read_area(/,/^}/s/return answer/answer.name_at = 0; return answer/'
 check 'refused: a module that knows how wide a pointer is' refuses_widths
 tell_counts

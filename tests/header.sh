@@ -12,7 +12,7 @@ trap 'rm -rf "$scratch"' EXIT
 # The constants that the refusals ask for, by the definition that every contract speaks of: RootKeyLength is KV_ROOT_KEY_LENGTH.
 numbered_by_crate() {
     echo 'KV_ACCEPTED 0'
-    sed -nE 's/^reasonOf \(?([A-Za-z0-9]*)( i\))? = (bare|located) ([0-9]*)( i)?$/\1 \4/p' crates/refusal/specs/*.antt |
+    sed -nE 's/^reason_of \(?([A-Za-z0-9]*)( i\))? = (bare|located) ([0-9]*)( i)?$/\1 \4/p' crates/refusal/specs/*.antt |
         sed -e ':again' -e 's/^\([A-Za-z0-9_]*[a-z0-9]\)\([A-Z]\)/\1_\2/' -e 't again' | awk '{ print "KV_" toupper($1), $2 }'
 }
 

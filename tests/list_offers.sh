@@ -1,11 +1,11 @@
 #!/usr/bin/env bash
 # Runs the listing program on inputs whose answers document 01 gives, and compares what it writes, to the byte. Takes the program's path
-# (default: target/bin/list_offers). Last line: 'N passed, M failed'. The status is 0 only if nothing failed.
+# (default: the one that rt ci and rt run leave in the crate's out/). Last line: 'N passed, M failed'. The status is 0 only if nothing failed.
 set -u
 shopt -s lastpipe # so that `is`, at the end of a pipe, counts
 cd "$(dirname "$0")/.." && . tools/common.sh || exit 2
-program=${1:-target/bin/list_offers}
-[ -x "$program" ] || { say "no program $program: run rt check list_offers first"; exit 2; }
+program=${1:-crates/list_offers/out/list_offers}
+[ -x "$program" ] || { say "no program $program: run rt ci, or rt run in crates/list_offers, first"; exit 2; }
 scratch=$(mktemp -d) || exit 2
 trap 'rm -rf "$scratch"' EXIT
 

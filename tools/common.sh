@@ -34,23 +34,25 @@ kit_folder() {
     rt=$(command -v rt) || { say 'there is no rt: the Rattle kit is missing'; return 1; }
     (cd "$(dirname "$(readlink -f "$rt")")/.." && pwd -P)
 }
-tools_folder() { echo "$(kit_folder)/on/$(uname -m)/toolchain/bin"; }
+tools_folder() { echo "$(kit_folder)/toolchain/bin"; }
 
-# is_fresh FILE: whether it is there and no source is newer. A folder is newer when a file was taken out of it.
-is_fresh() { [ -e "$1" ] && [ -z "$(find crates crates.txt -newer "$1" -print -quit)" ]; }
+# is_fresh FILE: whether it is there and nothing is newer that a crate is proved of. A folder is newer when a file was taken out of it.
+is_fresh() {
+    [ -e "$1" ] && [ ! crates.txt -nt "$1" ] && [ -z "$(find crates -mindepth 2 \( -name out -o -name must-fail -o -name data \) -prune -o -newer "$1" -print -quit)" ]
+}
 
 # logged WHAT COMMAND..: runs a command that makes something, and shows what it printed only where it failed
 logged() {
     local what=$1 log
     shift
-    say "making $what, which takes minutes where the crates are not proved yet"
+    say "making $what, which takes long where the crates are not proved yet"
     log=$("$@" 2>&1) || { printf '%s\n' "$log" >&2; say "cannot make $what"; return 1; }
 }
 
-# Makes the archive by rt staticlib where it is not fresh. One that KETVAULO_ARCHIVE names is taken as it is.
+# Makes the archive where it is not fresh. One that KETVAULO_ARCHIVE names is taken as it is.
 make_archive() {
     if [ -n "${KETVAULO_ARCHIVE:-}" ] || is_fresh "$archive"; then return 0; fi
-    logged libketvaulo.a rt staticlib ketvaulo
+    logged libketvaulo.a build_library "$archive"
 }
 
 # Makes the module where it is not fresh. One that KETVAULO_MODULE names is taken as it is, with the words of this checkout's own.
@@ -59,19 +61,38 @@ make_module() {
     logged 'the module' build_module
 }
 
-# The module is had by a build apart from that of the archive: rattle is given a toolchain folder in which clang is tools/module/bin/clang, which
-# keeps what it is handed. tests/archive.sh holds the object in the archive against the one compiled from the module.
+# build_library ARCHIVE: the library as an archive for x86-64 without extensions: by rt lib, or over what .ci/run has just proved, where no source is newer
+# than that. (rt lib takes no library that rt ci has proved, and so would prove all of them once more.)
+build_library() {
+    mkdir -p "$(dirname "$1")" || return 1
+    if is_fresh target/proved && build_over_proved "$1"; then return 0; fi
+    (cd crates/ketvaulo && rt lib --cpu x86-64) && cp crates/ketvaulo/out/libketvaulo.a "$1"
+}
+
+# Checks the crate over the libraries that rt ci left in each crate's out/, by the words of rt lib, and then compiles what was checked.
+build_over_proved() {
+    local kit name words=()
+    kit=$(kit_folder) || return 1
+    words=(--crate-name ketvaulo crates/ketvaulo/src/lib.rt --crate-type staticlib --cpu x86-64 --extern "std=$kit/rlibs/std.rlib")
+    for name in $(sed -n 's/^ketvaulo staticlib: *//p' crates.txt); do words+=(--extern "$name=crates/$name/out/rlib/$name.rlib"); done
+    for name in crates/*/out/rlib; do words+=(-L "dependency=$name"); done
+    words+=(-L "dependency=$kit/rlibs" --antt-project "$kit/rattle/logic/antt-project.json")
+    is_fresh target/checked ||
+        { rm -rf target/checked && "$kit/bin/rattle" check "${words[@]}" --logic-built "$kit/logic_built" --jobs 2 -o target/checked; } || return 1
+    "$kit/bin/rattle" build "${words[@]}" --crate-checked target/checked --toolchain "$kit/toolchain" --backend llvm -o "$1"
+}
+
+# The module is had by a build apart from that of the archive. rattle hands it to its clang in a folder below TMPDIR, which it removes at the end;
+# tools/keep_module gives the module a second name meanwhile, and notes the words that clang was called with. It changes nothing of the build, and
+# tests/archive.sh holds the object in the archive against the one compiled from the module.
 build_module() {
-    local own folder=target/module name words=()
-    own=$(kit_folder)/on/$(uname -m) && rt check ketvaulo || return 1
-    rm -rf "$folder" && mkdir -p "$folder/bin" && cp tools/module/bin/clang "$folder/bin/clang" && ln -s "$own/toolchain/bin/clang" "$folder/bin/kit-clang" || return 1
-    for name in "$own/toolchain"/* "$own/toolchain/bin"/*; do
-        case $name in */toolchain/bin | */bin/clang) ;; *) ln -s "$name" "$folder/${name#"$own/toolchain/"}" || return 1 ;; esac
-    done
-    for name in $(sed -n 's/^ketvaulo: *//p' crates.txt); do words+=(--extern "$name=target/rlib/$name.rlib"); done
-    "$own/bin/rattle" build --crate-name ketvaulo crates/ketvaulo/src/lib.rt --extern "std=$own/rlib/std.rlib" "${words[@]}" \
-        -L dependency=target/rlib -L "dependency=$own/rlib" --antt-project "$(kit_folder)/logic/antt-project.json" --logic-built "$own/logic-built" \
-        --toolchain "$folder" --crate-type staticlib -o "$folder/libketvaulo.a"
+    local folder=$PWD/target/module keeper
+    rm -rf "$folder" && mkdir -p "$folder/tmp" || return 1
+    tools/keep_module "$folder/tmp" "$folder/ketvaulo.bc" "$folder/ketvaulo.flags" &
+    keeper=$!
+    TMPDIR=$folder/tmp build_library "$folder/libketvaulo.a" || { kill "$keeper"; return 1; }
+    rm -rf "$folder/tmp"
+    wait "$keeper"
 }
 
 # core_flags TARGET: the flags by which clang compiles for the core of a controller; status 1 where it is no target

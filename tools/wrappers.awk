@@ -1,10 +1,11 @@
-# awk -f tools/wrappers.awk DECLARED MODULE.ll: the exported calls as a C file, for a compiler of any 32-bit core.
+# awk -v bridges=FILE.ll -f tools/wrappers.awk DECLARED MODULE.ll: the exported calls as a C file, for a compiler of any 32-bit core.
 # DECLARED is what tools/header.awk makes of the header, and MODULE.ll is the library's module as text.
 #
 # In the module each exported call, kv_sha256, has the C convention of x86-64 and does nothing but call its body, "ketvaulo::kv_sha256". A
-# body takes everything by one simple convention: a struct by a pointer; a slice by a pointer to its own pointer, at byte 0, and its
-# length as 64 bits, at byte 8; any other value as it is; and where it returns a struct, a pointer to that comes first. So the C
-# file defines each call of the header over the declaration of its body, and the C compiler brings the convention of its core.
+# body takes everything by one simple convention: a struct by a pointer; a slice by a pointer that is never NULL, and its length as 64 bits;
+# any other value as it is. A struct of two numbers it returns as these two; for any other struct that it returns, a pointer comes first.
+# FILE.ll gets a bridge to each body, in the module's own language: a function by which both kinds of structs are written through a pointer. The
+# C file defines each call of the header over the declaration of its bridge, and the C compiler brings the convention of its core.
 #
 # Stops with status 1 where the module's calls are not the header's, or where a body takes other types than the header's call asks for.
 
@@ -29,24 +30,46 @@ function types(list,    n, parts, i, line) {
     return line
 }
 
-function wrapper(call,    n, parts, i, type, name, params, asks, takes, locals, args, callee, c) {
+# 'uint32_t refusal; uint64_t value;' as '{ i32, i64 }': the LLVM type of a struct of two numbers, or nothing
+function pair(fields,    words) {
+    if (split(fields, words, /[ ;]+/) != 5 || fields ~ /\[/ || words[1] in struct || words[3] in struct) return ""
+    return "{ " width(words[1]) ", " width(words[3]) " }"
+}
+
+# the bridge to a body: TYPES are those that it takes, RESULT is what the body returns
+function bridge(call, callee, taken, result,    n, parts, i, head, list) {
+    n = split(taken, parts, " ")
+    for (i = 1; i <= n; i++) list = list (i > 1 ? ", " : "") parts[i] " %a" i
+    head = "@bridge." call "(" (result ~ /^[{]/ ? "ptr %answer" (n ? ", " : "") : "") list ")"
+    print "" >bridges
+    if (result ~ /^[{]/) {
+        print "define void " head " #0 {\n  %result = call " result " @\"" callee "\"(" list ")" >bridges
+        print "  store " result " %result, ptr %answer\n  ret void\n}" >bridges
+    } else if (result == "void") {
+        print "define void " head " #0 {\n  call void @\"" callee "\"(" list ")\n  ret void\n}" >bridges
+    } else print "define " result " " head " #0 {\n  %result = call " result " @\"" callee "\"(" list ")\n  ret " result " %result\n}" >bridges
+}
+
+function wrapper(call,    n, parts, i, type, name, params, asks, gives, takes, locals, args, callee, c) {
     callee = body[call]
     params = declared[call]
     n = split(params, parts, ", ")
     if (result[call] in struct) {
-        takes = result[call] " *"; asks = "ptr"; args = "&answer"; c = "void"
+        c = gives = "void"
+        takes = result[call] " *"; args = "&answer"
         locals = "    " result[call] " answer;\n"
-    } else c = c_type(width(result[call]))
+        if (pair(struct[result[call]]) != "") gives = pair(struct[result[call]]); else asks = "ptr"
+    } else { gives = width(result[call]); c = c_type(gives) }
     for (i = 1; i <= n; i++) {
         name = parts[i]
         sub(/.*[ *]/, "", name)
         type = parts[i]
         sub(/ *\*?[a-z0-9_]+$/, "", type)
-        if (args != "") { args = args ", "; asks = asks " "; takes = takes ", " }
+        if (args != "") { args = args ", "; takes = takes ", " }
+        if (asks != "") asks = asks " "
         if (parts[i] ~ /\*/) {
             if (parts[i + 1] != "size_t " name "_len") stop(call " has a pointer " name " without its length")
-            locals = locals "    struct slice " name "_slice = {" name ", " name "_len};\n"
-            args = args "&" name "_slice"; asks = asks "ptr"; takes = takes "struct slice *"
+            args = args "slice(" name "), " name "_len"; asks = asks "ptr i64"; takes = takes "const void *, uint64_t"
             i++
         } else if (type in struct) {
             args = args "&" name; asks = asks "ptr"; takes = takes type " *"
@@ -54,15 +77,16 @@ function wrapper(call,    n, parts, i, type, name, params, asks, takes, locals, 
             args = args name; asks = asks width(type); takes = takes c_type(width(type))
         }
     }
-    if (asks != taken[callee] || (c == "void" ? "void" : width(result[call])) != returned[callee])
-        stop(call ": the body takes " taken[callee] " and returns " returned[callee] ", and the header asks for " asks " and " c)
-    printf "%s body_%s(%s) __asm__(\"%s\");\n", c, call, takes, callee
+    if (asks != taken[callee] || gives != returned[callee])
+        stop(call ": the body takes " taken[callee] " and returns " returned[callee] ", and the header asks for " asks " and " gives)
+    bridge(call, callee, asks, gives)
+    printf "%s bridge_%s(%s) __asm__(\"bridge.%s\");\n", c, call, takes, call
     printf "%s %s(%s)\n{\n%s", result[call], call, params, locals
-    if (c == "void") printf "    body_%s(%s);\n    return answer;\n}\n\n", call, args
-    else printf "    return body_%s(%s);\n}\n\n", call, args
+    if (c == "void") printf "    bridge_%s(%s);\n    return answer;\n}\n\n", call, args
+    else printf "    return bridge_%s(%s);\n}\n\n", call, args
 }
 
-FNR == NR && $2 == "struct" { struct[$1] = 1; next }
+FNR == NR && $2 == "struct" { struct[$1] = $0; sub(/^[^ ]* struct /, "", struct[$1]); next }
 FNR == NR && /\(/ {
     call[++calls] = $1
     result[$1] = $2
@@ -84,7 +108,8 @@ FNR == NR { next }
     taken[name] = types(list)
     type = $0
     sub(/ @.*/, "", type)
-    sub(/.* /, "", type)
+    if (type !~ /}$/) sub(/.* /, "", type)
+    sub(/^[^{]*[{]/, "{", type)
     returned[name] = type
     next
 }
@@ -108,9 +133,9 @@ exported != "" && / call / {
 
 END {
     if (bad) exit 1
-    print "/* Made by tools/wrappers.awk. */\n#include <stddef.h>\n#include <ketvaulo.h>\n"
-    print "struct slice {\n    const void *at;\n    _Alignas(8) uint64_t len;\n};"
-    print "_Static_assert(offsetof(struct slice, at) == 0 && offsetof(struct slice, len) == 8 && sizeof(struct slice) == 16, \"slice\");\n"
+    print "/* Made by tools/wrappers.awk. */\n#include <ketvaulo.h>\n"
+    print "/* A body's slice is never at NULL: for a slice of no bytes at NULL the exported calls of the module give it this address. */"
+    print "static const void *slice(const void *at) { return at ? at : (const void *)4096; }\n"
     for (i = 1; i <= calls; i++) {
         if (!(call[i] in body)) stop("the header declares " call[i] ", which the module does not export")
         wrapper(call[i])
