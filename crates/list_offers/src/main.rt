@@ -4,47 +4,44 @@
 
 use area::AreaRead;
 use area_format::Way;
-use libc::{STDIN_FILENO, STDOUT_FILENO};
+use std::io;
+use std::io::Read;
 
 // The most bytes that an area may have here.
 const LIMIT: usize = 4096;
 
 // Writes a line: a word and a number.
-fn write_line(word: &[u8], n: u64) {
-    io::write_all(STDOUT_FILENO, word);
-    io::print_decimal(STDOUT_FILENO, n);
-    io::write_all(STDOUT_FILENO, b"\n");
+fn write_line(rt: &impl Print, word: &str, n: u64) -> io::Result<()> {
+    println!(rt; "{word}{n}")
 }
 
 // Writes a line for each offer.
-fn write_offers(offers: &[u16]) {
-    let mut i = 0;
-    while i < offers.len() {
-        write_line(b"kdf ", offers[i] as u64);
-        i += 1;
+fn write_offers(rt: &impl Print, offers: &[u16]) -> io::Result<()> {
+    for offer in offers {
+        write_line(rt, "kdf ", u64::from(*offer))?;
     }
+    Ok(())
 }
 
 // Writes what the area holds, or why it is refused.
-fn list(bytes: &[u8]) {
+fn list(rt: &impl Print, bytes: &[u8]) -> io::Result<()> {
     let mut out = [0u16; 17];
     match area::read_area(bytes, b"", Way::Lenient, &mut out) {
-        AreaRead::Refused(why) => write_line(b"refused ", refusal::number(why) as u64),
+        AreaRead::Refused(why) => write_line(rt, "refused ", refusal::number(why) as u64),
         AreaRead::Read(offered) => {
             let count = offered.count;
-            write_line(b"offers ", count as u64);
-            write_offers(&out[..count]);
-            write_line(b"name ", offered.name_len as u64);
+            write_line(rt, "offers ", count as u64)?;
+            write_offers(rt, &out[..count])?;
+            write_line(rt, "name ", offered.name_len as u64)
         }
     }
 }
 
-fn main() {
-    let mut bytes = [0u8; LIMIT + 1];
-    let n = io::read_full(STDIN_FILENO, &mut bytes);
-    if n > LIMIT {
-        io::write_all(STDOUT_FILENO, b"too long\n");
-        return;
+fn main(rt: HostRuntime) -> io::Result<()> {
+    let mut bytes = Vec::new(rt.alloc());
+    rt.reader().take(LIMIT as u64 + 1).read_to_end(&mut bytes)?;
+    if bytes.len() > LIMIT {
+        return println!(rt; "too long");
     }
-    list(&bytes[..n]);
+    list(&rt, &bytes)
 }

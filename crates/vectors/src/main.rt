@@ -3,23 +3,20 @@
 // expected lines; docs/VECTORS.md says where each comes from.
 #![tactic(auto)]
 
-ghost use Rattle.std.specs.Prelude.{◌≤◌};
+ghost use Rattle.std.specs.Prelude.{◌≡◌, ◌≤◌, length};
 
-use libc::STDOUT_FILENO;
 use refusal::Answered;
 use sha1_block::compress_blocks;
 use sha256::Sha256;
+use std::io;
 
 // Prints a name, the bytes in hexadecimal, and a line end.
-fn line(name: &[u8], bytes: &[u8]) {
-    io::write_all(STDOUT_FILENO, name);
-    io::write_all(STDOUT_FILENO, b" ");
-    let mut i = 0;
-    while i < bytes.len() {
-        io::print_hex(STDOUT_FILENO, wide(bytes[i]), 2);
-        i += 1;
+fn line(rt: &impl Print, name: &str, bytes: &[u8]) -> io::Result<()> {
+    print!(rt; "{name} ")?;
+    for byte in bytes {
+        print!(rt; "{:02x}", wide(*byte))?;
     }
-    io::write_all(STDOUT_FILENO, b"\n");
+    println!(rt; "")
 }
 
 fn wide(x: u8) -> u64 {
@@ -27,25 +24,25 @@ fn wide(x: u8) -> u64 {
 }
 
 // Prints the digest of a message.
-fn hash(name: &[u8], message: &[u8]) {
+fn hash(rt: &impl Print, name: &str, message: &[u8]) -> io::Result<()> {
     let d = sha256::digest(message);
-    line(name, &d);
+    line(rt, name, &d)
 }
 
 // Prints the MAC of a message under a key.
-fn mac(name: &[u8], key: &[u8], message: &[u8]) {
+fn mac(rt: &impl Print, name: &str, key: &[u8], message: &[u8]) -> io::Result<()> {
     let m = hmac::mac(key, message);
-    line(name, &m);
+    line(rt, name, &m)
 }
 
 // Prints the first half of the MAC of a message under a key.
-fn truncated(name: &[u8], key: &[u8], message: &[u8]) {
+fn truncated(rt: &impl Print, name: &str, key: &[u8], message: &[u8]) -> io::Result<()> {
     let m = hmac::mac(key, message);
-    line(name, &m[..16]);
+    line(rt, name, &m[..16])
 }
 
 // The digest of one million times 'a', absorbed a thousand at a time.
-fn million() {
+fn million(rt: &impl Print) -> io::Result<()> {
     let part = [97u8; 1000];
     let mut state = Sha256::new();
     for _ in 0..1000usize {
@@ -53,55 +50,54 @@ fn million() {
         state = next;
     }
     let d = state.finish();
-    line(b"SHA-256 one million a", &d);
+    line(rt, "SHA-256 one million a", &d)
 }
 
 // NIST's examples for FIPS 180-4.
-fn nist() {
-    hash(b"SHA-256 abc", b"abc");
+fn nist(rt: &impl Print) -> io::Result<()> {
+    hash(rt, "SHA-256 abc", b"abc")?;
     hash(
-        b"SHA-256 448 bits",
+        rt,
+        "SHA-256 448 bits",
         b"abcdbcdecdefdefgefghfghighijhijkijkljklmklmnlmnomnopnopq",
-    );
+    )?;
     hash(
-        b"SHA-256 896 bits",
+        rt,
+        "SHA-256 896 bits",
         b"abcdefghbcdefghicdefghijdefghijkefghijklfghijklmghijklmnhijklmnoijklmnopjklmnopqklmnopqrlmnopqrsmnopqrstnopqrstu",
-    );
-    million();
-    hash(b"SHA-256 bd", &[0xbd]);
-    hash(b"SHA-256 c98c8e55", &[0xc9, 0x8c, 0x8e, 0x55]);
+    )?;
+    million(rt)?;
+    hash(rt, "SHA-256 bd", &[0xbd])?;
+    hash(rt, "SHA-256 c98c8e55", &[0xc9, 0x8c, 0x8e, 0x55])
 }
 
 // Messages of zeros at the edges of the padding. NIST publishes all of these but 63, 119 and 120 zeros.
-fn edges() {
+fn edges(rt: &impl Print) -> io::Result<()> {
     let zeros = [0u8; 1000];
-    hash(b"SHA-256 empty", b"");
-    hash(b"SHA-256 55 zeros", &zeros[..55]);
-    hash(b"SHA-256 56 zeros", &zeros[..56]);
-    hash(b"SHA-256 57 zeros", &zeros[..57]);
-    hash(b"SHA-256 63 zeros", &zeros[..63]);
-    hash(b"SHA-256 64 zeros", &zeros[..64]);
-    hash(b"SHA-256 119 zeros", &zeros[..119]);
-    hash(b"SHA-256 120 zeros", &zeros[..120]);
-    hash(b"SHA-256 1000 zeros", &zeros);
+    hash(rt, "SHA-256 empty", b"")?;
+    hash(rt, "SHA-256 55 zeros", &zeros[..55])?;
+    hash(rt, "SHA-256 56 zeros", &zeros[..56])?;
+    hash(rt, "SHA-256 57 zeros", &zeros[..57])?;
+    hash(rt, "SHA-256 63 zeros", &zeros[..63])?;
+    hash(rt, "SHA-256 64 zeros", &zeros[..64])?;
+    hash(rt, "SHA-256 119 zeros", &zeros[..119])?;
+    hash(rt, "SHA-256 120 zeros", &zeros[..120])?;
+    hash(rt, "SHA-256 1000 zeros", &zeros)
 }
 
 // Prints the SHA-1 digest of a message.
-fn hash_1(name: &[u8], message: &[u8]) {
+fn hash_1(rt: &impl Print, name: &str, message: &[u8]) -> io::Result<()> {
     let d = sha1_hash::digest(message);
-    line(name, &d);
+    line(rt, name, &d)
 }
 
 // Prints the words of a hash value, which one after another are the digest.
-fn words(name: &[u8], h: [u32; 5]) {
-    io::write_all(STDOUT_FILENO, name);
-    io::write_all(STDOUT_FILENO, b" ");
-    io::print_hex(STDOUT_FILENO, wide_word(h[0]), 8);
-    io::print_hex(STDOUT_FILENO, wide_word(h[1]), 8);
-    io::print_hex(STDOUT_FILENO, wide_word(h[2]), 8);
-    io::print_hex(STDOUT_FILENO, wide_word(h[3]), 8);
-    io::print_hex(STDOUT_FILENO, wide_word(h[4]), 8);
-    io::write_all(STDOUT_FILENO, b"\n");
+fn words(rt: &impl Print, name: &str, h: [u32; 5]) -> io::Result<()> {
+    print!(rt; "{name} ")?;
+    for word in &h {
+        print!(rt; "{:08x}", wide_word(*word))?;
+    }
+    println!(rt; "")
 }
 
 fn wide_word(x: u32) -> u64 {
@@ -109,7 +105,7 @@ fn wide_word(x: u32) -> u64 {
 }
 
 // The SHA-1 digest of one million times 'a': 15,625 blocks, and a block with the padding, which counts 8,000,000 bits.
-fn million_1() {
+fn million_1(rt: &impl Print) -> io::Result<()> {
     let block = [97u8; 64];
     let mut h = sha1_hash::value_after(&block);
     for _ in 0..15624usize {
@@ -120,78 +116,94 @@ fn million_1() {
     padding[0] = 0x80;
     padding[61] = 0x7a;
     padding[62] = 0x12;
-    words(b"SHA-1 one million a", compress_blocks(h, &padding));
+    words(rt, "SHA-1 one million a", compress_blocks(h, &padding))
 }
 
 // NIST's examples for FIPS 180-4, SHA-1; and messages of zeros at the edges of the padding, which are not published.
-fn sha_1() {
-    hash_1(b"SHA-1 abc", b"abc");
+fn sha_1(rt: &impl Print) -> io::Result<()> {
+    hash_1(rt, "SHA-1 abc", b"abc")?;
     hash_1(
-        b"SHA-1 448 bits",
+        rt,
+        "SHA-1 448 bits",
         b"abcdbcdecdefdefgefghfghighijhijkijkljklmklmnlmnomnopnopq",
-    );
-    million_1();
+    )?;
+    million_1(rt)?;
     let zeros = [0u8; 120];
-    hash_1(b"SHA-1 empty", b"");
-    hash_1(b"SHA-1 55 zeros", &zeros[..55]);
-    hash_1(b"SHA-1 56 zeros", &zeros[..56]);
-    hash_1(b"SHA-1 63 zeros", &zeros[..63]);
-    hash_1(b"SHA-1 64 zeros", &zeros[..64]);
-    hash_1(b"SHA-1 119 zeros", &zeros[..119]);
-    hash_1(b"SHA-1 120 zeros", &zeros);
+    hash_1(rt, "SHA-1 empty", b"")?;
+    hash_1(rt, "SHA-1 55 zeros", &zeros[..55])?;
+    hash_1(rt, "SHA-1 56 zeros", &zeros[..56])?;
+    hash_1(rt, "SHA-1 63 zeros", &zeros[..63])?;
+    hash_1(rt, "SHA-1 64 zeros", &zeros[..64])?;
+    hash_1(rt, "SHA-1 119 zeros", &zeros[..119])?;
+    hash_1(rt, "SHA-1 120 zeros", &zeros)
 }
 
 // RFC 4231, section 4.
-fn rfc_4231() {
-    mac(b"RFC 4231 case 1", &[0x0b; 20], b"Hi There");
-    mac(b"RFC 4231 case 2", b"Jefe", b"what do ya want for nothing?");
-    mac(b"RFC 4231 case 3", &[0xaa; 20], &[0xdd; 50]);
+fn rfc_4231(rt: &impl Print) -> io::Result<()> {
+    mac(rt, "RFC 4231 case 1", &[0x0b; 20], b"Hi There")?;
+    mac(
+        rt,
+        "RFC 4231 case 2",
+        b"Jefe",
+        b"what do ya want for nothing?",
+    )?;
+    mac(rt, "RFC 4231 case 3", &[0xaa; 20], &[0xdd; 50])?;
     let count = [
         1, 2, 3, 4, 5, 6, 7, 8, 9, 10, 11, 12, 13, 14, 15, 16, 17, 18, 19, 20, 21, 22, 23, 24, 25,
     ];
-    mac(b"RFC 4231 case 4", &count, &[0xcd; 50]);
-    truncated(b"RFC 4231 case 5", &[0x0c; 20], b"Test With Truncation");
+    mac(rt, "RFC 4231 case 4", &count, &[0xcd; 50])?;
+    truncated(rt, "RFC 4231 case 5", &[0x0c; 20], b"Test With Truncation")?;
     let long = [0xaa; 131];
     mac(
-        b"RFC 4231 case 6",
+        rt,
+        "RFC 4231 case 6",
         &long,
         b"Test Using Larger Than Block-Size Key - Hash Key First",
-    );
+    )?;
     mac(
-        b"RFC 4231 case 7",
+        rt,
+        "RFC 4231 case 7",
         &long,
         b"This is a test using a larger than block-size key and a larger than block-size data. The key needs to be hashed before being used by the HMAC algorithm.",
-    );
+    )
 }
 
 // Prints the HMAC-SHA-1 of a message under a key.
-fn mac_1(name: &[u8], key: &[u8], message: &[u8]) {
+fn mac_1(rt: &impl Print, name: &str, key: &[u8], message: &[u8]) -> io::Result<()> {
     let m = hmac_sha1::mac(key, message);
-    line(name, &m);
+    line(rt, name, &m)
 }
 
 // RFC 2202, section 3.
-fn rfc_2202() {
-    mac_1(b"RFC 2202 case 1", &[0x0b; 20], b"Hi There");
-    mac_1(b"RFC 2202 case 2", b"Jefe", b"what do ya want for nothing?");
-    mac_1(b"RFC 2202 case 3", &[0xaa; 20], &[0xdd; 50]);
+fn rfc_2202(rt: &impl Print) -> io::Result<()> {
+    mac_1(rt, "RFC 2202 case 1", &[0x0b; 20], b"Hi There")?;
     mac_1(
-        b"RFC 2202 case 4",
+        rt,
+        "RFC 2202 case 2",
+        b"Jefe",
+        b"what do ya want for nothing?",
+    )?;
+    mac_1(rt, "RFC 2202 case 3", &[0xaa; 20], &[0xdd; 50])?;
+    mac_1(
+        rt,
+        "RFC 2202 case 4",
         b"\x01\x02\x03\x04\x05\x06\x07\x08\x09\x0a\x0b\x0c\x0d\x0e\x0f\x10\x11\x12\x13\x14\x15\x16\x17\x18\x19",
         &[0xcd; 50],
-    );
-    mac_1(b"RFC 2202 case 5", &[0x0c; 20], b"Test With Truncation");
+    )?;
+    mac_1(rt, "RFC 2202 case 5", &[0x0c; 20], b"Test With Truncation")?;
     let long = [0xaa; 80];
     mac_1(
-        b"RFC 2202 case 6",
+        rt,
+        "RFC 2202 case 6",
         &long,
         b"Test Using Larger Than Block-Size Key - Hash Key First",
-    );
+    )?;
     mac_1(
-        b"RFC 2202 case 7",
+        rt,
+        "RFC 2202 case 7",
         &long,
         b"Test Using Larger Than Block-Size Key and Larger Than One Block-Size Data",
-    );
+    )
 }
 
 // The sixteen bytes of a block as the state of FIPS 197, section 3.4: four columns of four bytes.
@@ -213,20 +225,21 @@ fn bytes(s: [[u8; 4]; 4]) -> [u8; 16] {
 }
 
 // Encrypts a block, and decrypts the result.
-fn cipher(name: &[u8], key: [u8; 16], block: [u8; 16]) {
+fn cipher(rt: &impl Print, name: &str, key: [u8; 16], block: [u8; 16]) -> io::Result<()> {
     let mut schedule = [[[0u8; 4]; 4]; 11];
     aes128::expand_key(columns(key), &mut schedule);
     let hidden = aes128::encrypt(&schedule, columns(block));
-    line(name, &bytes(hidden));
+    line(rt, name, &bytes(hidden))?;
     aes128::invert_keys(&mut schedule);
     let shown = aes128::decrypt(&schedule, hidden);
-    line(name, &bytes(shown));
+    line(rt, name, &bytes(shown))
 }
 
 // FIPS 197: the cipher examples of appendix B and appendix C.1.
-fn fips_197() {
+fn fips_197(rt: &impl Print) -> io::Result<()> {
     cipher(
-        b"FIPS 197 appendix B",
+        rt,
+        "FIPS 197 appendix B",
         [
             0x2b, 0x7e, 0x15, 0x16, 0x28, 0xae, 0xd2, 0xa6, 0xab, 0xf7, 0x15, 0x88, 0x09, 0xcf,
             0x4f, 0x3c,
@@ -235,32 +248,33 @@ fn fips_197() {
             0x32, 0x43, 0xf6, 0xa8, 0x88, 0x5a, 0x30, 0x8d, 0x31, 0x31, 0x98, 0xa2, 0xe0, 0x37,
             0x07, 0x34,
         ],
-    );
+    )?;
     cipher(
-        b"FIPS 197 appendix C.1",
+        rt,
+        "FIPS 197 appendix C.1",
         [0, 1, 2, 3, 4, 5, 6, 7, 8, 9, 10, 11, 12, 13, 14, 15],
         [
             0x00, 0x11, 0x22, 0x33, 0x44, 0x55, 0x66, 0x77, 0x88, 0x99, 0xaa, 0xbb, 0xcc, 0xdd,
             0xee, 0xff,
         ],
-    );
+    )
 }
 
 // Wraps a key under the KEK of RFC 3394, section 4.1, and unwraps the result.
-fn wrap(name: &[u8], key: &[u8]) {
+fn wrap(rt: &impl Print, name: &str, key: &[u8]) -> io::Result<()> {
     let kek = [0, 1, 2, 3, 4, 5, 6, 7, 8, 9, 10, 11, 12, 13, 14, 15];
     let mut wrapped = [0u8; 200];
     let Answered::Accepted(n) = keywrap_aes::wrap(kek, key, &mut wrapped) else {
-        return;
+        return Ok(());
     };
     let m = within(n, 200);
-    line(name, &wrapped[..m]);
+    line(rt, name, &wrapped[..m])?;
     let mut back = [0u8; 200];
     let Answered::Accepted(k) = keywrap_aes::unwrap(kek, &wrapped[..m], &mut back) else {
-        return;
+        return Ok(());
     };
     let j = within(k, 200);
-    line(name, &back[..j]);
+    line(rt, name, &back[..j])
 }
 
 // The lesser of two numbers.
@@ -270,8 +284,10 @@ fn within(n: usize, most: usize) -> usize
     if n <= most { n } else { most }
 }
 
-// 192 bytes, of which byte i is 7 i + 3 modulo 256.
-fn counted() -> [u8; 192] {
+// 192 bytes, of which byte i is 7 i + 3 modulo 256. The clause gives the length alone, which lending its parts needs.
+fn counted() -> [u8; 192]
+    ensures { 192 ≡ length result }
+{
     let mut r = [0u8; 192];
     for i in 0..192usize {
         r[i] = ((7 * i + 3) % 256) as u8;
@@ -280,27 +296,28 @@ fn counted() -> [u8; 192] {
 }
 
 // RFC 3394, section 4.1; and four longer keys under its KEK, which are not published.
-fn rfc_3394() {
+fn rfc_3394(rt: &impl Print) -> io::Result<()> {
     wrap(
-        b"RFC 3394 section 4.1",
+        rt,
+        "RFC 3394 section 4.1",
         &[
             0x00, 0x11, 0x22, 0x33, 0x44, 0x55, 0x66, 0x77, 0x88, 0x99, 0xaa, 0xbb, 0xcc, 0xdd,
             0xee, 0xff,
         ],
-    );
+    )?;
     let key = counted();
-    wrap(b"RFC 3394 24 bytes", &key[..24]);
-    wrap(b"RFC 3394 32 bytes", &key[..32]);
-    wrap(b"RFC 3394 64 bytes", &key[..64]);
-    wrap(b"RFC 3394 192 bytes", &key);
+    wrap(rt, "RFC 3394 24 bytes", &key[..24])?;
+    wrap(rt, "RFC 3394 32 bytes", &key[..32])?;
+    wrap(rt, "RFC 3394 64 bytes", &key[..64])?;
+    wrap(rt, "RFC 3394 192 bytes", &key)
 }
 
-fn main() {
-    nist();
-    edges();
-    sha_1();
-    rfc_4231();
-    rfc_2202();
-    fips_197();
-    rfc_3394();
+fn main(rt: HostRuntime) -> io::Result<()> {
+    nist(&rt)?;
+    edges(&rt)?;
+    sha_1(&rt)?;
+    rfc_4231(&rt)?;
+    rfc_2202(&rt)?;
+    fips_197(&rt)?;
+    rfc_3394(&rt)
 }
