@@ -18,14 +18,6 @@ use Rattle.aes128.proofs.columns.Words.{xor-word, turn-word, column-word}
 use Rattle.aes128.specs.Internal.{word_of, column_of, turned, laid_out, byte_of, LookedUp, sum_of, sum_column}
 use Rattle.aes128.proofs.Square.{laid_out_lem}
 
--- ---- the sum of four words as the code takes it
-
-pub sum_by : (w : List ℕ) (x y z : ℕ) (r : List ℕ) → x ≡ turned (get_or w 1 0) → y ≡ turned (bit_xor (get_or w 2 0) x)
-    → z ≡ turned (bit_xor (get_or w 3 0) y) → r ≡ column_of (bit_xor (get_or w 0 0) z) → r ≡ sum_column w
-sum_by w x y z r ex ey ez er =
-    let f : y ≡ turned (bit_xor (get_or w 2 0) (turned (get_or w 1 0))) = ey ∙ ap (λ (n : ℕ). turned (bit_xor (get_or w 2 0) n)) ex in
-    er ∙ ap (λ (n : ℕ). column_of (bit_xor (get_or w 0 0) n)) (ez ∙ ap (λ (n : ℕ). turned (bit_xor (get_or w 3 0) n)) f)
-
 -- ---- the sum of four words, byte by byte
 
 sum-word : {a0 a1 a2 a3 b0 b1 b2 b3 c0 c1 c2 c3 d0 d1 d2 d3 : ℕ}

@@ -1,6 +1,5 @@
 use Rattle.fips197.specs.State.{add_round_key}
 use Rattle.fips197.proofs.Four.{four}
-use borrow.Author.Rules.{rules}
 use Rattle.aes128.proofs.add_round_key.Goals as goal
 
 pub returns : goal.returns

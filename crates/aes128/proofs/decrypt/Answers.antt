@@ -1,11 +1,7 @@
 -- `aes128::decrypt` meets its contract: what is left of the rounds at place i is what was left at the start.
-use mathlib.Core.Path.{◌≡◌, refl, ◌∙◌}
-use Prim.Native.Nat.{◌≤◌}
+use mathlib.Core.Path.{◌≡◌, ◌∙◌}
 use native.Mathlib.Omega.{arith}
-use Rattle.fips197.specs.Cipher.{eq_inv_rounds}
-use Rattle.aes128.specs.Internal.{state_of}
 use Rattle.aes128.proofs.Rounds.{begun_by, inv-round-by, inv-last-round-by, eq-step, eq-end}
-use borrow.Author.Rules.{rules}
 use Rattle.aes128.proofs.decrypt.Goals as goal
 
 pub loop-i-preserved : goal.loop-i-preserved

@@ -1,10 +1,7 @@
-use mathlib.Core.Path.{◌≡◌, refl, ◌∙◌}
+use mathlib.Core.Path.{◌≡◌}
 use Prim.Native.Nat.{◌≤◌}
-use native.Mathlib.Omega.{arith}
 use Rattle.fips197.specs.Cipher.{eq_inv_rounds}
 use Rattle.aes128.specs.Internal.{state_of}
-use Rattle.aes128.proofs.Rounds.{begun_by, inv-round-by, inv-last-round-by, eq-step, eq-end}
-use borrow.Author.Rules.{rules}
 use Rattle.aes128.proofs.decrypt.Given as goal
 
 abbrev pub invariant-loop-i : goal.invariant-loop-i

@@ -1,11 +1,9 @@
-use mathlib.Core.Path.{◌≡◌, refl}
+-- `aes128::each_sub`: after i turns the first i bytes are looked up.
+use mathlib.Core.Path.{◌≡◌}
 use Prim.Native.Nat.{ℕ, ◌≤◌, ◌<◌, ◌-◌}
-use native.Mathlib.Omega.{arith}
 use lib.ListN.{get_or}
 use Rattle.aes_sbox.specs.Tables.{sbox}
 use Rattle.aes128.specs.Internal.{byte_of, Square}
-use Rattle.aes128.proofs.Square.{blank, looked-next}
-use borrow.Author.Rules.{rules}
 use Rattle.aes128.proofs.each_sub.Given as goal
 
 abbrev pub invariant-loop-i : goal.invariant-loop-i

@@ -1,11 +1,9 @@
-use mathlib.Core.Path.{◌≡◌, refl}
-use Prim.Native.Nat.{ℕ, ◌≤◌, ◌<◌, ◌-◌}
-use native.Mathlib.Omega.{arith}
+-- `aes128::each_unmixed`: the bytes from i on are looked up.
+use mathlib.Core.Path.{◌≡◌}
+use Prim.Native.Nat.{ℕ, ◌≤◌, ◌<◌}
 use lib.ListN.{get_or}
 use Rattle.aes_sbox.specs.Tables.{unmixed_sbox}
 use Rattle.aes128.specs.Internal.{byte_of, Square}
-use Rattle.aes128.proofs.Square.{blank, looked-back}
-use borrow.Author.Rules.{rules}
 use Rattle.aes128.proofs.each_unmixed.Given as goal
 
 abbrev pub invariant-loop-i : goal.invariant-loop-i

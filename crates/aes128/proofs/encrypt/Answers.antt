@@ -1,11 +1,8 @@
 -- `aes128::encrypt` meets its contract: after i turns the state is that of i rounds.
 use mathlib.Core.Path.{◌≡◌, refl}
-use Prim.Native.Nat.{◌≤◌, ◌-◌}
 use native.Mathlib.Omega.{arith}
 use Rattle.fips197.specs.Cipher.{rounds}
-use Rattle.aes128.specs.Internal.{state_of}
 use Rattle.aes128.proofs.Rounds.{begun_by, round_by, last-round-by, round-step, cipher-end}
-use borrow.Author.Rules.{rules}
 use Rattle.aes128.proofs.encrypt.Goals as goal
 
 pub loop-i-init : goal.loop-i-init

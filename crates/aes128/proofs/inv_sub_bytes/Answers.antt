@@ -1,5 +1,4 @@
 use Rattle.aes128.proofs.Lookups.{inv-sub-by}
-use borrow.Author.Rules.{rules}
 use Rattle.aes128.proofs.inv_sub_bytes.Goals as goal
 
 pub returns : goal.returns

@@ -1,5 +1,4 @@
 use Rattle.aes128.proofs.Lookups.{mix-by}
-use borrow.Author.Rules.{rules}
 use Rattle.aes128.proofs.sub_and_mix_columns.Goals as goal
 
 pub returns : goal.returns

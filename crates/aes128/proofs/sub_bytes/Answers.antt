@@ -1,5 +1,4 @@
 use Rattle.aes128.proofs.Lookups.{sub_by}
-use borrow.Author.Rules.{rules}
 use Rattle.aes128.proofs.sub_bytes.Goals as goal
 
 pub returns : goal.returns

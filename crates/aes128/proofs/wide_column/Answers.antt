@@ -1,6 +1,5 @@
 use Rattle.fips197.specs.State.{column}
 use Rattle.fips197.proofs.Four.{four}
-use borrow.Author.Rules.{rules}
 use Rattle.aes128.proofs.wide_column.Goals as goal
 
 pub returns : goal.returns

@@ -1,6 +1,5 @@
 use Rattle.fips197.specs.State.{block}
 use Rattle.fips197.proofs.Four.{four}
-use borrow.Author.Rules.{rules}
 use Rattle.aes128.proofs.wide_state.Goals as goal
 
 pub returns : goal.returns

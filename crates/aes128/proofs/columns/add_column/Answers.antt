@@ -1,6 +1,5 @@
 use mathlib.Core.Path.{◌∙◌}
 use Rattle.aes128.proofs.columns.Words.{added_columns}
-use borrow.Author.Rules.{rules}
 use Rattle.aes128.proofs.columns.add_column.Goals as goal
 
 pub returns : goal.returns

@@ -1,14 +1,13 @@
 -- `aes128::keys::expand_key` meets its contract: after i turns the round keys 0 to i stand in their places.
 use mathlib.Core.Path.{◌≡◌, refl, ◌∙◌}
 use mathlib.Core.List.{[]}
-use Prim.Native.Nat.{ℕ, ◌+◌, ◌-◌, ◌≤◌, ◌<◌}
+use Prim.Native.Nat.{ℕ, ◌+◌}
 use native.Mathlib.Omega.{arith}
-use lib.ListN.{length, get_or, length-set}
+use lib.ListN.{length-set}
 use Rattle.fips197.specs.State.{State}
 use Rattle.fips197.specs.KeyExpansion.{rcon, round_key}
 use Rattle.tables.proofs.Filled.{filled}
 use Rattle.aes128.proofs.keys.Expansion.{at_zero, next-step, constant-step, expanded}
-use borrow.Author.Rules.{rules}
 use Rattle.aes128.proofs.keys.expand_key.Goals as goal
 
 pub loop-i-init : goal.loop-i-init

@@ -1,13 +1,8 @@
-use mathlib.Core.Path.{◌≡◌, refl, ◌∙◌}
+use mathlib.Core.Path.{◌≡◌}
 use mathlib.Core.List.{[]}
 use Prim.Native.Nat.{ℕ, ◌+◌, ◌-◌, ◌≤◌, ◌<◌}
-use native.Mathlib.Omega.{arith}
-use lib.ListN.{length, get_or, length-set}
-use Rattle.fips197.specs.State.{State}
+use lib.ListN.{length, get_or}
 use Rattle.fips197.specs.KeyExpansion.{rcon, round_key}
-use Rattle.tables.proofs.Filled.{filled}
-use Rattle.aes128.proofs.keys.Expansion.{at_zero, next-step, constant-step, expanded}
-use borrow.Author.Rules.{rules}
 use Rattle.aes128.proofs.keys.expand_key.Given as goal
 
 abbrev pub invariant-loop-i : goal.invariant-loop-i

@@ -1,6 +1,5 @@
 use Rattle.fips197.proofs.Four.{four}
 use Rattle.fips197.specs.State.{inv_mix_columns}
-use borrow.Author.Rules.{rules}
 use Rattle.aes128.proofs.keys.inv_mix_columns.Goals as goal
 
 pub returns : goal.returns

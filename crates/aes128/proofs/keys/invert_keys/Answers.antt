@@ -1,9 +1,6 @@
-use mathlib.Core.Path.{◌≡◌, refl, sym, ap, ◌∙◌}
-use Prim.Native.Nat.{ℕ, ◌-◌, ◌≤◌, ◌<◌}
+use mathlib.Core.Path.{refl, sym, ◌∙◌}
 use native.Mathlib.Omega.{arith}
-use lib.ListN.{length, length-set}
-use borrow.Author.Rules.{rules}
-use Rattle.fips197.specs.Cipher.{kept_first}
+use lib.ListN.{length-set}
 use Rattle.fips197.proofs.Equivalent.{kept_none}
 use Rattle.aes128.proofs.keys.Expansion.{kept_turn}
 use Rattle.aes128.proofs.keys.invert_keys.Goals as goal

@@ -1,11 +1,7 @@
-use mathlib.Core.Path.{◌≡◌, refl, sym, ap, ◌∙◌}
-use Prim.Native.Nat.{ℕ, ◌-◌, ◌≤◌, ◌<◌}
-use native.Mathlib.Omega.{arith}
-use lib.ListN.{length, length-set}
-use borrow.Author.Rules.{rules}
+use mathlib.Core.Path.{◌≡◌}
+use Prim.Native.Nat.{◌-◌, ◌≤◌, ◌<◌}
+use lib.ListN.{length}
 use Rattle.fips197.specs.Cipher.{kept_first}
-use Rattle.fips197.proofs.Equivalent.{kept_none}
-use Rattle.aes128.proofs.keys.Expansion.{kept_turn}
 use Rattle.aes128.proofs.keys.invert_keys.Given as goal
 
 abbrev pub invariant-loop-i : goal.invariant-loop-i

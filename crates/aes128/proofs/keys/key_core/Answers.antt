@@ -1,5 +1,4 @@
 use Rattle.aes128.proofs.keys.Expansion.{core_by}
-use borrow.Author.Rules.{rules}
 use Rattle.aes128.proofs.keys.key_core.Goals as goal
 
 pub returns : goal.returns

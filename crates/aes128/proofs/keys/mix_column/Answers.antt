@@ -1,6 +1,5 @@
 use mathlib.Core.Path.{refl}
 use Rattle.aes128.proofs.keys.Words.{mix-by}
-use borrow.Author.Rules.{rules}
 use Rattle.aes128.proofs.keys.mix_column.Goals as goal
 
 pub returns : goal.returns

@@ -3,7 +3,6 @@ use Prim.Native.Nat.{◌*◌, ◌/◌, ◌%◌}
 use native.Mathlib.Omega.{arith}
 use lib.Bits.{bit_xor}
 use Rattle.aes_sbox.specs.Field.{xtime}
-use borrow.Author.Rules.{rules}
 use Rattle.aes128.proofs.keys.next_constant.Goals as goal
 
 pub returns : goal.returns

@@ -1,5 +1,4 @@
 use Rattle.aes128.proofs.keys.Expansion.{next_words}
-use borrow.Author.Rules.{rules}
 use Rattle.aes128.proofs.keys.next_key.Goals as goal
 
 pub returns : goal.returns

@@ -1,5 +1,4 @@
 use Rattle.aes128.proofs.keys.Words.{premix-by}
-use borrow.Author.Rules.{rules}
 use Rattle.aes128.proofs.keys.premix_column.Goals as goal
 
 pub returns : goal.returns

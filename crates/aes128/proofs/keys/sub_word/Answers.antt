@@ -1,8 +1,5 @@
-use mathlib.Core.Path.{refl}
-use Prim.Native.Nat.{◌≤◌, ◌-◌}
 use native.Mathlib.Omega.{arith}
-use borrow.Author.Rules.{rules}
-use Rattle.aes128.proofs.keys.Expansion.{Subbed, sub_turn, sub_end}
+use Rattle.aes128.proofs.keys.Expansion.{sub_turn, sub_end}
 use Rattle.aes128.proofs.keys.sub_word.Goals as goal
 
 pub loop-i-preserved : goal.loop-i-preserved
