@@ -1,14 +1,10 @@
 use Rattle.std.proofs.Common.{◌≡◌, ℕ, ap, ◌∙◌, rules}
 use Rattle.fips180.specs.Words.{ROTL}
 use Rattle.fips180.proofs.Rotations.{turned_back}
-use Rattle.sha1_block.proofs.round.unrotated.Statement.{statement}
-use Rattle.sha1_block.proofs.round.unrotated.Tie as tie
+use Rattle.sha1_block.proofs.round.unrotated.Goals as goal
 
-returns : tie.Need-returns
+pub returns : goal.returns
 returns c =
-    let x = c.before.args.x in
+    let x = c.args.x in
     let turned : c.rotl.result ≡ ROTL 2 x = c.rotl.ensures in
     ap (λ (n : ℕ). ROTL 30 n) turned ∙ turned_back x (search rules)
-
-pub unrotated-spec : {M : Type 1} → statement M
-unrotated-spec = tie.close (tie.spec (λ c κs. search rules) returns)
