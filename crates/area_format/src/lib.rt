@@ -3,10 +3,10 @@
 #![tactic(auto)]
 
 // Attribute Length counts four-byte words, the name length counts bytes: a type for each, so that neither is taken for the other.
-#[derive(Drop)]
+#[derive(Clone, Copy)]
 pub struct Words(pub usize);
 
-#[derive(Drop)]
+#[derive(Clone, Copy)]
 pub struct Bytes(pub usize);
 
 // What stands in the area: an AT_KDF with its value; an AT_KDF_INPUT with its name's length; any other attribute; or one that is refused.
@@ -44,7 +44,7 @@ pub enum Way {
 }
 
 // The name, once it has been met: its offset from the area's first byte, and its length.
-#[derive(Drop)]
+#[derive(Clone, Copy)]
 pub enum Name {
     Missing,
     Found { at: usize, len: Bytes },
