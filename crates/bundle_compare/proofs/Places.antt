@@ -27,7 +27,7 @@ place_by f id at i zero e r =
     let out : ltb i (count_in f) ≡ false = le-ltb i (count_in f) (omega arith) in
     rw out
 place_by f id at i (suc n) e (next o w r) =
-    let later = place_by f id _ (suc i) n (omega arith) r in
+    let later = place_by f id ((line_at f i).offset + (line_at f i).size) (suc i) n (omega arith) r in
     rw w.id_same (go (same_list (line_at f i).id id) later)
   where
     go : (t : Bool) → lookup id (map (body_of f) (lines_from f (suc i) n)) ≡ found_at f (place_of id (suc i) (lines_from f (suc i) n))

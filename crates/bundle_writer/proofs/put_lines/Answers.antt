@@ -4,22 +4,10 @@ use Rattle.bundle_writer.proofs.packing.Walking.{id_part, body_long}
 use Rattle.bundle_writer.proofs.Lines.{lined_start, lined_on, lined_end, lined_room, id_long}
 use Rattle.bundle_writer.proofs.put_lines.Goals as goal
 
-pub loop-at-init : goal.loop-at-init
-loop-at-init c = lined_start _ _ _ c.requires.attributes_value refl
-
 pub slice_bounds-put_line-end : goal.slice_bounds-put_line-end
 slice_bounds-put_line-end c =
     let l = c.loop-at in
     omega (arith, body_long c.args.attributes.now l.at _ (step_at_lem c.args.attributes.now l.at _ (omega arith) c.length_at-length.ensures) l.invariant.frames)
-
-pub put_line-requires : goal.put_line-requires
-put_line-requires c =
-    let l = c.loop-at in
-    let s = step_at_lem c.args.attributes.now l.at _ (omega arith) c.length_at-length.ensures in
-    record {
-      id_len = id_long _ l.at _ _ s l.invariant.frames (id_part _ l.at _ s l.invariant.frames);
-      at_in_bounds = lined_room _ _ _ _ _ _ _ s l.invariant (omega (arith, c.requires.contents_value, c.requires.attributes_in_bounds));
-    }
 
 pub overflow_add-at : goal.overflow_add-at
 overflow_add-at c = omega (arith, (step_at_lem c.args.attributes.now c.loop-at.at _ (omega arith) c.length_at-length.ensures).inside)

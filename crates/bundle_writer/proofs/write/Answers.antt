@@ -1,20 +1,10 @@
 -- Where the count is told, the attributes pass and it is theirs, so that there are not many.
-use Rattle.std.proofs.Common.{◌≡◌, ◌+◌, sym, ◌∙◌, arith}
+use Rattle.std.proofs.Common.{◌≡◌, ◌+◌, length, arith}
 use Rattle.refusal.proofs.Answering.{told_count, told_refusal}
-use Rattle.bundle_rules.specs.Bundle.{contents_end}
+use Rattle.bundle_rules.specs.Bundle.{contents_end, packed, packed_check}
 use Rattle.bundle_writer.proofs.Parts.{count-length}
 use Rattle.bundle_writer.proofs.Writing.{frames_of, count-high, bytes_few, write_early, write-room, write_refused, write_all}
 use Rattle.bundle_writer.proofs.write.Goals as goal
-
-pub overflow_add-contents : goal.overflow_add-contents
-overflow_add-contents c =
-    let k = told_count _ _ _ c.in-Accepted.ensures in
-    omega (arith, k.1, count-high _ k.0, c.lines_length-contents.ensures)
-
-pub overflow_add-size : goal.overflow_add-size
-overflow_add-size c =
-    let k = told_count _ _ _ c.in-Accepted.ensures in
-    omega (arith, k.1, count-high _ k.0, bytes_few _ k.0, c.lines_length-contents.ensures)
 
 pub returns-then-out-size : goal.returns-then-out-size
 returns-then-out-size c =
@@ -24,8 +14,9 @@ returns-then-out-size c =
 
 pub put_lines-requires : goal.put_lines-requires
 put_lines-requires c =
-    let k = told_count _ _ _ c.in-Accepted.ensures in
-    let n = count-length _ _ _ _ c.be16.ensures (omega (arith, c.if-out-size.false)) c.put_at.ensures in
+    let a = c.args.attributes.now in
+    let k = told_count (packed_check a) (length (packed a)) c.in-Accepted.n c.in-Accepted.ensures in
+    let n = count-length c.args.out.now c.put_at.new.out c.be16.result c.in-Accepted.n c.be16.ensures (omega (arith, c.if-out-size.false)) c.put_at.ensures in
     record {
       attributes_value = frames_of _ k.0;
       contents_value = omega (arith, k.1, count-high _ k.0, c.lines_length-contents.ensures);
