@@ -52,7 +52,7 @@ fn mask(block: &mut [u8; BLOCK], pad: u8)
 }
 
 // A key as it is kept for many messages: the hash values that the inner and the outer hash start with.
-#[derive(Drop)]
+#[derive(Clone, Copy)]
 pub struct Keyed {
     inner: [u32; 5],
     outer: [u32; 5],
