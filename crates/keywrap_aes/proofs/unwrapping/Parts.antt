@@ -11,6 +11,7 @@ use Rattle.refusal.specs.Checks.{Reason, Check, pass, refuse, bare, unless, ◌a
 use Rattle.refusal.specs.Answers.{buffer_after}
 use Rattle.refusal.proofs.Passing.{before-passed, last-passed, test_passed}
 use Rattle.slices.specs.Same.{same_list}
+use Rattle.slices.proofs.Copies.{copied_fits}
 use Rattle.slices.proofs.Lists.{copied-front}
 use Rattle.rfc3394.specs.Rfc3394.{initial_value, Registers, unwrap_registers, unwrapped_iv, unwrapped_key}
 use Rattle.rfc3394.proofs.Steps.{registers≡}
@@ -20,13 +21,13 @@ use Rattle.keywrap.proofs.Lengths.{passed-low, passed-high, copied_whole}
 
 -- ---- the tests
 
-pub unwrap_bounds : (m room : ℕ) (bytes : List ℕ) → m ≡ key_length bytes → (check23 m and_then check6 m room) ≡ pass
-    → (8 ≤ length bytes) × (key_length bytes ≤ 192) × (key_length bytes ≤ room)
-unwrap_bounds m room bytes h e =
-    let lo = passed-low m (before-passed _ _ e) in
-    let hi = passed-high m (before-passed _ _ e) in
-    let fits = leb-true m room (test_passed _ _ (last-passed _ _ e)) in
-    (omega arith, omega arith, omega arith)
+pub unwrap_bounds : (n room : ℕ) (bytes : List ℕ) → n ≡ key_length bytes → pass ≡ (check23 n and_then check6 n room)
+    → (8 ≤ length bytes) × (n ≤ 192) × (n ≤ room)
+unwrap_bounds n room bytes h e =
+    let lo = passed-low n (before-passed _ _ (sym e)) in
+    let hi = passed-high n (before-passed _ _ (sym e)) in
+    let fits = leb-true n room (test_passed _ _ (last-passed _ _ (sym e))) in
+    (omega arith, hi, fits)
 
 pub unwrap_refused : (m room : ℕ) (kek bytes : List ℕ) (x : Reason) → m ≡ key_length bytes → refuse x ≡ (check23 m and_then check6 m room)
     → refuse x ≡ unwrap_check kek bytes room
@@ -49,7 +50,7 @@ unwrap_settled m room kek bytes iv same k h e f g q =
 abbrev rest : List ℕ → List ℕ
 rest bytes = take (length bytes - 8) (drop 8 bytes)
 
-pub copied_rest : (bytes d r : List ℕ) → length d ≡ key_length bytes → r ≡ take (length (rest bytes)) (rest bytes) ++ drop (length (rest bytes)) d → r ≡ rest bytes
+pub copied_rest : (bytes d r : List ℕ) → length d ≡ key_length bytes → r ≡ take (length d) (rest bytes) ++ drop (length (rest bytes)) d → r ≡ rest bytes
 copied_rest bytes d r e h =
     copied_whole (rest bytes) d r (e ∙ sym (length-take-le (length bytes - 8) (drop 8 bytes) (simp length-drop (omega arith)))) h
 
@@ -74,9 +75,10 @@ module _ (n : ℕ) (z d : List ℕ) (h : length z ≡ n) where
   pub key-counted : n ≡ length (take n (z ++ d))
   key-counted = sym (ap length (take_at z d n h) ∙ h)
 
-  pub released : (m : ℕ) (f v out : List ℕ) (k : Check)
-      → f ≡ take (length (take n (z ++ d))) (take n (z ++ d)) ++ drop (length (take n (z ++ d))) out → z ≡ v → n ≡ m → pass ≡ k → f ≡ buffer_after k m v out
-  released m f v out k ef q e p =
-      copied-front (take n (z ++ d)) out ef
+  pub released : (m : ℕ) (f v out : List ℕ) (k : Check) → n ≤ length out
+      → f ≡ take (length out) (take n (z ++ d)) ++ drop (length (take n (z ++ d))) out → z ≡ v → n ≡ m → pass ≡ k → f ≡ buffer_after k m v out
+  released m f v out k room ef q e p =
+      let fits : length (take n (z ++ d)) ≤ length out = omega (arith, key-counted) in
+      copied-front (take n (z ++ d)) out (copied_fits (take n (z ++ d)) out fits ef)
       ∙ ap₂ (λ (l : List ℕ) (i : ℕ). l ++ drop i out) (take_at z d n h ∙ q) (sym key-counted ∙ e)
       ∙ ap (λ (x : Check). buffer_after x m v out) p

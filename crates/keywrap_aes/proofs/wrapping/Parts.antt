@@ -6,10 +6,11 @@ use Prim.Native.Nat.{ℕ, ◌+◌, ◌≤◌}
 use native.Mathlib.Omega.{arith}
 use borrow.Author.Tests.{leb-true}
 use borrow.Rule.Slice.PartMut.{mid_of, put_mid, same_len_mid}
-use lib.ListN.{length, take, drop, length-drop}
+use lib.ListN.{length, take, drop, length-append, length-drop}
 use lib.Seq.{take-length, take_at, drop_at, drop-drop, length-take-le}
 use Rattle.refusal.specs.Checks.{Reason, Check, pass, refuse, ◌and_then◌, check6}
 use Rattle.refusal.proofs.Passing.{before-passed, last-passed, test_passed}
+use Rattle.slices.proofs.Copies.{copied_fits}
 use Rattle.rfc3394.specs.Rfc3394.{initial_value, wrap_registers, wrapped}
 use Rattle.keywrap_aes.specs.Internal.{passes_of}
 use Rattle.keywrap.specs.Calls.{check23, wrap_check}
@@ -36,7 +37,7 @@ drop_part : (n k : ℕ) (l z : List ℕ) → n ≤ length l → drop n (put_mid 
 drop_part n k l z h = drop_at (take n l) (z ++ drop k (drop n l)) n (length-take-le n l h)
 
 module _ (kek key out : List ℕ) (k : ℕ) (z : List ℕ) (room : length key + 8 ≤ length out) (ek : k ≡ length key)
-    (hz : z ≡ take (length key) key ++ drop (length key) (mid_of 8 k out)) where
+    (hz : z ≡ take (length (mid_of 8 k out)) key ++ drop (length key) (mid_of 8 k out)) where
   ez : z ≡ key
   ez = copied_whole key (mid_of 8 k out) z (length-take-le k (drop 8 out) (simp length-drop (omega arith)) ∙ ek) hz
 
@@ -52,7 +53,7 @@ module _ (kek key out : List ℕ) (k : ℕ) (z : List ℕ) (room : length key + 
   pub wrapped-in-place : (a r f : List ℕ) → length a ≡ 8
       → a ≡ (passes_of false kek (initial_value, mid_of 8 k (put_mid 8 k out z))).0
       → r ≡ (passes_of false kek (initial_value, mid_of 8 k (put_mid 8 k out z))).1
-      → f ≡ take (length a) a ++ drop (length a) (put_mid 8 k (put_mid 8 k out z) r)
+      → f ≡ take (length (put_mid 8 k (put_mid 8 k out z) r)) a ++ drop (length a) (put_mid 8 k (put_mid 8 k out z) r)
       → f ≡ wrapped kek key ++ drop (length key + 8) out
   unfolding wrapped wrap_registers
   wrapped-in-place a r f la ea er ef =
@@ -63,7 +64,8 @@ module _ (kek key out : List ℕ) (k : ℕ) (z : List ℕ) (room : length key + 
       = drop_part 8 k w r l
       ∙ ap (λ (x : List ℕ). r ++ x)
       (ap (drop k) placed ∙ drop_at z (drop k (drop 8 out)) k z-length ∙ drop-drop k 8 out ∙ ap (λ (n : ℕ). drop n out) e8) in
-      ef
+      let fits : length a ≤ length (put_mid 8 k w r) = let s : length (take 8 w) ≡ 8 = length-take-le 8 w l in simp length-append (omega arith) in
+      copied_fits a (put_mid 8 k w r) fits ef
       ∙ ap₂ (λ (x y : List ℕ). x ++ y) (take-length a) (ap (λ (n : ℕ). drop n (put_mid 8 k w r)) la ∙ d)
       ∙ sym (append_assoc a r (drop (length key + 8) out))
       ∙ ap (λ (x : List ℕ). x ++ drop (length key + 8) out)
