@@ -3,7 +3,7 @@
 // expected lines; docs/VECTORS.md says where each comes from.
 #![tactic(auto)]
 
-ghost use Rattle.std.specs.Prelude.{◌≡◌, ◌≤◌, length};
+ghost use Rattle.std.specs.Prelude.{◌≤◌};
 
 use refusal::Answered;
 use sha1_block::compress_blocks;
@@ -284,10 +284,8 @@ fn within(n: usize, most: usize) -> usize
     if n <= most { n } else { most }
 }
 
-// 192 bytes, of which byte i is 7 i + 3 modulo 256. The clause gives the length alone, which lending its parts needs.
-fn counted() -> [u8; 192]
-    ensures { 192 ≡ length result }
-{
+// 192 bytes, of which byte i is 7 i + 3 modulo 256.
+fn counted() -> [u8; 192] {
     let mut r = [0u8; 192];
     for i in 0..192usize {
         r[i] = ((7 * i + 3) % 256) as u8;
