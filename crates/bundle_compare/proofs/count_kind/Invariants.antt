@@ -1,9 +1,6 @@
-use Prim.Native.Nat.{◌+◌, ◌-◌, ◌≤◌}
-use mathlib.Core.Path.{◌≡◌, ap, ◌∙◌}
-use native.Mathlib.Omega.{arith}
-use borrow.Author.Rules.{rules}
+use Prim.Native.Nat.{◌-◌, ◌≤◌}
+use mathlib.Core.Path.{◌≡◌}
 use Rattle.bundle_compare.specs.Internal.{count_to}
-use Rattle.bundle_compare.proofs.Tallying.{count_start, count-on, count_few}
 use Rattle.bundle_compare.proofs.count_kind.Given as goal
 
 abbrev pub invariant-loop-i : goal.invariant-loop-i

@@ -1,7 +1,5 @@
-use Prim.Native.Nat.{◌-◌, ◌≤◌, ◌<◌}
-use native.Mathlib.Omega.{arith}
-use Rattle.bundle_rules.specs.Bundle.{count_in}
-use Rattle.bundle_compare.proofs.Entries.{Listed, listed_start, listed-room, listed-on, listed-end}
+use Prim.Native.Nat.{◌-◌, ◌≤◌}
+use Rattle.bundle_compare.proofs.Entries.{Listed}
 use Rattle.bundle_compare.proofs.put_entries.Given as goal
 
 abbrev pub invariant-loop-i : goal.invariant-loop-i

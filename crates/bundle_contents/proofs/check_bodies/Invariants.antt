@@ -1,13 +1,7 @@
 use Prim.Native.Nat.{◌≤◌, ◌-◌}
-use mathlib.Core.Path.{◌≡◌, ap}
-use native.Mathlib.Nat.{sub-zero}
-use native.Mathlib.Omega.{arith}
-use Rattle.refusal.specs.Answers.{checked_as}
+use mathlib.Core.Path.{◌≡◌}
 use Rattle.bundle_rules.specs.Bundle.{lines_from, bodies_check}
 use Rattle.bundle_contents.specs.Internal.{Inside}
-use Rattle.bundle_contents.proofs.Contents.{id_long}
-use Rattle.bundle_contents.proofs.Bodies.{inside_here, inside_on, bodies-stop, bodies-on, bodies_done}
-use borrow.Author.Rules.{rules}
 use Rattle.bundle_contents.proofs.check_bodies.Given as goal
 
 abbrev pub invariant-loop-i : goal.invariant-loop-i

@@ -1,8 +1,5 @@
-use Prim.Native.Nat.{◌≤◌, ◌<◌, ◌-◌}
-use mathlib.Core.Path.{◌≡◌}
 use native.Mathlib.Omega.{arith}
-use Rattle.bundle_rules.specs.Bundle.{contents_end, lines_from, follow}
-use Rattle.bundle_contents.proofs.Walking.{follow_start, follow-on, follow-not, follow_all}
+use Rattle.bundle_contents.proofs.Walking.{follow-on, follow-not, follow_all}
 use Rattle.bundle_contents.proofs.follows.Goals as goal
 
 pub returns-then-offset-end : goal.returns-then-offset-end

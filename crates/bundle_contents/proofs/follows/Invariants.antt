@@ -1,8 +1,6 @@
 use Prim.Native.Nat.{◌≤◌, ◌<◌, ◌-◌}
 use mathlib.Core.Path.{◌≡◌}
-use native.Mathlib.Omega.{arith}
 use Rattle.bundle_rules.specs.Bundle.{contents_end, lines_from, follow}
-use Rattle.bundle_contents.proofs.Walking.{follow_start, follow-on, follow-not, follow_all}
 use Rattle.bundle_contents.proofs.follows.Given as goal
 
 abbrev pub invariant-loop-i : goal.invariant-loop-i

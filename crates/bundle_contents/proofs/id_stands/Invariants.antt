@@ -1,9 +1,6 @@
 use Prim.Native.Nat.{◌≤◌, ◌-◌}
-use mathlib.Core.Path.{◌≡◌, refl, sym}
-use native.Mathlib.Omega.{arith}
+use mathlib.Core.Path.{◌≡◌}
 use Rattle.bundle_rules.specs.Bundle.{id_stands, ids_of, lines_from}
-use Rattle.bundle_contents.proofs.Contents.{id_long}
-use Rattle.bundle_contents.proofs.Walking.{stands_on, stands-not}
 use Rattle.bundle_contents.proofs.id_stands.Given as goal
 
 abbrev pub invariant-loop-j : goal.invariant-loop-j

@@ -1,7 +1,7 @@
-use Rattle.std.proofs.Common.{refl, arith}
+use Rattle.std.proofs.Common.{arith}
 use Rattle.radius_attributes.proofs.Walking.{step_at_lem}
 use Rattle.bundle_writer.proofs.packing.Walking.{id_part, body_long}
-use Rattle.bundle_writer.proofs.Lines.{lined_start, lined_on, lined_end, lined_room, id_long}
+use Rattle.bundle_writer.proofs.Lines.{lined_on, lined_end}
 use Rattle.bundle_writer.proofs.put_lines.Goals as goal
 
 pub slice_bounds-put_line-end : goal.slice_bounds-put_line-end

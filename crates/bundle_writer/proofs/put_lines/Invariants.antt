@@ -1,11 +1,7 @@
-use Prim.Native.Nat.{◌+◌, ◌≤◌, ◌-◌}
-use mathlib.Core.Path.{refl}
-use native.Mathlib.Omega.{arith}
+use Prim.Native.Nat.{◌-◌}
 use lib.ListN.{length}
-use Rattle.bundle_rules.specs.Bundle.{contents_end, packed}
-use Rattle.radius_attributes.proofs.Walking.{Step, step_at_lem}
-use Rattle.bundle_writer.proofs.packing.Walking.{id_part, body_long}
-use Rattle.bundle_writer.proofs.Lines.{Lined, lined_start, lined_on, lined_end, lined_room, id_long}
+use Rattle.bundle_rules.specs.Bundle.{packed}
+use Rattle.bundle_writer.proofs.Lines.{Lined}
 use Rattle.bundle_writer.proofs.put_lines.Given as goal
 
 abbrev pub invariant-loop-at : goal.invariant-loop-at

@@ -3,7 +3,7 @@ use Rattle.std.proofs.Common.{◌≡◌, ◌+◌, length, arith}
 use Rattle.refusal.proofs.Answering.{told_count, told_refusal}
 use Rattle.bundle_rules.specs.Bundle.{contents_end, packed, packed_check}
 use Rattle.bundle_writer.proofs.Parts.{count-length}
-use Rattle.bundle_writer.proofs.Writing.{frames_of, count-high, bytes_few, write_early, write-room, write_refused, write_all}
+use Rattle.bundle_writer.proofs.Writing.{frames_of, count-high, write_early, write-room, write_refused, write_all}
 use Rattle.bundle_writer.proofs.write.Goals as goal
 
 pub returns-then-out-size : goal.returns-then-out-size

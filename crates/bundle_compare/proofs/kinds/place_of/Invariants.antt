@@ -1,11 +1,7 @@
 use Prim.Native.Nat.{◌-◌, ◌≤◌}
-use mathlib.Core.Path.{◌≡◌, sym}
-use native.Mathlib.Nat.{sub-zero}
-use native.Mathlib.Omega.{arith}
-use borrow.Author.Rules.{rules}
+use mathlib.Core.Path.{◌≡◌}
 use Rattle.bundle_rules.specs.Bundle.{lines_from}
 use Rattle.bundle_compare.specs.Internal.{place_of, place_in}
-use Rattle.bundle_compare.proofs.kinds.Searching.{place-on, place_end}
 use Rattle.bundle_compare.proofs.kinds.place_of.Given as goal
 
 abbrev pub invariant-loop-j : goal.invariant-loop-j

@@ -1,7 +1,6 @@
 use Prim.Native.Nat.{◌-◌, ◌≤◌}
-use native.Mathlib.Omega.{arith}
 use Rattle.bundle_compare.specs.Internal.{kind_at}
-use Rattle.bundle_compare.proofs.kinds.Filling.{Filled, fill_start, fill_on, fill_end}
+use Rattle.bundle_compare.proofs.kinds.Filling.{Filled}
 use Rattle.bundle_compare.proofs.kinds.put_kinds.Given as goal
 
 abbrev pub invariant-loop-i : goal.invariant-loop-i

@@ -1,7 +1,6 @@
 -- By what the shared function says: 0 is an attribute that is cut.
 use mathlib.Core.Path.{sym, ◌∙◌}
 use Rattle.radius_attributes.proofs.Lengths.{zero_cut, some_whole, length_cut, length_whole}
-use borrow.Author.Rules.{rules}
 use Rattle.bundle_writer.proofs.packing.body_length.Goals as goal
 
 pub returns-then-size-eq0 : goal.returns-then-size-eq0

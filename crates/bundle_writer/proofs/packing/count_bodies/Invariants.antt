@@ -1,13 +1,7 @@
 use Prim.Native.Nat.{◌+◌, ◌≤◌, ◌-◌}
-use mathlib.Core.Path.{◌≡◌, refl, sym, ap, ◌∙◌}
-use native.Mathlib.Omega.{arith}
-use borrow.Author.Rules.{rules}
+use mathlib.Core.Path.{◌≡◌}
 use lib.ListN.{length, drop}
-use Rattle.refusal.specs.Answers.{checked_as}
 use Rattle.bundle_rules.specs.Bundle.{packed, frames_check}
-use Rattle.radius_attributes.proofs.Walking.{Step, step}
-use Rattle.bundle_writer.proofs.packing.Walking.{frames_stop, frames_on, frames_end, count-on, count_end}
-use Rattle.bundle_writer.proofs.packing.Testing.{told, refused-count}
 use Rattle.bundle_writer.proofs.packing.count_bodies.Given as goal
 
 abbrev pub invariant-loop-at : goal.invariant-loop-at

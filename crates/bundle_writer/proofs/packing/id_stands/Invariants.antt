@@ -1,14 +1,9 @@
-use Prim.Native.Nat.{◌+◌, ◌≤◌, ◌-◌}
-use mathlib.Core.Path.{◌≡◌, refl, sym, ◌∙◌}
-use native.Mathlib.Omega.{arith}
-use borrow.Author.Rules.{rules}
+use Prim.Native.Nat.{◌≤◌, ◌-◌}
+use mathlib.Core.Path.{◌≡◌}
 use lib.ListN.{length, drop}
 use mathlib.Core.List.{map}
 use Rattle.refusal.specs.Checks.{pass}
 use Rattle.bundle_rules.specs.Bundle.{key_id_in, id_stands, packed, frames_check}
-use Rattle.radius_attributes.specs.Attributes.{attribute_length}
-use Rattle.radius_attributes.proofs.Walking.{Step, step_at_lem}
-use Rattle.bundle_writer.proofs.packing.Walking.{later_pass, id_part, body_long, stands_here, stands_on, stands-not}
 use Rattle.bundle_writer.proofs.packing.id_stands.Given as goal
 
 abbrev pub invariant-loop-at : goal.invariant-loop-at
