@@ -14,7 +14,7 @@ pub use numbers::{number, place};
 // Why a call refuses. A refusal is document 01's term: a numbered answer that leaves every lent buffer as it was. The variants stand in the order
 // of their numbers: 1 to 28 are those of document 01, 29 to 50 those of document 02, with the request in brackets.
 // `reason_of` of specs/Answers.antt gives each its number, and the position or offset that it carries.
-#[derive(Drop)]
+#[derive(Clone, Copy)]
 pub enum Refusal {
     // root key (EMSK, VRK, VMSK) or MAC key (8) not 64 to 128 bytes; the parent of RFC 5296's key not 64 bytes (6)
     RootKeyLength,
@@ -119,14 +119,14 @@ pub enum Refusal {
 }
 
 // What the tests of a call come to: all passed, or the first that did not.
-#[derive(Drop)]
+#[derive(Clone, Copy)]
 pub enum Checked {
     Passed,
     Failed(Refusal),
 }
 
 // What a call answers: a number, as a rule the count of what it wrote, or a refusal.
-#[derive(Drop)]
+#[derive(Clone, Copy)]
 pub enum Answered {
     Accepted(usize),
     Refused(Refusal),
