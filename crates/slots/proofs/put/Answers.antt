@@ -1,6 +1,7 @@
 use borrow.Author.Rules.{rules}
 use mathlib.Core.Path.{◌≡◌, sym, ap, ◌∙◌}
 use Prim.Native.Nat.{ℕ, ◌<◌}
+use native.Mathlib.Omega.{arith}
 use Rattle.refusal.specs.declared.Checked.{Checked}
 use Rattle.refusal.specs.declared.Checked.TheVariants.{Passed}
 use Rattle.slot_rules.specs.declared.Slots.{Slots}
@@ -29,12 +30,12 @@ mask-requires c =
 pub bounds-next-at : goal.bounds-next-at
 bounds-next-at c =
     let f : Fits c.args.slots = search (rules, length_mapped) in
-    below c.args.slots c.args.parent _ f c.check_put-check.ensures c.in-Passed.is c.lowest_free-number.ensures
+    let h = below c.args.slots c.args.parent _ f c.check_put-check.ensures c.in-Passed.is c.lowest_free-number.ensures in omega arith
 
 pub bounds-next-at-in-Passed : goal.bounds-next-at-in-Passed
 bounds-next-at-in-Passed c =
     let f : Fits c.args.slots = search (rules, length_mapped) in
-    below c.args.slots c.args.parent _ f c.check_put-check.ensures c.in-Passed.is c.lowest_free-number.ensures
+    let h = below c.args.slots c.args.parent _ f c.check_put-check.ensures c.in-Passed.is c.lowest_free-number.ensures in omega arith
 
 pub parent_byte-requires : goal.parent_byte-requires
 parent_byte-requires c =
