@@ -12,7 +12,7 @@ use radius_attributes::size_in;
 use refusal::{Answered, Checked, Refusal};
 
 // What the walk finds: whether every attribute is whole, how many are of the type, and the offset of the first of those, else 0.
-#[derive(Drop)]
+#[derive(Clone, Copy)]
 struct Found {
     whole: bool,
     count: usize,

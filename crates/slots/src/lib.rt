@@ -18,7 +18,7 @@ use tree::{check_parent, gone};
 
 // What a call answers, a put the number of its slot and a drop how many went, and the slots after it. A call makes one copy of the slots, changes it or
 // not, and returns it at its end: where a refusal returns its argument by a way of its own, the compiler keeps three copies on the stack.
-#[derive(Drop)]
+#[derive(Clone, Copy)]
 pub struct After {
     pub answer: Answered,
     pub slots: Slots,
