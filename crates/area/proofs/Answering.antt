@@ -1,7 +1,7 @@
 -- Laws of the call: what it answers and leaves in the buffer, by the chosen way and by what its walk came to.
 use Prim.Native.Nat.{ℕ, ◌≤◌, ◌<◌}
 use mathlib.Core.Path.{◌≡◌, refl, sym}
-use mathlib.Core.Bool.{Bool, true, false, not}
+use mathlib.Core.Bool.{true, false}
 use mathlib.Core.List.{List, [], ◌++◌}
 use borrow.Author.Tests.{le-leb, lt-leb}
 use lib.ListN.{length, drop}
@@ -11,15 +11,6 @@ use Rattle.area_format.specs.declared.Name.TheVariants.{Missing}
 use Rattle.area_format.specs.declared.Way.{Way}
 use Rattle.area_format.specs.declared.Way.TheVariants.{Strict, Lenient}
 use Rattle.area.specs.Internal.{allowed}
-
--- the test of the way, which the code makes the other way round
-pub was_false : (b : Bool) → not b ≡ true → b ≡ false
-was_false true e = sym e
-was_false false e = refl
-
-pub was_true : (b : Bool) → not b ≡ false → b ≡ true
-was_true true e = refl
-was_true false e = sym e
 
 -- what a way makes of a reading
 still_refused : (way : Way) (area own : List ℕ) (x : Reason) → judged way area own (refusal x) ≡ refusal x

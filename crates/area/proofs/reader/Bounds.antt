@@ -1,6 +1,6 @@
 -- What an attribute within the area has, and the attributes that follow it.
 use Prim.Native.Nat.{ℕ, zero, suc, ◌+◌, ◌≤◌, ◌<◌}
-use mathlib.Core.Path.{◌≡◌, refl, ◌∙◌}
+use mathlib.Core.Path.{◌≡◌, refl, ap, ◌∙◌}
 use mathlib.Core.Bool.{true, false}
 use mathlib.Core.List.{List, [], ◌∷◌}
 use native.Mathlib.Omega.{arith}
@@ -11,6 +11,8 @@ use lib.Dec.{leb}
 use Rattle.slices.proofs.Truth.{and_left, and_right}
 use Rattle.area.proofs.reader.Attributes.{long_enough}
 use Rattle.area_format.specs.Area.{words_of, in_bytes, in_bounds, attributes_from}
+use Rattle.area_format.specs.declared.Bytes.{Bytes}
+use Rattle.area_format.specs.declared.Words.{Words}
 
 -- passing what is left of an attribute
 pub passed : (left at : ℕ) (bytes : List ℕ) → attributes_from left at bytes ≡ attributes_from 0 (at + left) (drop left bytes)
@@ -29,6 +31,10 @@ not-empty bytes h = leb-true _ _ (and_left _ _ (and_right (leb 2 (length bytes))
 pub not_past : (bytes : List ℕ) → in_bounds bytes ≡ true → (in_bytes (words_of bytes)).0 ≤ length bytes
 unfolding in_bounds
 not_past bytes h = leb-true _ _ (and_right (leb 1 (words_of bytes).0) _ (and_right (leb 2 (length bytes)) _ h))
+
+-- the bytes that its length in words takes
+pub size_of : (bytes : List ℕ) (w : Words) (b : Bytes) → w ≡ words_of bytes → b ≡ in_bytes w → b.0 ≡ (in_bytes (words_of bytes)).0
+size_of bytes w b e f = ap (λ (b : Bytes). b.0) (f ∙ ap in_bytes e)
 
 -- with four bytes, the tests of its length
 pub no_length : (bytes : List ℕ) → 4 ≤ length bytes → (words_of bytes).0 ≡ 0 → in_bounds bytes ≡ false
