@@ -19,6 +19,7 @@ const FC: u8 = 0x20;
 const MATERIAL: usize = 208;
 
 // The tests that come before that of the room: 43, 44, 45.
+#[tactic(auto, unfolding(crate::specs::Rfc5448::input_check))]
 fn check_inputs(ck: &[u8], ik: &[u8], name: &[u8], sqn_xor_ak: &[u8], identity: &[u8]) -> Checked
     ensures { checked_as result ≡ input_check ck.now ik.now name.now sqn_xor_ak.now identity.now }
 {
