@@ -1,6 +1,6 @@
 -- Requests with different identifiers hand different bytes to HMAC. The first two bytes of an input give the iteration; one label has one length, and
 -- so the contexts stand in the same place; the lengths of the identifiers take these apart.
-use Prim.Native.Nat.{ℕ, ◌≤◌, ◌%◌}
+use Prim.Native.Nat.{ℕ, ◌%◌}
 use mathlib.Core.Path.{◌≡◌, refl, sym, ap, ◌∙◌}
 use mathlib.Core.List.{List, ◌++◌}
 use native.Mathlib.Omega.{arith}
