@@ -16,5 +16,5 @@ returns c =
     let r : Request = for_usage s.label.now s.«data».now s.n room in
     record {
       answer = answer_by s.n tests c.expand.ensures.answer;
-      buffer = buffer_by s.n (key_of s.emsk.now r) s.out.now tests (rw c.be16-size.ensures at c.expand.ensures.buffer)
+      buffer = buffer_by s.n (key_of s.emsk.now r) s.out.now tests (rw c.be16-size.ensures at c.expand.ensures.buffer);
     }
