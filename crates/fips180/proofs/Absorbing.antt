@@ -4,17 +4,16 @@ use mathlib.Core.Path.{◌≡◌, refl, sym, ap, ◌∙◌}
 use mathlib.Core.Bool.{Bool, true, false, cond}
 use mathlib.Core.List.{List, [], ◌∷◌, ◌++◌}
 use Prim.Native.Nat.{ℕ, zero, suc, ◌+◌, ◌-◌, ◌*◌, ◌/◌, ◌%◌, ◌^◌, ◌<◌, ◌≤◌}
-use native.Mathlib.Nat.{zero-add, le_refl}
+use native.Mathlib.Nat.{le_refl}
 use native.Mathlib.Numerals.{add-one}
 use native.Mathlib.Omega.{arith}
 use lib.Dec.{eqb, lit<}
-use lib.ListN.{length, get_or, take, drop, set, replicate, length-drop, length-set}
-use lib.Seq.{sets, sets-eq, paste, length-paste, take-length, take_all, drop-drop, length-take-le}
+use lib.ListN.{length, get_or, take, drop, set, length-drop, length-set}
+use lib.Seq.{sets, sets-eq, paste, length-paste, take-length, length-take-le}
 use Rattle.slices.proofs.Lists.{rest-drop}
 use Rattle.fips180.specs.Hash.{blocks_by, hash_by}
 use Rattle.fips180.specs.Stream.{Progress, started, absorbByte, absorbedBy, finishedBy}
 use Rattle.fips180.specs.Internal.{closing_by, begun_block}
-use Rattle.fips180.proofs.Blocks.{one_block}
 use Rattle.fips180.proofs.Stream.{empty, absorbed-append, part, starting, across, finished-closing, stream-is-hash}
 
 paste_sets : (d s : List ℕ) (a : ℕ) → a + length s ≤ length d → paste d a s (length s) ≡ sets d a s

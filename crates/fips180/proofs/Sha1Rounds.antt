@@ -1,6 +1,5 @@
 -- The function and the constant of SHA-1's round t: the standard's four cases.
-use mathlib.Core.Path.{◌≡◌}
-use Prim.Native.Nat.{ℕ, ◌<◌, ◌≤◌}
+use Prim.Native.Nat.{◌<◌, ◌≤◌}
 use native.Mathlib.Omega.{arith}
 use borrow.Author.Tests.{lt-ltb, le-ltb}
 use Rattle.fips180.specs.Words.{Ch, Maj}

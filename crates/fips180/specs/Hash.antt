@@ -1,6 +1,6 @@
 -- FIPS 180-4: the padding of a message, its blocks and its hash, for any compression of blocks of 64 bytes, and the words of a block's
 -- schedule, for any rule of the next word. Messages are whole bytes.
-use Rattle.std.specs.Prelude.{List, [], ◌∷◌, ◌++◌, ℕ, zero, suc, ◌+◌, ◌-◌, ◌*◌, ◌/◌, ◌%◌, ◌^◌, length, take, drop, replicate}
+use Rattle.std.specs.Prelude.{List, [], ◌∷◌, ◌++◌, ℕ, zero, suc, ◌-◌, ◌*◌, ◌/◌, ◌%◌, ◌^◌, length, take, drop, replicate}
 use Rattle.slices.specs.Numbers.{be64}
 
 -- 5.1.1: the count of zero bytes in the padding of a message of n bytes. `FewestZeros` of Statements.antt is the standard's text

@@ -1,6 +1,6 @@
 -- FIPS 180-4 (Secure Hash Standard): what it says of words for SHA-1 and SHA-256 alike, with its section numbers.
 -- A word is a number below 2 ^ 32 and a byte one below 256.
-use Rattle.std.specs.Prelude.{List, ℕ, ◌+◌, ◌-◌, ◌*◌, ◌/◌, ◌%◌, ◌^◌}
+use Rattle.std.specs.Prelude.{List, ℕ, ◌-◌, ◌*◌, ◌/◌, ◌%◌, ◌^◌}
 use Rattle.std.specs.Int.Bits.{bit_and, bit_or, bit_xor}
 use Rattle.slices.specs.Numbers.{be32_at}
 
