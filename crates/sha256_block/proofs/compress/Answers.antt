@@ -1,7 +1,6 @@
 -- `sha256_block::compress` meets its contract: after g groups, g times sixteen rounds are done, and the words are those of the last group.
-use Rattle.std.proofs.Common.{◌≡◌, ℕ, ◌-◌, ◌*◌, ◌≤◌, ap, ◌∙◌, arith, rules}
+use Rattle.std.proofs.Common.{◌≡◌, ℕ, ◌*◌, ap, ◌∙◌, arith}
 use Rattle.fips180.specs.Sha256.{rounds}
-use Rattle.sha256_block.specs.Internal.{window}
 use Rattle.sha256_block.proofs.Rounds.{group, kept, no_round, all_rounds}
 use Rattle.sha256_block.proofs.compress.Goals as goal
 

@@ -1,7 +1,6 @@
-use Rattle.std.proofs.Common.{◌≡◌, ℕ, ◌-◌, ◌*◌, ◌≤◌, ap, ◌∙◌, arith, rules}
+use Rattle.std.proofs.Common.{◌≡◌, ◌-◌, ◌*◌, ◌≤◌}
 use Rattle.fips180.specs.Sha256.{rounds}
 use Rattle.sha256_block.specs.Internal.{window}
-use Rattle.sha256_block.proofs.Rounds.{group, kept, no_round, all_rounds}
 use Rattle.sha256_block.proofs.compress.Given as goal
 
 abbrev pub invariant-loop-g : goal.invariant-loop-g

@@ -1,6 +1,5 @@
-use Rattle.std.proofs.Common.{◌≡◌, ℕ, ◌-◌, ◌*◌, ◌≤◌, length, refl, subst, arith, rules}
+use Rattle.std.proofs.Common.{◌≡◌, ◌-◌, ◌*◌, ◌≤◌, length}
 use Rattle.sha256_block.specs.Internal.{ConstantsFrom}
-use Rattle.sha256_block.proofs.Rounds.{put-constant}
 use Rattle.sha256_block.proofs.group_constants.Given as goal
 
 abbrev pub invariant-loop-j : goal.invariant-loop-j

@@ -1,5 +1,4 @@
 -- `sha256_block::load` meets its contract: each word of the block is the schedule's (`loaded` of fips180).
-use Rattle.std.proofs.Common.{le_trans, lit≤}
 use Rattle.fips180.specs.Words.{word}
 use Rattle.fips180.specs.Sha256.{W}
 use Rattle.fips180.proofs.Sha256Schedule.{early}

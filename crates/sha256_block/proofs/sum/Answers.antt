@@ -1,5 +1,5 @@
 -- `sha256_block::sum` meets its contract: word by word, from `add`'s answers.
-use Rattle.std.proofs.Common.{[], ◌∷◌, rules}
+use Rattle.std.proofs.Common.{[], ◌∷◌}
 use Rattle.fips180.specs.Sha256.{sums}
 use Rattle.sha256_block.proofs.sum.Goals as goal
 

@@ -1,5 +1,5 @@
 -- `sha256_block::round::next_word` meets its contract: the sum of four, from its callees' answers.
-use Rattle.std.proofs.Common.{◌+◌, ◌%◌, ◌^◌, ◌∙◌, rules}
+use Rattle.std.proofs.Common.{◌+◌, ◌%◌, ◌^◌, ◌∙◌}
 use Rattle.fips180.specs.Sha256.{next_w}
 use Rattle.sha256_block.proofs.round.next_word.Goals as goal
 

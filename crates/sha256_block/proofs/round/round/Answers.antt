@@ -1,6 +1,5 @@
 -- `sha256_block::round::round` meets its contract: the eight variables, from its callees' answers.
 use Rattle.fips180.specs.Sha256.{round}
-use Rattle.std.proofs.Common.{rules}
 use Rattle.sha256_block.proofs.round.round.Goals as goal
 
 pub returns : goal.returns

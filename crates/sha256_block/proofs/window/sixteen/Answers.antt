@@ -1,6 +1,5 @@
 -- `sha256_block::window::sixteen` meets its contract: each round goes on from the one before (proofs/Rounds.antt, `more`).
 use Rattle.sha256_block.proofs.window.Rounds.{none, more}
-use Rattle.std.proofs.Common.{rules}
 use Rattle.sha256_block.proofs.window.sixteen.Goals as goal
 
 pub returns : goal.returns
