@@ -2,10 +2,9 @@
 use mathlib.Core.Path.{◌≡◌, refl, sym, ap, ◌∙◌}
 use mathlib.Core.List.{List, [], ◌∷◌, ◌++◌, append_assoc, append-nil}
 use Prim.Native.Nat.{ℕ, zero, suc, ◌+◌, ◌-◌, ◌*◌, ◌/◌, ◌%◌, ◌^◌, ◌<◌, ◌≤◌}
-use native.Mathlib.Numerals.{add-one}
 use native.Mathlib.Omega.{arith}
-use lib.ListN.{length, take, drop, replicate, set, length-set, length-append, length-replicate, get_or-replicate, replicate-append-replicate, drop_of_length-le}
-use lib.Seq.{sets-eq, paste, paste-zero, paste-suc, take-suc-set, take-append-add, take_at, drop_at, take_all, length-take-le}
+use lib.ListN.{length, take, replicate, set, length-append, length-replicate, get_or-replicate, replicate-append-replicate, drop_of_length-le}
+use lib.Seq.{sets-eq, paste, paste-suc, take-append-add, take_at, drop_at, take_all, length-take-le}
 use Rattle.slices.specs.Numbers.{be64}
 use Rattle.fips180.specs.Hash.{padding, blocks_by}
 use Rattle.fips180.specs.Internal.{closing_by}
@@ -18,11 +17,6 @@ take-replicate (suc z) zero h = absurd (omega arith)
 take-replicate (suc z) (suc m) h = ap (λ (l : List ℕ). 0 ∷ l) (take-replicate z m (omega arith))
 
 -- ---- `mark`: a byte 0x80 at index a, and zeros after it
-
-pub mark_none : (d : List ℕ) (a : ℕ) → d ≡ paste d (a + 1) (replicate (63 - a) 0) (a + 1 - (a + 1))
-mark_none d a =
-    let e : 0 ≡ a + 1 - (a + 1) = omega arith in
-    paste-zero d (a + 1) (replicate (63 - a) 0) ∙ ap (paste d (a + 1) (replicate (63 - a) 0)) e
 
 pub mark_turn : (d : List ℕ) (a j : ℕ) {b : List ℕ} → length d ≡ 64 → a < j → j < 64 → b ≡ paste d (a + 1) (replicate (63 - a) 0) (j - (a + 1))
     → set b j 0 ≡ paste d (a + 1) (replicate (63 - a) 0) (j + 1 - (a + 1))
@@ -44,21 +38,6 @@ mark_turn d a j l h k e =
 
     inside : (a j x : ℕ) → x ≡ 64 → a < j → j < 64 → a + 1 + (j - (a + 1)) < x
     inside a j x e h k = omega arith
-
-pub mark_done : (d : List ℕ) (a j : ℕ) {b : List ℕ} → length d ≡ 64 → a < 64 → j ≡ 64 → b ≡ paste (set d a 0x80) (a + 1) (replicate (63 - a) 0) (j - (a + 1))
-    → b ≡ take a d ++ (0x80 ∷ replicate (63 - a) 0)
-mark_done d a j l h ej e =
-    let z : List ℕ = replicate (63 - a) 0 in
-    let t : take (a + 1) (set d a 0x80) ≡ take a d ++ (0x80 ∷ []) = ap (λ (n : ℕ). take n (set d a 0x80)) (add-one a) ∙ take-suc-set d a 0x80 (omega arith) in
-    let u : take (j - (a + 1)) z ≡ z = take_all (j - (a + 1)) z (fits (length z) a j (length-replicate (63 - a) 0) ej) in
-    let v : drop (a + 1 + (j - (a + 1))) (set d a 0x80) ≡ [] = drop_of_length-le (set d a 0x80) {i = a + 1 + (j - (a + 1))} (simp length-set (end (length d) a j l h ej)) in
-    e ∙ (λ i. t i ++ u i ++ v i) ∙ append-nil (take a d ++ (0x80 ∷ []) ++ z) ∙ append_assoc (take a d) (0x80 ∷ []) z
-  where
-    fits : (x a j : ℕ) → x ≡ 63 - a → j ≡ 64 → x ≤ j - (a + 1)
-    fits x a j e h = omega arith
-
-    end : (x a j : ℕ) → x ≡ 64 → a < 64 → j ≡ 64 → x ≤ a + 1 + (j - (a + 1))
-    end x a j e h k = omega arith
 
 -- ---- `put_length`: the count of bits, by its bytes
 

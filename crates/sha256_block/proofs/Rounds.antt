@@ -1,19 +1,9 @@
 -- Sixteen rounds at a time: the rounds of a group, and the four groups of a block.
-use Rattle.std.proofs.Common.{◌≡◌, ℕ, zero, suc, ◌+◌, ◌-◌, ◌*◌, ◌/◌, ◌%◌, ◌<◌, ◌≤◌, List, length, get_or, set, sym, refl, ap, ◌∙◌, add-zero, add-suc, arith}
-use Rattle.tables.proofs.Filled.{filled_of}
+use Rattle.std.proofs.Common.{◌≡◌, ℕ, zero, suc, ◌+◌, ◌-◌, ◌*◌, ◌/◌, ◌%◌, ◌<◌, ◌≤◌, List, get_or, sym, refl, ap, ◌∙◌, add-zero, add-suc, arith}
 use Rattle.fips180.proofs.Window.{window_at}
 use Rattle.fips180.specs.Sha256.{K, W, round, rounds, sums, compress}
 use Rattle.sha256_block.specs.Internal.{window, ConstantsFrom, runs}
 use Rattle.sha256_block.specs.Statements.{WordInPlace, RoundByWindow}
-
--- a turn of the loop that looks up the constants of a group: the one at j is stored
-module _ (g j : ℕ) (k : List ℕ) (x : ℕ) (lt : j < 16) (few : g < 4) (len : length k ≡ 16) where
-  round_number : (g * 16 + j) % 64 ≡ g * 16 + j
-  round_number = omega arith
-
-  pub put-constant : ConstantsFrom (g * 16) j k → x ≡ get_or K ((g * 16 + j) % 64) 0 → (length (set k j x) ≡ 16) × ConstantsFrom (g * 16) (j + 1) (set k j x)
-  put-constant before e =
-      filled_of (λ (i y : ℕ). y ≡ get_or K (g * 16 + i) 0) k j x 0 16 lt len (e ∙ ap (λ (m : ℕ). get_or K m 0) round_number) before
 
 -- sixteen rounds from round t on, from the state and the words that they find
 module _ (h b k : List ℕ) (t : ℕ) (constants : ConstantsFrom t 16 k) where

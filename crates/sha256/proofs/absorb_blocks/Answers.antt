@@ -1,5 +1,5 @@
 -- `sha256::absorb_blocks` meets its contract: the full block, the whole blocks after it, and the rest.
-use Rattle.std.proofs.Common.{ℕ, ◌/◌, List, length, ap, ◌∙◌, rules}
+use Rattle.std.proofs.Common.{ℕ, ◌/◌, List, length, ap, ◌∙◌}
 use Rattle.fips180.proofs.Blocks.{one_block}
 use Rattle.fips180.specs.Sha256.{compress, blocks}
 use Rattle.sha256.proofs.absorb_blocks.Goals as goal

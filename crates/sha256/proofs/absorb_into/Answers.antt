@@ -1,7 +1,7 @@
 -- `sha256::absorb_into` meets its contract: bytes that leave the block short of full (`part-law` of fips180), or those that put it, the whole
 -- blocks after them, and the rest (`over-law`).
-use Rattle.std.proofs.Common.{◌≡◌, ◌+◌, ◌%◌, ◌^◌, ◌<◌, ◌≤◌, length, sym, arith, length-take, length-take-le, take_all, rules}
-use Rattle.fips180.proofs.Absorbing.{part-law, over-law, filled-length}
+use Rattle.std.proofs.Common.{◌≡◌, ◌+◌, ◌%◌, ◌^◌, ◌<◌, ◌≤◌, length, arith, take_all, rules}
+use Rattle.fips180.proofs.Absorbing.{part-law, over-law}
 use Rattle.slices.proofs.Lists.{rest-drop}
 use Rattle.fips180.specs.Sha256.{compress}
 use Rattle.sha256.specs.Internal.{parts}

@@ -1,6 +1,6 @@
 -- `sha256::close` meets its contract: one block more, or two (proofs/Closing.antt of fips180).
-use Rattle.std.proofs.Common.{◌≡◌, ◌%◌, ◌≤◌, length, arith, rules}
-use Rattle.fips180.proofs.Closing.{mark_kept, close-one, close-two}
+use Rattle.std.proofs.Common.{◌≡◌, ◌%◌, ◌≤◌, length, arith}
+use Rattle.fips180.proofs.Closing.{close-one, close-two}
 use Rattle.fips180.specs.Sha256.{compress}
 use Rattle.sha256.proofs.close.Goals as goal
 

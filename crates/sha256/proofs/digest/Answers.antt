@@ -1,6 +1,6 @@
 -- `sha256::digest` meets its contract: the whole blocks from the message itself, the bytes after them from a block (`at_once` of fips180).
-use Rattle.std.proofs.Common.{◌^◌, ◌<◌, length, ap, ◌∙◌, arith, rules}
-use Rattle.fips180.proofs.Absorbing.{begun_length, at_once}
+use Rattle.std.proofs.Common.{◌^◌, ◌<◌, length, arith}
+use Rattle.fips180.proofs.Absorbing.{at_once}
 use Rattle.fips180.specs.Sha256.{compress, H0, digest, sha256}
 use Rattle.sha256.proofs.digest.Goals as goal
 

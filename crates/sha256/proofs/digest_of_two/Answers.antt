@@ -1,7 +1,7 @@
 -- `sha256::digest_of_two` meets its contract: what is absorbed in two parts is absorbed joined.
 use Rattle.std.proofs.Common.{◌^◌, ◌<◌, ◌++◌, sym, refl, ap, ◌∙◌, rules}
 use Rattle.fips180.specs.Stream.{Progress}
-use Rattle.fips180.proofs.Absorbing.{block-kept, closed-law}
+use Rattle.fips180.proofs.Absorbing.{closed-law}
 use Rattle.fips180.proofs.Stream.{absorbed-append}
 use Rattle.fips180.specs.Sha256.{compress, H0, digest}
 use Rattle.sha256.specs.Stream.{started, absorbed}

@@ -1,5 +1,5 @@
 -- The digest, written word by word.
-use Rattle.std.proofs.Common.{◌≡◌, ℕ, zero, suc, ◌+◌, ◌-◌, ◌*◌, ◌<◌, ◌≤◌, List, ◌++◌, length, get_or, take, drop, replicate, refl, ap, ◌∙◌, arith}
+use Rattle.std.proofs.Common.{◌≡◌, ℕ, zero, suc, ◌+◌, ◌-◌, ◌*◌, ◌<◌, List, ◌++◌, length, get_or, take, drop, replicate, refl, ap, ◌∙◌, arith}
 use Rattle.std.proofs.Math.Seq.{paste}
 use Rattle.slices.specs.Numbers.{be32}
 use Rattle.fips180.specs.Sha256.{digest}
@@ -8,19 +8,6 @@ use Rattle.slices.proofs.Copies.{copied_part}
 -- the digest's first j words, and zeros after them
 unfoldable pub written : List ℕ → ℕ → List ℕ
 written h j = take (4 * j) (digest h) ++ replicate (32 - 4 * j) 0
-
-pub written-length : (h : List ℕ) (j : ℕ) → j ≤ 8 → length (written h j) ≡ 32
-unfolding written digest
-written-length h zero l = refl
-written-length h (suc zero) l = refl
-written-length h (suc (suc zero)) l = refl
-written-length h (suc (suc (suc zero))) l = refl
-written-length h (suc (suc (suc (suc zero)))) l = refl
-written-length h (suc (suc (suc (suc (suc zero))))) l = refl
-written-length h (suc (suc (suc (suc (suc (suc zero)))))) l = refl
-written-length h (suc (suc (suc (suc (suc (suc (suc zero))))))) l = refl
-written-length h (suc (suc (suc (suc (suc (suc (suc (suc zero)))))))) l = refl
-written-length h (suc (suc (suc (suc (suc (suc (suc (suc (suc j))))))))) l = absurd (omega arith)
 
 one_word : (h : List ℕ) (j : ℕ) → j < 8 → paste (written h j) (4 * j) (be32 (get_or h j 0)) 4 ≡ written h (j + 1)
 unfolding written digest

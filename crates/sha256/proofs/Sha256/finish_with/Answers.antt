@@ -1,9 +1,8 @@
 -- `sha256::Sha256::finish_with` meets its contract. The loop's invariant: the first j parts are absorbed.
-use Rattle.std.proofs.Common.{◌≡◌, ℕ, ◌-◌, ◌^◌, ◌<◌, ◌≤◌, List, [], ◌∷◌, length, take, refl, ap, ◌∙◌, arith, rules}
+use Rattle.std.proofs.Common.{◌≡◌, ℕ, ◌^◌, ◌<◌, List, [], ◌∷◌, length, take, refl, ap, ◌∙◌, arith, rules}
 use Rattle.fips180.proofs.Absorbing.{block-kept, closed-law, absorbedAll, next_part, all-six}
 use Rattle.fips180.specs.Sha256.{compress, digest}
 use Rattle.sha256.specs.Stream.{progress}
-use Rattle.sha256.specs.Internal.{parts}
 use Rattle.sha256.proofs.Sha256.finish_with.Goals as goal
 
 pub loop-j-init : goal.loop-j-init
