@@ -1,5 +1,4 @@
 -- `offers::server::put_list` meets its contract: the value at the start of the buffer, and the list copied to the part behind it.
--- what the copy left in the part behind the value
 use Prim.Native.Nat.{ℕ, suc, ◌+◌, ◌-◌, ◌≤◌}
 use mathlib.Core.Path.{◌≡◌, ap, ◌∙◌}
 use mathlib.Core.List.{List, [], ◌∷◌, ◌++◌, append-nil}
@@ -9,6 +8,7 @@ use lib.ListN.{length, take, drop, set, drop_of_length-le}
 use lib.Seq.{take_all, drop-length}
 use Rattle.offers.proofs.server.put_list.Goals as goal
 
+-- what the copy left in the part behind the value
 copied : (s rest : List ℕ) {z : List ℕ} → length rest ≡ length s → z ≡ take (length (take (length rest) rest)) s ++ drop (length s) (take (length rest) rest) → z ≡ s
 copied s rest h e =
     let all : take (length rest) rest ≡ rest = take_all (length rest) rest (omega arith) in
