@@ -48,7 +48,7 @@ module _ (f : KeyFields) (kek key : List ℕ) (space : ℕ) (app : f.app_id < 2 
   key-sized = test_passed _ _ (last-passed _ _ (before-passed _ _ ok))
 
   fitting : Fitting f
-  fitting = let w = lengths f kek named-passes in record { app = app; kek = w.kek_id; key = w.key-id; life = life }
+  fitting = let w = lengths f kek named-passes in record { app = app; kek = w.kek_id; key = w.key_id; life = life }
 
   size : length (attribute f kek key) ≡ 60 + length key
   unfolding attribute
@@ -158,8 +158,8 @@ module _ (kek a : List ℕ) (room : ℕ) (bk : Bytes kek) (ba : Bytes a) (ok : r
       let l = low in
       let f = framed a frame in
       let kek_id : length (take 16 (drop 8 a)) ≡ 16 = length-take-le 16 (drop 8 a) (simp length-drop (omega arith)) in
-      let key-id : length (take 16 (drop 24 a)) ≡ 16 = length-take-le 16 (drop 24 a) (simp length-drop (omega arith)) in
-      let ids : (eqb (length (take 16 (drop 8 a))) 16 && eqb (length (take 16 (drop 24 a))) 16) ≡ true = rw (kek_id, key-id) in
+      let key_id : length (take 16 (drop 24 a)) ≡ 16 = length-take-le 16 (drop 24 a) (simp length-drop (omega arith)) in
+      let ids : (eqb (length (take 16 (drop 8 a))) 16 && eqb (length (take 16 (drop 24 a))) 16) ≡ true = rw (kek_id, key_id) in
       let n : length a - 60 ≡ length (key_in kek a) = omega (arith, key-size) in
       let fits : 60 + length (key_in kek a) ≤ space = omega (arith, key-size) in
       let c21 = both_pass _ _ (kind_passes a frame) (test_holds _ (bare 21) ids) in

@@ -33,7 +33,7 @@ named f kek = check20 f.attribute_type and_then check21 f.kek_id f.key_id and_th
 -- what they say where they pass
 pub record Named (f : KeyFields) (kek : List ℕ) : Type 0 where
   pub kek_id : length f.kek_id ≡ 16
-  pub key-id : length f.key_id ≡ 16
+  pub key_id : length f.key_id ≡ 16
   pub kek_size : length kek ≡ 16
 
 pub lengths : (f : KeyFields) (kek : List ℕ) → named f kek ≡ pass → Named f kek
@@ -41,7 +41,7 @@ lengths f kek e =
     let ids : (eqb (length f.kek_id) 16 && eqb (length f.key_id) 16) ≡ true = test_passed _ _ (last-passed _ _ (before-passed _ _ e)) in
     record {
       kek_id = eqb-true _ _ (and_left _ _ ids);
-      key-id = eqb-true _ _ (and_right (eqb (length f.kek_id) 16) _ ids);
+      key_id = eqb-true _ _ (and_right (eqb (length f.kek_id) 16) _ ids);
       kek_size = eqb-true _ _ (test_passed _ _ (last-passed _ _ e));
     }
 
@@ -136,20 +136,20 @@ module _ (f : KeyFields) (kek key buffer : List ℕ) (ok : named f kek ≡ pass)
       rw (put_from start buffer z) (omega arith)
 
   -- which is put there
-  pub written_wrap : (kek₁ kek_id key-id : List ℕ) (n all : ℕ) {z after : List ℕ} → returned n ≡ answer_to (wrap_check (length key) (length part)) (length key + 8) → kek₁ ≡ sixteen_of kek
+  pub written_wrap : (kek₁ kek_id key_id : List ℕ) (n all : ℕ) {z after : List ℕ} → returned n ≡ answer_to (wrap_check (length key) (length part)) (length key + 8) → kek₁ ≡ sixteen_of kek
       → z ≡ buffer_after (wrap_check (length key) (length part)) (length key + 8) (wrapped kek₁ key) part
       → all ≡ 52 + n
       → kek_id ≡ sixteen_of f.kek_id
-      → key-id ≡ sixteen_of f.key_id
-      → after ≡ header (fields_of f.attribute_type f.app_id kek_id key-id f.lifetime) all ++ drop 52 (put_mid start (length buffer - start) buffer z)
+      → key_id ≡ sixteen_of f.key_id
+      → after ≡ header (fields_of f.attribute_type f.app_id kek_id key_id f.lifetime) all ++ drop 52 (put_mid start (length buffer - start) buffer z)
       → (returned all ≡ write_answer f kek key (length buffer)) × (after ≡ write_buffer f kek key buffer)
   unfolding write_answer write_buffer attribute
-  written_wrap kek₁ kek_id key-id n all {z} {after} a k b s k₁ k₂ h =
+  written_wrap kek₁ kek_id key_id n all {z} {after} a k b s k₁ k₂ h =
       let acc = accepted_wrap n a in
       let sizes = lengths f kek ok in
       let same : kek₁ ≡ kek = k ∙ sixteen_whole kek sizes.kek_size in
       let same₁ : kek_id ≡ f.kek_id = k₁ ∙ sixteen_whole f.kek_id sizes.kek_id in
-      let same₂ : key-id ≡ f.key_id = k₂ ∙ sixteen_whole f.key_id sizes.key-id in
+      let same₂ : key_id ≡ f.key_id = k₂ ∙ sixteen_whole f.key_id sizes.key_id in
       let size : all ≡ attribute_length key = omega (arith, acc.count) in
       let c : wrap_check (length key) (length part) ≡ pass = sym rest_tests ∙ acc.tests in
       let far : start + (length key + 8) ≡ 60 + length key = omega (arith, acc.at_52) in
