@@ -2,11 +2,9 @@
 use Prim.Native.Nat.{ℕ}
 use mathlib.Core.Path.{◌≡◌, refl, ap, ◌∙◌}
 use mathlib.Core.Bool.{Bool, true, false, ◌&&◌}
-use mathlib.Core.List.{List, [], ◌++◌, append-nil}
-use native.Mathlib.Omega.{arith}
+use mathlib.Core.List.{List, ◌++◌}
 use lib.Dec.{eqb}
-use lib.ListN.{length, take, drop, replicate, length-replicate, drop_of_length-le}
-use lib.Seq.{take_all}
+use lib.ListN.{length, take, drop}
 use Rattle.refusal.specs.Checks.{Reason, Check, pass, refuse, bare, unless, ◌and_then◌, check6}
 use Rattle.slices.proofs.Lists.{copied-front}
 use Rattle.handover_rules.specs.Handover.{check33, r0_check, r1_check, r0_name_check}
@@ -43,13 +41,3 @@ name_tested r0 ad spa room e =
 -- n bytes copied to the start of a buffer
 pub front_of : (n : ℕ) (s buffer : List ℕ) {after : List ℕ} → length s ≡ n → after ≡ take (length s) s ++ drop (length s) buffer → after ≡ s ++ drop n buffer
 front_of n s buffer l e = copied-front s buffer e ∙ ap (λ (k : ℕ). s ++ drop k buffer) l
-
--- an identifier of n bytes, copied to an array of as many
-pub copied_whole : (n : ℕ) (s : List ℕ) {r : List ℕ} → length s ≡ n → r ≡ take (length (take n s)) (take n s) ++ drop (length (take n s)) (replicate n 0) → r ≡ s
-copied_whole n s l e =
-    let whole : take n s ≡ s = take_all n s (omega arith) in
-    let none : drop {A = ℕ} n (replicate n 0) ≡ [] = drop_of_length-le (replicate n 0) {i = n} (omega (arith, length-replicate {A = ℕ} n 0)) in
-    e ∙ (λ i. take (length (whole i)) (whole i) ++ drop (length (whole i)) (replicate n 0))
-    ∙ (λ i. take_all (length s) s (omega arith) i ++ drop (l i) (replicate n 0))
-    ∙ ap (λ (t : List ℕ). s ++ t) none
-    ∙ append-nil s
