@@ -1,7 +1,6 @@
 -- The texts of the two derivations by their parts, and what the tests of a call come to.
 use Prim.Native.Nat.{ℕ}
-use mathlib.Core.Path.{◌≡◌, refl, sym, ap, ◌∙◌}
-use mathlib.Core.Bool.{Bool, true, ◌&&◌}
+use mathlib.Core.Path.{◌≡◌, sym, ap, ◌∙◌}
 use mathlib.Core.List.{List, [], ◌∷◌, ◌++◌, append-nil}
 use borrow.Author.Tests.{eqb-true}
 use lib.Dec.{eqb}
@@ -10,9 +9,9 @@ use Rattle.slices.specs.Ascii.{ascii}
 use Rattle.slices.specs.Numbers.{be16}
 use Rattle.slices.proofs.Truth.{and_left, and_right}
 use Rattle.refusal.specs.Checks.{Check, pass, unless, ◌and_then◌, within, check6}
-use Rattle.refusal.specs.Answers.{Answer, answer_to, buffer_after}
+use Rattle.refusal.specs.Answers.{buffer_after}
 use Rattle.refusal.proofs.Passing.{before-passed, last-passed, test_passed, both_pass}
-use Rattle.refusal.proofs.Answering.{answer_by, buffer_by}
+use Rattle.refusal.proofs.Answering.{buffer_by}
 use Rattle.hmac.specs.Rfc2104.{hmac_sha256}
 use Rattle.prf_plus.specs.PrfPlus.{prfPlus, expand_check}
 use Rattle.aka_keys.specs.Ts33402.{prime_text, prime_keys, ck_prime, ik_prime}

@@ -34,5 +34,5 @@ returns-in-Passed c =
     let tests = tests_again a.ck.now a.ik.now a.name.now a.sqn_xor_ak.now a.identity.now (length a.out.now) all (all ∙ passed all c.in-Passed.is) in
     record {
       answer = answer_by 208 tests c.expanded.ensures.answer;
-      buffer = material_buffer a.ck.now a.ik.now a.name.now a.sqn_xor_ak.now a.identity.now a.out.now tests c.put_expansion_key.ensures c.expanded.ensures.buffer
+      buffer = material_buffer a.ck.now a.ik.now a.name.now a.sqn_xor_ak.now a.identity.now a.out.now tests c.put_expansion_key.ensures c.expanded.ensures.buffer;
     }
