@@ -35,7 +35,7 @@ form_check WellFormed = pass
 form_check WrongLength = refuse (bare 2)
 form_check (BadByte i) = refuse (located 3 i)
 
--- each form of a label is refused with its number, and a well_formed label is left to 32
+-- each form of a label is refused with its number, and a well-formed label is left to 32
 label_form : (label : List ℕ) → (form_check (form_of label_byte 255 label) and_then check32 label) ≡ label_check label
 unfolding form_of label_check unless ◌and_then◌
 label_form label = go (within 1 255 (length label)) (first_bad label_byte label)

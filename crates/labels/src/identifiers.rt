@@ -8,7 +8,7 @@ ghost use Rattle.refusal.specs.Checks;
 use crate::charset::{ByteSet, Form, form_of};
 use refusal::{Checked, Refusal};
 
-// Passes a well_formed text, and gives any other the one refusal.
+// Passes a well-formed text, and gives any other the one refusal.
 fn unless_well_formed(form: Form, why: Refusal) -> Checked
     ensures { checked_as result ≡ Checks.unless (is_well_formed form) (reason_of why) }
 {

@@ -39,7 +39,7 @@ pub scanned_form : (p : ℕ → Bool) (longest : ℕ) (s : List ℕ) {f : Scan} 
 unfolding form_of
 scanned_form p longest s h e = rw (h, e)
 
--- a well_formed text is of an admitted length: it has a byte, and no more than the longest
+-- a well-formed text is of an admitted length: it has a byte, and no more than the longest
 right_length : (p : ℕ → Bool) (longest : ℕ) (s : List ℕ) → WellFormed ≡ form_of p longest s → within 1 longest (length s) ≡ true
 unfolding form_of
 right_length p longest s e = go (within 1 longest (length s)) (first_bad p s) e
