@@ -6,7 +6,8 @@
 #   usage/no_zero_byte                 a crate's must-fail edit
 #   usage::usage_key                   a function of a crate
 #   kv_usage_key                       a call of the header, or a function of one beside it
-# A word that ends in a slash, other words, and those of docs/EXPERIMENTS.md are not looked up. Last line: 'N passed, M failed'.
+# A word that ends in a slash and other words are not looked up, nor are those of docs/EXPERIMENTS.md and docs/PORT.md, which speak of what is no more.
+# Last line: 'N passed, M failed'.
 set -u
 cd "$(dirname "$0")/.." && . tools/common.sh || exit 1
 shopt -s lastpipe # so that what is counted at the end of a pipe is kept
@@ -41,7 +42,7 @@ look_up() {
 }
 
 for document in README.md CHANGELOG.md docs/*.md docs/requests/*.md; do
-    [ "$document" != docs/EXPERIMENTS.md ] || continue
+    case $document in docs/EXPERIMENTS.md | docs/PORT.md) continue ;; esac
     words "$document" | while read -r word file; do look_up "$document" "$word" "$file"; done
 done
 tell_counts
