@@ -1,5 +1,5 @@
 -- Runs of SHA-1's rounds: which of them have which function and constant, and the words that they find in the window.
-use Rattle.std.proofs.Common.{◌≡◌, ℕ, zero, suc, ◌+◌, ◌*◌, ◌/◌, ◌%◌, ◌<◌, ◌≤◌, List, get_or, sym, refl, ap, ◌∙◌, add-zero, add_assoc, add-suc, arith}
+use Rattle.std.proofs.Common.{◌≡◌, ℕ, zero, suc, ◌+◌, ◌*◌, ◌/◌, ◌%◌, ◌<◌, ◌≤◌, List, get_or, sym, ap, ◌∙◌, add-zero, add_assoc, add-suc, arith}
 use Rattle.fips180.specs.Words.{Ch, Maj}
 use Rattle.fips180.specs.Sha1.{Parity, W, step, round, rounds, sums, compress}
 use Rattle.fips180.specs.Window.{window}

@@ -2,7 +2,6 @@ use Rattle.fips180.specs.Sha256.{sha256}
 use Rattle.rfc2104.proofs.Blocks.{key-short, key-long}
 use Rattle.hmac_block.proofs.Filling.{filled_short}
 use Rattle.hmac.proofs.Laws.{digest_short}
-use borrow.Author.Rules.{rules}
 use Rattle.hmac.proofs.key_block.Goals as goal
 
 pub returns-then-key-le-BLOCK : goal.returns-then-key-le-BLOCK

@@ -1,7 +1,6 @@
 -- The parts are hashed after the key's inner value, with an empty sixth one, and their digest after the outer one.
 use mathlib.Core.List.{◌++◌}
 use Rattle.hmac.proofs.Laws.{five_parts, mac-from_values}
-use borrow.Author.Rules.{rules}
 use Rattle.hmac.proofs.mac_of_parts.Goals as goal
 
 pub returns : goal.returns

@@ -8,6 +8,7 @@ use Rattle.prf_plus.proofs.Accepted.{expand_passed, all_tests}
 use Rattle.prf_plus.proofs.expand.Goals as goal
 
 -- where the call's tests pass, those of the expansion do
+
 fits : (first : Check) (n room : ℕ) → (first and_then expand_check n room) ≡ pass → (n ≤ 8160) × (n ≤ room)
 fits first n room e = let b = expand_passed n room (last-passed first _ e) in (b.most, b.fits)
 
@@ -16,9 +17,3 @@ fill-requires c =
     let s = c.args in
     let b = fits (checked_as s.check) s.n (length s.out.now) (all_tests _ c.in-Passed.ensures c.check_expand.ensures refl) in
     record { n_bound = b.0; n_in_bounds = b.1 }
-
-pub returns-in-Failed : goal.returns-in-Failed
-returns-in-Failed c = rw (all_tests _ c.in-Failed.ensures c.check_expand.ensures refl) (record { answer = refl; buffer = refl })
-
-pub returns-in-Passed : goal.returns-in-Passed
-returns-in-Passed c = rw (all_tests _ c.in-Passed.ensures c.check_expand.ensures refl) (record { answer = refl; buffer = c.fill.ensures })

@@ -1,19 +1,13 @@
 -- `prf_plus::fill` meets its contract: a turn writes as much of the next block as there is room for (proofs/Steps.antt, `next-out`).
-use Rattle.std.proofs.Common.{◌≡◌, ℕ, ◌+◌, ◌-◌, ◌*◌, ◌/◌, ◌<◌, ◌≤◌, ◌++◌, List, min, length, take, drop, refl, ap, ◌∙◌, le_refl, arith, length-take, length-drop}
+use Rattle.std.proofs.Common.{◌≡◌, ℕ, ◌+◌, ◌-◌, ◌*◌, ◌/◌, ◌<◌, ◌≤◌, ◌++◌, List, min, length, take, drop, ap, ◌∙◌, le_refl, arith, length-take, length-drop}
 use Rattle.std.proofs.Math.Seq.{length-paste}
 use Rattle.hmac.specs.Rfc2104.{hmac_sha256}
 use Rattle.hmac.proofs.Laws.{hmac_sha256-length}
 use Rattle.prf_plus.specs.PrfPlus.{prfPlus, block_count}
 use Rattle.slices.proofs.Copies.{copied_part, copied_fits}
 use Rattle.prf_plus.proofs.Parts.{mac_of_input, next_under_key}
-use Rattle.prf_plus.proofs.Steps.{next-out, closer}
+use Rattle.prf_plus.proofs.Steps.{next-out}
 use Rattle.prf_plus.proofs.fill.Goals as goal
-
-pub loop-at-init : goal.loop-at-init
-loop-at-init c = record { last = omega arith; done = omega arith; needed = omega arith; same = refl; written = refl }
-
-pub loop-at-smaller : goal.loop-at-smaller
-loop-at-smaller c = closer _ _ _ c.loop-at-test.true c.least-m.ensures
 
 pub loop-at-preserved : goal.loop-at-preserved
 loop-at-preserved c =

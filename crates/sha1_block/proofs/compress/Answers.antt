@@ -1,5 +1,5 @@
 -- `sha1_block::compress` meets its contract: one run of rounds after another, each with the window that it finds (proofs/Rounds.antt).
-use Rattle.std.proofs.Common.{refl, ◌∙◌, lit≤, rules}
+use Rattle.std.proofs.Common.{refl, ◌∙◌, lit≤}
 use Rattle.sha1_block.proofs.Rounds.{by-ch, by-parity, by-maj, by-last-parity, no_round, all_rounds}
 use Rattle.sha1_block.proofs.compress.Goals as goal
 

@@ -1,8 +1,8 @@
 -- `sha1_block::compress_blocks` meets its contract: after k turns, the hash value after k blocks.
-use Rattle.std.proofs.Common.{◌≡◌, ℕ, ◌/◌, length, refl, ap, ◌∙◌, arith, length-drop, length-take}
+use Rattle.std.proofs.Common.{refl}
 use Rattle.fips180.specs.Hash.{blocks_by}
 use Rattle.fips180.proofs.Blocks.{blocks-turn}
-use Rattle.fips180.specs.Sha1.{blocks, compress}
+use Rattle.fips180.specs.Sha1.{compress}
 use Rattle.sha1_block.proofs.compress_blocks.Goals as goal
 
 pub loop-k-init : goal.loop-k-init

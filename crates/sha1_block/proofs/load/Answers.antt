@@ -1,5 +1,4 @@
 -- `sha1_block::load` meets its contract: each word of the block is the schedule's (`loaded` of fips180).
-use Rattle.std.proofs.Common.{le_trans, lit≤}
 use Rattle.fips180.specs.Words.{word}
 use Rattle.fips180.specs.Sha1.{W}
 use Rattle.fips180.proofs.Sha1Schedule.{early}

@@ -1,5 +1,5 @@
 -- `sha1_block::refill` meets its contract: word by word, each word of the window is the schedule's (proofs/Schedule.antt, `stored`).
-use Rattle.std.proofs.Common.{refl, rules}
+use Rattle.std.proofs.Common.{refl}
 use Rattle.fips180.proofs.Window.{mixed}
 use Rattle.sha1_block.proofs.Schedule.{none, all, stored}
 use Rattle.sha1_block.proofs.refill.Goals as goal

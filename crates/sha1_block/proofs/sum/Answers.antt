@@ -1,4 +1,4 @@
-use Rattle.std.proofs.Common.{[], ◌∷◌, rules}
+use Rattle.std.proofs.Common.{[], ◌∷◌}
 use Rattle.fips180.specs.Sha1.{sums}
 use Rattle.sha1_block.proofs.sum.Goals as goal
 

@@ -4,7 +4,6 @@ use Rattle.fips180.specs.Stream.{Progress}
 use Rattle.sha256.specs.Stream.{absorbed, finished}
 use Rattle.rfc2104.specs.Keyed.{hashAfterBy}
 use Rattle.hmac.specs.Keyed.{hash_after}
-use borrow.Author.Rules.{rules}
 use Rattle.hmac.proofs.Keyed.finish.Goals as goal
 
 pub returns : goal.returns

@@ -1,7 +1,6 @@
 -- `hmac::Keyed::new` meets its contract: the key's block, masked by each of the two pads.
 use Rattle.rfc2104.specs.Rfc2104.{ipad, opad}
 use Rattle.hmac.proofs.Laws.{key-value}
-use borrow.Author.Rules.{rules}
 use Rattle.hmac.proofs.Keyed.new.Goals as goal
 
 pub returns : goal.returns

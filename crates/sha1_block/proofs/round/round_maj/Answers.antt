@@ -1,4 +1,4 @@
-use Rattle.std.proofs.Common.{◌≡◌, ℕ, ap, ◌∙◌, rules}
+use Rattle.std.proofs.Common.{◌≡◌, ℕ, ap, ◌∙◌}
 use Rattle.fips180.specs.Sha1.{step}
 use Rattle.sha1_block.specs.Internal.{variables, step_by}
 use Rattle.sha1_block.proofs.round.round_maj.Goals as goal

@@ -1,4 +1,4 @@
-use Rattle.std.proofs.Common.{◌≡◌, get_or, rules}
+use Rattle.std.proofs.Common.{◌≡◌, get_or}
 use Rattle.fips180.specs.Words.{ROTL}
 use Rattle.sha1_block.proofs.round.Functions.{stepped}
 use Rattle.sha1_block.proofs.round.step.Goals as goal

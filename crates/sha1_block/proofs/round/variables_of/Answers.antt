@@ -1,4 +1,4 @@
-use Rattle.std.proofs.Common.{[], ◌∷◌, get_or, rules}
+use Rattle.std.proofs.Common.{[], ◌∷◌, get_or}
 use Rattle.sha1_block.specs.Internal.{variables}
 use Rattle.sha1_block.proofs.round.variables_of.Goals as goal
 

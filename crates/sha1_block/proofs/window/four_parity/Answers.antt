@@ -1,5 +1,5 @@
 -- `sha1_block::window::four_parity` meets its contract: one round after another.
-use Rattle.std.proofs.Common.{◌≡◌, ◌+◌, get_or, rules}
+use Rattle.std.proofs.Common.{◌≡◌, ◌+◌, get_or}
 use Rattle.sha1_block.specs.Internal.{variables, step_by}
 use Rattle.fips180.specs.Sha1.{Parity}
 use Rattle.sha1_block.proofs.window.Rounds.{four}

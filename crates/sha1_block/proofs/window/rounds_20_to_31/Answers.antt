@@ -1,5 +1,5 @@
 -- `sha1_block::window::rounds_20_to_31` meets its contract: four rounds after four.
-use Rattle.std.proofs.Common.{◌≡◌, rules}
+use Rattle.std.proofs.Common.{◌≡◌}
 use Rattle.sha1_block.specs.Internal.{variables, runs}
 use Rattle.fips180.specs.Sha1.{Parity}
 use Rattle.sha1_block.proofs.window.Rounds.{more}
