@@ -8,10 +8,9 @@ ghost use Rattle.rfc3394.specs.Rfc3394.{high, initial_value, unwrapped_iv, unwra
 ghost use Rattle.keywrap.specs.Calls.{check23, unwrap_check, key_length};
 
 use crate::passes::{eight_bytes, front, passes};
-use slices::copy;
 use keywrap::is_wrappable;
 use refusal::{Answered, Checked, Refusal, check_room, then_check, unless};
-use slices::same_bytes;
+use slices::{copy, same_bytes};
 
 // The length of the key that n wrapped bytes hold.
 fn key_length(n: usize) -> usize

@@ -6,9 +6,9 @@ ghost use Rattle.rfc3394.specs.Rfc3394.{wrapped};
 ghost use Rattle.keywrap.specs.Calls.{wrap_check};
 
 use crate::passes::{eight_bytes, passes};
-use slices::copy;
 use keywrap::is_wrappable;
 use refusal::{Answered, Checked, Refusal, check_room, unless};
+use slices::copy;
 
 // The tests of a wrapping.
 fn check_wrap(n: usize, room: usize) -> Checked

@@ -1,6 +1,6 @@
 -- `key_writer::write` meets its contract: by what the tests before the wrapping came to; where they pass, what the wrap routine tests of the part that it is
 -- lent is what is left of the order, so that its refusal is the writer's; where it accepts, the header goes before what it wrote.
-use mathlib.Core.Path.{◌≡◌, refl, sym}
+use mathlib.Core.Path.{refl, sym}
 use native.Mathlib.Omega.{arith}
 use Rattle.key_frame.specs.KeyFrame.{fields_of}
 use Rattle.key_frame.specs.declared.KeyFields.{KeyFields}

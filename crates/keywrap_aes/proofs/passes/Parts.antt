@@ -20,15 +20,6 @@ use Rattle.keywrap_aes.specs.Internal.{passes_of}
 
 -- ---- eight bytes
 
-eight_whole : {l : List ℕ} → Eight l → length l ≡ 8
-    → get_or l 0 0 ∷ get_or l 1 0 ∷ get_or l 2 0 ∷ get_or l 3 0 ∷ get_or l 4 0 ∷ get_or l 5 0 ∷ get_or l 6 0 ∷ get_or l 7 0 ∷ [] ≡ l
-eight_whole (eight a b c d e f g h []) n = refl
-eight_whole (eight a b c d e f g h (x ∷ l)) n = absurd (omega (arith, n))
-
-pub front_is : (l : List ℕ) → length l ≡ 8
-    → get_or l 0 0 ∷ get_or l 1 0 ∷ get_or l 2 0 ∷ get_or l 3 0 ∷ get_or l 4 0 ∷ get_or l 5 0 ∷ get_or l 6 0 ∷ get_or l 7 0 ∷ [] ≡ l
-front_is l n = eight_whole (eight_of l (omega (arith, n))) n
-
 module _ (a b c d e f g h : ℕ) where
   abbrev stored : List ℕ → List ℕ
   stored l = set (set (set (set (set (set (set (set l 0 a) 1 b) 2 c) 3 d) 4 e) 5 f) 6 g) 7 h
@@ -58,13 +49,6 @@ module _ (ks : List State) (t : ℕ) (a r : State) (b : List ℕ) (er : high r �
   wrap-block-is es =
       let q : s ≡ counted t (cipher ks (joined (high a) b))
       = es ∙ ap (counted t) (by_bytes ks (put_together a r) ∙ ap (λ (m : List ℕ). cipher ks (joined (high a) m)) er) in
-      (ap high q, ez ∙ ap low q)
-
-  pub unwrap-block-is : s ≡ eq_inv_cipher ks (counted t (put_together a r))
-      → (high (get_or s 0 [] ∷ get_or s 1 [] ∷ []) ≡ high (eq_inv_cipher ks (joined (add_count t (high a)) b))) × (z ≡ low (eq_inv_cipher ks (joined (add_count t (high a)) b)))
-  unwrap-block-is es =
-      let q : s ≡ eq_inv_cipher ks (joined (add_count t (high a)) b)
-      = es ∙ ap (λ (m : List ℕ). eq_inv_cipher ks (joined (add_count t (high a)) m)) er in
       (ap high q, ez ∙ ap low q)
 
 -- ---- a turn of the loop of a pass, and of the loop over the passes

@@ -6,7 +6,7 @@ use native.Mathlib.Omega.{arith}
 use lib.Bits.{bit_xor, xor_zero_r}
 use Rattle.fips197.specs.State.{State, bytes, columns, add_round_key}
 use Rattle.fips197.specs.Cipher.{last_round, cipher, eq_inv_cipher}
-use Rattle.rfc3394.specs.Rfc3394.{joined, high, low, add_count, counted}
+use Rattle.rfc3394.specs.Rfc3394.{joined, low, add_count, counted}
 use Rattle.keywrap_aes.specs.Internal.{count_added}
 
 none : (x y : ℕ) → y ≡ 0 → x ≡ bit_xor x y

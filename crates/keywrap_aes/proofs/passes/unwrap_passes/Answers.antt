@@ -1,17 +1,11 @@
 -- `keywrap_aes::passes::unwrap_passes` meets its contract: the j passes that are left come to what all six come to, and the count is n * j.
-use mathlib.Core.Path.{◌≡◌, refl, sym, ap, ◌∙◌}
+use mathlib.Core.Path.{◌≡◌, sym, ap, ◌∙◌}
 use Prim.Native.Nat.{ℕ}
 use native.Mathlib.Omega.{arith}
 use Rattle.fips197.specs.Cipher.{eq_inv_cipher}
 use Rattle.rfc3394.specs.Rfc3394.{high, Registers, unwrap_passes}
 use Rattle.keywrap_aes.proofs.passes.Parts.{unpasses-less, count_less}
 use Rattle.keywrap_aes.proofs.passes.unwrap_passes.Goals as goal
-
-pub overflow_sub-c : goal.overflow_sub-c
-overflow_sub-c c =
-    let l = c.loop-j in
-    let h = count_less c.args.n l.j l.c (omega arith) l.invariant.count in
-    omega (arith, h.0)
 
 pub loop-j-preserved : goal.loop-j-preserved
 loop-j-preserved c =

@@ -9,7 +9,7 @@ use Rattle.keywrap_aes.proofs.passes.wrap_pass.Given as goal
 
 abbrev pub invariant-loop-i : goal.invariant-loop-i
 invariant-loop-i l = record {
-  blocks : l.m ≡ l.n;
+  block_count : l.m ≡ l.n;
   within : l.i ≤ l.n;
   same_length : length l.b ≡ length l.initial.b;
   so_far : ◌≡◌ {A = Registers} (high (l.x0 ∷ l.x1 ∷ []), l.b) (wrap_pass (cipher l.ks) l.c l.i (high (l.initial.x0 ∷ l.initial.x1 ∷ []), l.initial.b));

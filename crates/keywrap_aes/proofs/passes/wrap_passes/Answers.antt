@@ -1,9 +1,9 @@
 -- `keywrap_aes::passes::wrap_passes` meets its contract: after j turns A and the blocks are those of j passes, and the count is n * j.
-use mathlib.Core.Path.{◌≡◌, refl, sym, ap, ◌∙◌}
-use Prim.Native.Nat.{ℕ, ◌+◌, ◌*◌}
+use mathlib.Core.Path.{refl, sym, ap, ◌∙◌}
+use Prim.Native.Nat.{ℕ, ◌+◌}
 use native.Mathlib.Omega.{arith}
 use Rattle.fips197.specs.Cipher.{cipher}
-use Rattle.rfc3394.specs.Rfc3394.{high, Registers, wrap_passes}
+use Rattle.rfc3394.specs.Rfc3394.{wrap_passes}
 use Rattle.keywrap_aes.proofs.passes.Parts.{passes-more, count-more}
 use Rattle.keywrap_aes.proofs.passes.wrap_passes.Goals as goal
 
@@ -22,12 +22,3 @@ loop-j-preserved c =
       same_length = c.wrap_pass-next.auto.b ∙ l.invariant.same_length;
       so_far = passes-more (cipher s.ks.now) _ s.n l.j l.c _ _ _ _ l.invariant.count l.invariant.so_far c.wrap_pass-next.ensures.next c.wrap_pass-next.ensures.part;
     }
-
-pub returns : goal.returns
-returns c =
-    let l = c.loop-j in
-    let s = c.args in
-    let e : l.j ≡ 6 = omega arith in
-    let q : ◌≡◌ {A = Registers} (high l.x, l.b) (wrap_passes (cipher s.ks.now) s.n 6 (high s.a, s.b.now))
-    = l.invariant.so_far ∙ ap (λ (m : ℕ). wrap_passes (cipher s.ks.now) s.n m (high s.a, s.b.now)) e in
-    record { next = ap (λ (w : Registers). w.0) q; part = ap (λ (w : Registers). w.1) q }

@@ -1,5 +1,4 @@
 -- `keywrap_aes::unwrapping::unwrap` meets its contract, by the outcomes of the tests and of the integrity: the buffer is written in one of them alone.
-use Prim.Native.Nat.{◌≤◌}
 use mathlib.Core.Path.{◌≡◌, sym, ap, ◌∙◌}
 use lib.ListN.{length, drop, replicate}
 use lib.Seq.{length-take-le}
