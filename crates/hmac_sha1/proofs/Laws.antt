@@ -21,10 +21,7 @@ pub key-value : (key : List ℕ) (pad : ℕ) {block v : List ℕ} → block ≡ 
 unfolding sha1
 key-value = laws.key-value compress H0 digest
 
--- a block that was masked, and the hash value after it
-pub masked-size : (block : List ℕ) (pad : ℕ) {m : List ℕ} → length block ≡ 64 → m ≡ masked block pad → length m ≡ 64
-masked-size block pad l em = ap length em ∙ masked-length block pad ∙ l
-
+-- the hash value after a block that was masked
 pub masked-value : (block : List ℕ) (pad : ℕ) {m v : List ℕ} → length block ≡ 64 → m ≡ masked block pad → v ≡ blocks (length m / 64) H0 m → v ≡ compress H0 (masked block pad)
 masked-value block pad l em ev =
     ev ∙ ap (λ (b : List ℕ). blocks (length b / 64) H0 b) em ∙ one_block compress H0 (masked block pad) (masked-length block pad ∙ l)

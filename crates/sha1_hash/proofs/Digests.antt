@@ -1,5 +1,5 @@
 -- The digest, written word by word over the start of a list.
-use Rattle.std.proofs.Common.{◌≡◌, ℕ, zero, suc, ◌+◌, ◌*◌, ◌<◌, ◌≤◌, List, [], ◌++◌, length, get_or, take, drop, refl, ap, ◌∙◌, arith, length-drop, drop-drop}
+use Rattle.std.proofs.Common.{◌≡◌, ℕ, zero, suc, ◌+◌, ◌*◌, ◌<◌, ◌≤◌, List, ◌++◌, length, get_or, take, drop, refl, ap, ◌∙◌, arith, length-drop, drop-drop}
 use Rattle.std.proofs.Math.Seq.{paste}
 use Rattle.slices.specs.Numbers.{be32}
 use Rattle.fips180.specs.Sha1.{digest}

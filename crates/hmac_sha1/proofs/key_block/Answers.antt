@@ -2,7 +2,6 @@ use Rattle.fips180.specs.Sha1.{sha1}
 use Rattle.rfc2104.proofs.Blocks.{key-short, key-long}
 use Rattle.hmac_block.proofs.Filling.{filled_short}
 use Rattle.hmac_sha1.proofs.Laws.{digest_short}
-use borrow.Author.Rules.{rules}
 use Rattle.hmac_sha1.proofs.key_block.Goals as goal
 
 pub returns-then-key-le-BLOCK : goal.returns-then-key-le-BLOCK

@@ -1,6 +1,5 @@
 -- `hmac_sha1::mac` meets its contract: the MAC by the key's two hash values is RFC 2104's.
 use Rattle.hmac_sha1.proofs.Laws.{mac_by_values_lem}
-use borrow.Author.Rules.{rules}
 use Rattle.hmac_sha1.proofs.mac.Goals as goal
 
 pub returns : goal.returns

@@ -1,5 +1,5 @@
 -- `sha1_hash::compress_last` meets its contract: the block with its length, compressed.
-use Rattle.std.proofs.Common.{ap, ◌∙◌, rules}
+use Rattle.std.proofs.Common.{ap, ◌∙◌}
 use Rattle.fips180.specs.Sha1.{compress}
 use Rattle.fips180.proofs.Blocks.{one_block}
 use Rattle.fips180.proofs.Closing.{length_kept}

@@ -1,5 +1,5 @@
 -- `sha1_hash::digest_from` meets its contract: the count of all bytes, the whole blocks, and the last bytes in a block of their own.
-use Rattle.std.proofs.Common.{◌≡◌, ◌^◌, ◌<◌, rules}
+use Rattle.std.proofs.Common.{◌^◌, ◌<◌, rules}
 use Rattle.sha1_hash.proofs.Parts.{from_parts}
 use Rattle.sha1_hash.proofs.digest_from.Goals as goal
 

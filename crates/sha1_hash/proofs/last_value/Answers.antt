@@ -1,5 +1,5 @@
 -- `sha1_hash::last_value` meets its contract: one block more, or two (proofs/Marked.antt of fips180).
-use Rattle.std.proofs.Common.{◌≡◌, ◌%◌, ◌≤◌, arith, rules}
+use Rattle.std.proofs.Common.{◌%◌, ◌≤◌, arith}
 use Rattle.fips180.specs.Sha1.{compress}
 use Rattle.fips180.proofs.Marked.{marked-one, marked-two}
 use Rattle.sha1_hash.proofs.last_value.Goals as goal

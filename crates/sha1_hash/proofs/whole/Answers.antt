@@ -1,4 +1,4 @@
-use Rattle.std.proofs.Common.{◌≡◌, ℕ, ◌/◌, length, ap, arith, rules}
+use Rattle.std.proofs.Common.{◌≡◌, ℕ, ◌/◌, length, ap, arith}
 use Rattle.fips180.specs.Hash.{blocks_by}
 use Rattle.fips180.specs.Sha1.{blocks}
 use Rattle.sha1_hash.proofs.whole.Goals as goal

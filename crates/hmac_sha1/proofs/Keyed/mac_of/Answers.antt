@@ -1,6 +1,5 @@
 -- `hmac_sha1::Keyed::mac_of` meets its contract: the outer hash of the inner hash of the message.
 use Rattle.hmac_sha1.proofs.Laws.{mac_of_law}
-use borrow.Author.Rules.{rules}
 use Rattle.hmac_sha1.proofs.Keyed.mac_of.Goals as goal
 
 pub returns : goal.returns
