@@ -1,6 +1,6 @@
 -- A loop that expands into a buffer: its blocks stand there one after another, so each block finds the one before it in the buffer.
 -- Over any MAC whose results have 32 bytes.
-use Prim.Native.Nat.{ℕ, zero, suc, min, ◌+◌, ◌-◌, ◌*◌, ◌<◌, ◌≤◌}
+use Prim.Native.Nat.{ℕ, zero, suc, ◌+◌, ◌-◌, ◌*◌, ◌≤◌}
 use mathlib.Core.Path.{◌≡◌, sym, ap, ◌∙◌}
 use mathlib.Core.List.{List, ◌++◌, append_assoc}
 use native.Mathlib.Omega.{arith}
@@ -9,10 +9,6 @@ use lib.ListN.{length, take, drop}
 use lib.Seq.{length-take-le, take_all, take_at, drop_at, drop-drop, take-append-add, paste}
 use Rattle.prf_plus.specs.PrfPlus.{input_after, block, blocks}
 use Rattle.prf_plus.proofs.Laws.{block-length, blocks-length}
-
--- a turn leaves fewer bytes to write
-pub closer : (n at m : ℕ) → at < n → m ≡ min 32 (n - at) → n - (at + m) < n - at
-closer n at m h e = omega arith
 
 module _ (mac : List ℕ → List ℕ → List ℕ) (mac-length : (k t : List ℕ) → length (mac k t) ≡ 32) (key text out₀ : List ℕ) where
   -- the buffer with the first i blocks at its start

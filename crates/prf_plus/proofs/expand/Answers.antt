@@ -8,7 +8,6 @@ use Rattle.prf_plus.proofs.Accepted.{expand_passed, all_tests}
 use Rattle.prf_plus.proofs.expand.Goals as goal
 
 -- where the call's tests pass, those of the expansion do
-
 fits : (first : Check) (n room : ℕ) → (first and_then expand_check n room) ≡ pass → (n ≤ 8160) × (n ≤ room)
 fits first n room e = let b = expand_passed n room (last-passed first _ e) in (b.most, b.fits)
 
