@@ -71,7 +71,7 @@ residue() { # TARGET: 'CALL REFUSAL STACK REGISTERS STACK-AFTER-WIPE' for each c
     return 1
 }
 wiped() { ! awk '$5 > 0' "$made/residue.$1.out" | grep .; }
-sees() { awk '$3 > most[$1] { most[$1] = $3 } $2 == 0 { met[$1] = 1 } END { for (call in met) if (most[call] < 100) exit 1; exit !NR }' "$made/residue.$1.out"; }
+sees() { awk '$3 > most[$1] { most[$1] = $3 } $2 == 0 { met[$1] = 1 } END { for (call in met) if (most[call] < 64) exit 1; exit !NR }' "$made/residue.$1.out"; }
 
 # compiler TARGET NAME: the command by which gcc or the kit's clang compiles for a target
 compiler() {
