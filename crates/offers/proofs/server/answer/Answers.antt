@@ -1,10 +1,9 @@
-use mathlib.Core.Path.{sym, ap}
+use mathlib.Core.Path.{ap}
 use mathlib.Core.List.{List, ◌++◌}
 use Prim.Native.Nat.{ℕ, ◌+◌}
 use native.Mathlib.Omega.{arith}
 use borrow.Author.Tests.{leb-true}
-use lib.ListN.{length, drop}
-use lib.Seq.{length-take-le}
+use lib.ListN.{length, drop, length-take}
 use Rattle.refusal.proofs.Passing.{last-passed, test_passed}
 use Rattle.refusal.proofs.Answering.{passed, refused_so, written_so}
 use Rattle.offer_rules.specs.Rfc5448.{renewed_list, answer_check}
@@ -21,13 +20,13 @@ pub slice_bounds-put_list-end-in-Passed : goal.slice_bounds-put_list-end-in-Pass
 slice_bounds-put_list-end-in-Passed c =
     let all = rw (c.check_reply.ensures, c.check_room.ensures) at c.then_check.ensures in
     let room = leb-true _ _ (test_passed _ _ (last-passed _ _ (passed all c.in-Passed.is))) in
-    sym (length-take-le _ _ (omega arith))
+    omega (arith, length-take {A = ℕ})
 
 pub put_list-requires : goal.put_list-requires
 put_list-requires c =
     let all = rw (c.check_reply.ensures, c.check_room.ensures) at c.then_check.ensures in
     let room = leb-true _ _ (test_passed _ _ (last-passed _ _ (passed all c.in-Passed.is))) in
-    length-take-le _ _ (omega arith)
+    omega (arith, length-take {A = ℕ})
 
 pub returns-in-Failed : goal.returns-in-Failed
 unfolding server_answer server_buffer answer_check
