@@ -13,6 +13,8 @@ import sys
 
 NAME = r"[^\s:(){}\[\].,;\"`·]+"
 DEF = re.compile(r"^(?:(?:abbrev|unfoldable|pub|opaque|ghost|private)\s+)*(" + NAME + r")\s*:(?!:)(?:\s|$)")
+# a definition in a module with parameters
+INNER = re.compile(r"^  (?:(?:abbrev|unfoldable|pub)\s+)+(" + NAME + r")\s*:(?!:)\s")
 FIELD = re.compile(r"^\s+(?:pub\s+)?(" + NAME + r")\s*:\s")
 CASE = re.compile(r"^\s+(?:pub\s+)?(" + NAME + r")\s*:\s")
 OPERATOR = re.compile(r"◌([a-z]\w*[A-Z]\w*)◌")
@@ -29,6 +31,14 @@ APART = {
     "mac-by-values": "mac_by_values_lem",
     "parent_live": "parent_live_lem",
     "step-at": "step_at_lem",
+    "prfPlus": "prf_plus_of",
+    "prfPlus-length": "prf_plus_of-length",
+    "mix-byte": "mix_byte_lem",
+    "signedPasses": "signed_passes_lem",
+    "signsAgain": "signs_again_lem",
+    "othersStay": "others_stay_lem",
+    "onlySigned": "only_signed_lem",
+    "liveCount": "live_slot_count",
 }
 # A name of APART that is spelled so already in other files is changed in these alone.
 ONLY = {"laid_out": "crates/aes128/proofs/", "parent_live": "crates/slot_rules/proofs/"}
@@ -54,6 +64,8 @@ def own(root):
                 inside = True
                 found[head[1]].add(p)
                 continue
+            if line[:1] not in (" ", "-", "\n"):
+                inside = False
             m = DEF.match(line)
             if m and not line.startswith(("--", "use ", " ")):
                 inside = False
@@ -62,6 +74,10 @@ def own(root):
                 found[m[1]].add(p)
             elif inside:
                 m = FIELD.match(line)
+                if m:
+                    found[m[1]].add(p)
+            elif not made:
+                m = INNER.match(line)
                 if m:
                     found[m[1]].add(p)
     return found

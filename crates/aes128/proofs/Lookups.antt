@@ -14,7 +14,7 @@ use Rattle.fips197.proofs.Four.{four}
 use Rattle.fips197.proofs.Mix.{exchange}
 use Rattle.fips197.proofs.Steps.{mul_byte, xor_byte}
 use Rattle.fips197.proofs.Xor.{xor_assoc}
-use Rattle.aes128.proofs.columns.Words.{xor-word, turn-word, column-word}
+use Rattle.aes128.proofs.columns.Words.{xor_word, turn_word, column-word}
 use Rattle.aes128.specs.Internal.{word_of, column_of, turned, laid_out, byte_of, LookedUp, sum_of, sum_column}
 use Rattle.aes128.proofs.Square.{laid_out_lem}
 
@@ -39,12 +39,12 @@ sum-word {a0} {a1} {a2} {a3} {b0} {b1} {b2} {b3} {c0} {c1} {c2} {c3} {d0} {d1} {
     let e3 = xor_byte d2< cb3 in
     let e0 = xor_byte d3< cb0 in
     let p : turned (bit_xor (word_of c0 c1 c2 c3) (turned (word_of b0 b1 b2 b3))) ≡ word_of (bit_xor c1 b2) (bit_xor c2 b3) (bit_xor c3 b0) (bit_xor c0 b1)
-    = ap turned (ap (bit_xor (word_of c0 c1 c2 c3)) (turn-word b0 b1 b2 b3 b0< b1< b2< b3<) ∙ xor-word c0 c1 c2 c3 b1 b2 b3 b0 c0< c1< c2< b1< b2< b3<)
-    ∙ turn-word _ _ _ _ cb0 cb1 cb2 cb3 in
+    = ap turned (ap (bit_xor (word_of c0 c1 c2 c3)) (turn_word b0 b1 b2 b3 b0< b1< b2< b3<) ∙ xor_word c0 c1 c2 c3 b1 b2 b3 b0 c0< c1< c2< b1< b2< b3<)
+    ∙ turn_word _ _ _ _ cb0 cb1 cb2 cb3 in
     let q : turned (bit_xor (word_of d0 d1 d2 d3) (turned (bit_xor (word_of c0 c1 c2 c3) (turned (word_of b0 b1 b2 b3)))))
     ≡ word_of (bit_xor d1 (bit_xor c2 b3)) (bit_xor d2 (bit_xor c3 b0)) (bit_xor d3 (bit_xor c0 b1)) (bit_xor d0 (bit_xor c1 b2))
-    = ap turned (ap (bit_xor (word_of d0 d1 d2 d3)) p ∙ xor-word d0 d1 d2 d3 _ _ _ _ d0< d1< d2< cb1 cb2 cb3) ∙ turn-word _ _ _ _ e1 e2 e3 e0 in
-    ap column_of (ap (bit_xor (word_of a0 a1 a2 a3)) q ∙ xor-word a0 a1 a2 a3 _ _ _ _ a0< a1< a2< e2 e3 e0)
+    = ap turned (ap (bit_xor (word_of d0 d1 d2 d3)) p ∙ xor_word d0 d1 d2 d3 _ _ _ _ d0< d1< d2< cb1 cb2 cb3) ∙ turn_word _ _ _ _ e1 e2 e3 e0 in
+    ap column_of (ap (bit_xor (word_of a0 a1 a2 a3)) q ∙ xor_word a0 a1 a2 a3 _ _ _ _ a0< a1< a2< e2 e3 e0)
     ∙ column-word _ _ _ _ (xor_byte a0< e2) (xor_byte a1< e3) (xor_byte a2< e0) (xor_byte a3< e1)
 
 -- ---- a sum of four, in the order in which each row of equations 5.6 and 5.10 has it
@@ -117,20 +117,20 @@ module _ (s b : State) (same : b ≡ laid_out s) (byte : Block b) where
   unfolding sub_bytes
   sub_by r e = laid_out_lem r e.0 ∙ looked sbox sbox_of sbox_rule b r byte e ∙ ap (columns (bytes sbox_of)) same
 
-  pub inv-sub-by : (r : State) → LookedUp inv_sbox b r → r ≡ inv_sub_bytes s
+  pub inv_sub_by : (r : State) → LookedUp inv_sbox b r → r ≡ inv_sub_bytes s
   unfolding inv_sub_bytes
-  inv-sub-by r e = laid_out_lem r e.0 ∙ looked inv_sbox inv_sbox_of inv_sbox_rule b r byte e ∙ ap (columns (bytes inv_sbox_of)) same
+  inv_sub_by r e = laid_out_lem r e.0 ∙ looked inv_sbox inv_sbox_of inv_sbox_rule b r byte e ∙ ap (columns (bytes inv_sbox_of)) same
 
-  pub mix-by : (w r : State) → LookedUp mixed_sbox b w → r ≡ columns sum_column w → r ≡ mix_columns (sub_bytes s)
+  pub mix_by : (w r : State) → LookedUp mixed_sbox b w → r ≡ columns sum_column w → r ≡ mix_columns (sub_bytes s)
   unfolding mix_columns sub_bytes
-  mix-by w r e h =
+  mix_by w r e h =
       h
       ∙ summed mixed_sbox mixed_word sbox_of mix_column mixed_rule sbox_of_byte mixed-sum b w byte e
       ∙ ap (columns (λ (x : List ℕ). mix_column (bytes sbox_of x))) same
 
-  pub inv-mix-by : (w r : State) → LookedUp unmixed_sbox b w → r ≡ columns sum_column w → r ≡ inv_mix_columns (inv_sub_bytes s)
+  pub inv_mix_by : (w r : State) → LookedUp unmixed_sbox b w → r ≡ columns sum_column w → r ≡ inv_mix_columns (inv_sub_bytes s)
   unfolding inv_mix_columns inv_sub_bytes
-  inv-mix-by w r e h =
+  inv_mix_by w r e h =
       h
       ∙ summed unmixed_sbox unmixed_word inv_sbox_of inv_mix_column unmixed_rule inv_sbox_of_byte unmixed-sum b w byte e
       ∙ ap (columns (λ (x : List ℕ). inv_mix_column (bytes inv_sbox_of x))) same

@@ -24,20 +24,20 @@ module _ (k : State) (t : List ℕ) (s a : State) (e : s ≡ state_of t) where
   round_by m r n ea em er en =
       en ∙ ap laid_out (er ∙ ap (λ (x : State). add_round_key x k) (em ∙ ap (λ (x : State). mix_columns (sub_bytes x)) (ea ∙ ap shift_rows e)))
 
-  pub last-round-by : (m r : State) → a ≡ shift_rows s → m ≡ sub_bytes a → r ≡ add_round_key m k → r ≡ last_round k (state_of t)
+  pub last-round_by : (m r : State) → a ≡ shift_rows s → m ≡ sub_bytes a → r ≡ add_round_key m k → r ≡ last_round k (state_of t)
   unfolding last_round sub_bytes
-  last-round-by m r ea em er = er ∙ ap (λ (x : State). add_round_key x k) (em ∙ ap sub_bytes (ea ∙ ap shift_rows e))
+  last-round_by m r ea em er = er ∙ ap (λ (x : State). add_round_key x k) (em ∙ ap sub_bytes (ea ∙ ap shift_rows e))
 
-  pub inv-round-by : (m r : State) (n : List ℕ) → a ≡ inv_shift_rows s → m ≡ inv_mix_columns (inv_sub_bytes a) → r ≡ add_round_key m k
+  pub inv_round_by : (m r : State) (n : List ℕ) → a ≡ inv_shift_rows s → m ≡ inv_mix_columns (inv_sub_bytes a) → r ≡ add_round_key m k
       → state_of n ≡ laid_out r → state_of n ≡ eq_inv_round k (state_of t)
   unfolding eq_inv_round inv_sub_bytes add_round_key
-  inv-round-by m r n ea em er en =
+  inv_round_by m r n ea em er en =
       en
       ∙ ap laid_out (er ∙ ap (λ (x : State). add_round_key x k) (em ∙ ap (λ (x : State). inv_mix_columns (inv_sub_bytes x)) (ea ∙ ap inv_shift_rows e)))
 
-  pub inv-last-round-by : (m r : State) → a ≡ inv_shift_rows s → m ≡ inv_sub_bytes a → r ≡ add_round_key m k → r ≡ eq_inv_last_round k (state_of t)
+  pub inv_last-round_by : (m r : State) → a ≡ inv_shift_rows s → m ≡ inv_sub_bytes a → r ≡ add_round_key m k → r ≡ eq_inv_last_round k (state_of t)
   unfolding eq_inv_last_round inv_sub_bytes
-  inv-last-round-by m r ea em er = er ∙ ap (λ (x : State). add_round_key x k) (em ∙ ap inv_sub_bytes (ea ∙ ap inv_shift_rows e))
+  inv_last-round_by m r ea em er = er ∙ ap (λ (x : State). add_round_key x k) (em ∙ ap inv_sub_bytes (ea ∙ ap inv_shift_rows e))
 
 -- a turn of the cipher's loop, and its end
 module _ (ks : List State) where
@@ -45,10 +45,10 @@ module _ (ks : List State) where
   unfolding rounds
   round-step i s t u p q = q ∙ ap (round (get_or ks (i + 1) [])) p ∙ rw add-one
 
-  pub cipher-end : (i : ℕ) (s t u r : State) → t ≡ add_round_key s (get_or ks 0 []) → u ≡ rounds ks i t → i ≡ 9 → r ≡ last_round (get_or ks 10 []) u
+  pub cipher_end : (i : ℕ) (s t u r : State) → t ≡ add_round_key s (get_or ks 0 []) → u ≡ rounds ks i t → i ≡ 9 → r ≡ last_round (get_or ks 10 []) u
       → r ≡ cipher ks s
   unfolding cipher
-  cipher-end i s t u r p q e h = h ∙ ap (last_round (get_or ks 10 [])) (q ∙ ap₂ (rounds ks) e p)
+  cipher_end i s t u r p q e h = h ∙ ap (last_round (get_or ks 10 [])) (q ∙ ap₂ (rounds ks) e p)
 
 -- ---- a turn of the loop of the equivalent inverse cipher, and its end
 
@@ -58,8 +58,8 @@ module _ (ks : List State) where
   eq-step zero t u h e = absurd (not-suc-le-zero h)
   eq-step (suc i) t u h e = rw sub-one (ap (eq_inv_rounds ks i) e)
 
-  pub eq-end : (i : ℕ) (s t u r : State) → t ≡ add_round_key s (get_or ks 10 []) → eq_inv_rounds ks i u ≡ eq_inv_rounds ks 9 t → i ≡ 0
+  pub eq_end : (i : ℕ) (s t u r : State) → t ≡ add_round_key s (get_or ks 10 []) → eq_inv_rounds ks i u ≡ eq_inv_rounds ks 9 t → i ≡ 0
       → r ≡ eq_inv_last_round (get_or ks 0 []) u → r ≡ eq_inv_cipher ks s
   unfolding eq_inv_cipher eq_inv_rounds
-  eq-end i s t u r p w e h =
+  eq_end i s t u r p w e h =
       h ∙ ap (eq_inv_last_round (get_or ks 0 [])) (ap (λ (n : ℕ). eq_inv_rounds ks n u) (sym e) ∙ w ∙ ap (eq_inv_rounds ks 9) p)

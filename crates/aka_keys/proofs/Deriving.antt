@@ -13,7 +13,7 @@ use Rattle.refusal.specs.Answers.{buffer_after}
 use Rattle.refusal.proofs.Passing.{before-passed, last-passed, test_passed, both_pass}
 use Rattle.refusal.proofs.Answering.{buffer_by}
 use Rattle.hmac.specs.Rfc2104.{hmac_sha256}
-use Rattle.prf_plus.specs.PrfPlus.{prfPlus, expand_check}
+use Rattle.prf_plus.specs.PrfPlus.{prf_plus_of, expand_check}
 use Rattle.aka_keys.specs.Ts33402.{prime_text, prime_keys, ck_prime, ik_prime}
 use Rattle.aka_keys.specs.Rfc5448.{expansion_key, expansion_text, key_material, input_check, aka_check}
 
@@ -49,15 +49,15 @@ tests_again ck ik name sqnXorAk identity room e p =
 
 -- the buffer after an expansion whose text is given in four parts, the last two of them empty
 pub text_joined : (key identity buffer : List ℕ) (c : Check) {after : List ℕ}
-    → after ≡ buffer_after c 208 (prfPlus hmac_sha256 key (ascii "EAP-AKA'" ++ (identity ++ ([] ++ []))) 208) buffer
-    → after ≡ buffer_after c 208 (prfPlus hmac_sha256 key (expansion_text identity) 208) buffer
+    → after ≡ buffer_after c 208 (prf_plus_of hmac_sha256 key (ascii "EAP-AKA'" ++ (identity ++ ([] ++ []))) 208) buffer
+    → after ≡ buffer_after c 208 (prf_plus_of hmac_sha256 key (expansion_text identity) 208) buffer
 unfolding expansion_text
-text_joined key identity buffer c h = h ∙ λ i. buffer_after c 208 (prfPlus hmac_sha256 key (ascii "EAP-AKA'" ++ append-nil identity i) 208) buffer
+text_joined key identity buffer c h = h ∙ λ i. buffer_after c 208 (prf_plus_of hmac_sha256 key (ascii "EAP-AKA'" ++ append-nil identity i) 208) buffer
 
 -- and after the expansion by its key
 pub material_buffer : (ck ik name sqnXorAk identity buffer : List ℕ) {c d : Check} {key after : List ℕ} → c ≡ d → key ≡ expansion_key ck ik name sqnXorAk
-    → after ≡ buffer_after c 208 (prfPlus hmac_sha256 key (expansion_text identity) 208) buffer
+    → after ≡ buffer_after c 208 (prf_plus_of hmac_sha256 key (expansion_text identity) 208) buffer
     → after ≡ buffer_after d 208 (key_material ck ik name sqnXorAk identity) buffer
 unfolding key_material
 material_buffer ck ik name sqnXorAk identity buffer {c} e ek h =
-    buffer_by 208 (key_material ck ik name sqnXorAk identity) buffer e (h ∙ λ i. buffer_after c 208 (prfPlus hmac_sha256 (ek i) (expansion_text identity) 208) buffer)
+    buffer_by 208 (key_material ck ik name sqnXorAk identity) buffer e (h ∙ λ i. buffer_after c 208 (prf_plus_of hmac_sha256 (ek i) (expansion_text identity) 208) buffer)

@@ -10,7 +10,7 @@ use Rattle.refusal.specs.Answers.{buffer_after}
 use Rattle.refusal.proofs.Passing.{test_holds}
 use Rattle.hmac.specs.Rfc2104.{hmac_sha256}
 use Rattle.hmac.proofs.Laws.{hmac_sha256-length}
-use Rattle.prf_plus.proofs.Laws.{prfPlus-length}
+use Rattle.prf_plus.proofs.Laws.{prf_plus_of-length}
 use Rattle.aka_keys.specs.Rfc5448.{expansion_key, expansion_text, key_material, k_encr_of, k_aut_of, k_re_of, msk_of, emsk_of}
 use Rattle.aka_keys.specs.Statements.{Parts, EmskIsRoot}
 
@@ -37,7 +37,7 @@ in_order mk e =
 
 material_length : (ck ik name sqnXorAk identity : List ℕ) → length (key_material ck ik name sqnXorAk identity) ≡ 208
 unfolding key_material
-material_length ck ik name sqnXorAk identity = prfPlus-length hmac_sha256 hmac_sha256-length (expansion_key ck ik name sqnXorAk) (expansion_text identity) 208
+material_length ck ik name sqnXorAk identity = prf_plus_of-length hmac_sha256 hmac_sha256-length (expansion_key ck ik name sqnXorAk) (expansion_text identity) 208
 
 pub parts : Parts
 unfolding k_encr_of k_aut_of k_re_of msk_of

@@ -5,7 +5,7 @@ use Rattle.slices.specs.Ascii.{ascii}
 use Rattle.refusal.specs.Checks.{Check, bare, unless, ◌and_then◌, within, check6}
 use Rattle.refusal.specs.Answers.{Answer, answer_to, buffer_after}
 use Rattle.hmac.specs.Rfc2104.{hmac_sha256}
-use Rattle.prf_plus.specs.PrfPlus.{prfPlus}
+use Rattle.prf_plus.specs.PrfPlus.{prf_plus_of}
 use Rattle.aka_keys.specs.Ts33402.{ck_prime, ik_prime}
 
 -- the key of the expansion: IK', then CK'
@@ -18,7 +18,7 @@ expansion_text identity = ascii "EAP-AKA'" ++ identity
 
 -- the RFC's MK: 208 bytes, of which the five keys are parts
 unfoldable pub key_material : List ℕ → List ℕ → List ℕ → List ℕ → List ℕ → List ℕ
-key_material ck ik name sqnXorAk identity = prfPlus hmac_sha256 (expansion_key ck ik name sqnXorAk) (expansion_text identity) 208
+key_material ck ik name sqnXorAk identity = prf_plus_of hmac_sha256 (expansion_key ck ik name sqnXorAk) (expansion_text identity) 208
 
 -- the five keys by their places in MK: MK[0..127], MK[128..383], MK[384..639], MK[640..1151], MK[1152..1663]
 unfoldable pub k_encr_of : List ℕ → List ℕ

@@ -7,7 +7,7 @@ ghost use Rattle.std.specs.Prelude.{◌≡◌, ◌++◌, length, take, drop};
 ghost use Rattle.refusal.specs.Checks.{◌and_then◌};
 ghost use Rattle.refusal.specs.Answers.{checked_as, answer_of, answer_to, buffer_after};
 ghost use Rattle.hmac.specs.Rfc2104.{hmac_sha256};
-ghost use Rattle.prf_plus.specs.PrfPlus.{prfPlus, expand_check};
+ghost use Rattle.prf_plus.specs.PrfPlus.{prf_plus_of, expand_check};
 ghost use Rattle.aka_keys.specs.Rfc5448.{expansion_key, expansion_text, input_check, aka_answer, aka_buffer};
 
 use refusal::{Answered, Checked, Refusal};
@@ -73,7 +73,7 @@ fn put_expansion_key<'a>(ck: &[u8], ik: &[u8], name: &'a [u8], sqn_xor_ak: &'a [
 // stack with what the key's derivation lent.
 fn expanded<'a>(check: Checked, key: &[u8], identity: &'a [u8], out: &mut [u8]) -> Answered
     ensures answer { answer_of result ≡ answer_to (checked_as check and_then expand_check 208 (length out.old)) 208 }
-    ensures buffer { out.new ≡ buffer_after (checked_as check and_then expand_check 208 (length out.old)) 208 (prfPlus hmac_sha256 key.now (expansion_text identity.now) 208) out.old }
+    ensures buffer { out.new ≡ buffer_after (checked_as check and_then expand_check 208 (length out.old)) 208 (prf_plus_of hmac_sha256 key.now (expansion_text identity.now) 208) out.old }
 {
     prf_plus::expand(check, key, b"EAP-AKA'", identity, b"", b"", MATERIAL, out)
 }

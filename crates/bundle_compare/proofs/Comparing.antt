@@ -15,10 +15,10 @@ use Rattle.compare_rules.specs.Compare.{entries, first_entries, second_entries, 
 use Rattle.compare_rules.specs.Statements.{total}
 use Rattle.compare_rules.proofs.Counting.{fit_entries, all_counted, written-size}
 use Rattle.bundle_compare.specs.Internal.{kind_at, kinds_to, count_to, entries_to}
-use Rattle.bundle_compare.proofs.Places.{kinds-long}
+use Rattle.bundle_compare.proofs.Places.{kinds_long}
 use Rattle.bundle_compare.proofs.Entries.{written_append}
 use Rattle.bundle_compare.proofs.Tallying.{count_few, count_append, count_entries, first_no_3, second_none}
-use Rattle.bundle_compare.proofs.Listing.{first-list, second-list}
+use Rattle.bundle_compare.proofs.Listing.{first_list, second_list}
 
 -- both files pass, and two lists begin with the kinds of their lines
 pub record Told (f s ones others : List ℕ) : Type 0 where
@@ -35,7 +35,7 @@ pub record Told (f s ones others : List ℕ) : Type 0 where
 
 kinds_size : (kind : ℕ → ℕ) (n : ℕ) (l : List ℕ) {kinds : List ℕ} → n ≤ length l → kinds ≡ kinds_to kind n ++ drop n l → length kinds ≡ length l
 kinds_size kind n l h e =
-    let k = kinds-long kind n in
+    let k = kinds_long kind n in
     let d = length-drop n l in
     ap length e ∙ length-append (kinds_to kind n) (drop n l) ∙ omega arith
 
@@ -66,13 +66,13 @@ module _ (f s ones others : List ℕ) (t : Told f s ones others) where
   joined : entries_to ones f (count_in f) ++ entries_to others s (count_in s) ≡ entries_in f s
   unfolding entries_in entries
   joined =
-      λ i. first-list f s t.first_passes t.second_passes ones t.after_ones t.first_kinds i
-      ++ second-list f s t.first_passes t.second_passes others t.after_others t.second_kinds i
+      λ i. first_list f s t.first_passes t.second_passes ones t.after_ones t.first_kinds i
+      ++ second_list f s t.first_passes t.second_passes others t.after_others t.second_kinds i
 
   counted-first : (k : ℕ) → (k ≡ 0 → ⊥) → (k ≡ 3 → ⊥) → count_to k ones (count_in f) ≡ count_kind k (entries_in f s)
   unfolding entries_in entries
   counted-first k z h =
-      let own = count_entries k ones f (count_in f) z ∙ ap (count_kind k) (first-list f s t.first_passes t.second_passes ones t.after_ones t.first_kinds) in
+      let own = count_entries k ones f (count_in f) z ∙ ap (count_kind k) (first_list f s t.first_passes t.second_passes ones t.after_ones t.first_kinds) in
       let none = second_none k (bodies_of f) (bodies_of s) z h in
       let both = count_append k (first_entries (bodies_of s) (bodies_of f)) (second_entries (bodies_of f) (bodies_of s)) in
       omega arith
@@ -80,7 +80,7 @@ module _ (f s ones others : List ℕ) (t : Told f s ones others) where
   counted-second : count_to 3 others (count_in s) ≡ count_kind 3 (entries_in f s)
   unfolding entries_in entries
   counted-second =
-      let own = count_entries 3 others s (count_in s) (λ e. omega (arith, e)) ∙ ap (count_kind 3) (second-list f s t.first_passes t.second_passes others t.after_others t.second_kinds) in
+      let own = count_entries 3 others s (count_in s) (λ e. omega (arith, e)) ∙ ap (count_kind 3) (second_list f s t.first_passes t.second_passes others t.after_others t.second_kinds) in
       let none = first_no_3 (bodies_of s) (bodies_of f) in
       let both = count_append 3 (first_entries (bodies_of s) (bodies_of f)) (second_entries (bodies_of f) (bodies_of s)) in
       omega arith
@@ -97,8 +97,8 @@ pub counted_by : (f s ones others : List ℕ) (m n a b d : ℕ) → Told f s one
 counted_by f s ones others m n a b d t p q one two three = record { told = t; one = rw p at one; two = rw p at two; three = rw q at three }
 
 module _ (f s ones others : List ℕ) (a b d : ℕ) (k : Counted f s ones others a b d) where
-  pub counts-few : (a ≤ 64) × (b ≤ 64) × (d ≤ 64)
-  counts-few =
+  pub counts_few : (a ≤ 64) × (b ≤ 64) × (d ≤ 64)
+  counts_few =
       let t = k.told in
       (omega (arith, k.one, count_few 1 ones (count_in f)), omega (arith, k.two, count_few 2 ones (count_in f)), omega (arith, k.three, count_few 3 others (count_in s)))
 
@@ -118,8 +118,8 @@ module _ (f s ones others : List ℕ) (a b d : ℕ) (k : Counted f s ones others
       omega arith
 
   -- the bytes of both lists
-  pub bytes-long : length (written (entries_to ones f (count_in f))) + length (written (entries_to others s (count_in s))) ≡ 17 * (a + b + d)
-  bytes-long =
+  pub bytes_long : length (written (entries_to ones f (count_in f))) + length (written (entries_to others s (count_in s))) ≡ 17 * (a + b + d)
+  bytes_long =
       let w = written-size (fit_entries f s k.told.first_passes k.told.second_passes) in
       let j = ap (λ (l : List ℕ). length l) (sym (written_append (entries_to ones f (count_in f)) (entries_to others s (count_in s))) ∙ ap written (joined f s ones others k.told)) in
       let l = length-append (written (entries_to ones f (count_in f))) (written (entries_to others s (count_in s))) in
@@ -149,7 +149,7 @@ module _ (f s ones others : List ℕ) (a b d : ℕ) (k : Counted f s ones others
       let y : List ℕ = written (entries_to others s (count_in s)) in
       let e : length x ≡ m = omega (arith, e₁.0) in
       let on = next_part out₀ x y out₁ out₂ m (length y) e e₁.1 (rw e₂.0 at e₂.1) in
-      let end : m + length y ≡ entries_length f s = omega (arith, bytes-long, size) in
+      let end : m + length y ≡ entries_length f s = omega (arith, bytes_long, size) in
       let bytes : x ++ y ≡ written (entries_in f s) = sym (written_append (entries_to ones f (count_in f)) (entries_to others s (count_in s))) ∙ ap written (joined f s ones others k.told) in
       rw (enough (length out₀) h) (ap returned size, (tally, rw (end, bytes) at on))
 

@@ -85,9 +85,9 @@ module _ (kinds f : List ℕ) where
   listed_start from l = record { size = refl; end = sym (add-zero from); bytes = rw append-nil (sym (take-append-drop from l)) }
 
   -- there is room for the next
-  pub listed-room : (from : ℕ) (l₀ l id : List ℕ) (i n place : ℕ) → i < n → id ≡ (line_at f i).id → from + length (written (entries_to kinds f n)) ≤ length l₀ → Listed from l₀ l i place
+  pub listed_room : (from : ℕ) (l₀ l id : List ℕ) (i n place : ℕ) → i < n → id ≡ (line_at f i).id → from + length (written (entries_to kinds f n)) ≤ length l₀ → Listed from l₀ l i place
       → place + length (written (listed (get_or kinds i 0) id [])) ≤ length l
-  listed-room from l₀ l id i n place h q r s =
+  listed_room from l₀ l id i n place h q r s =
       let m : i + 1 + (n - (i + 1)) ≡ n = omega arith in
       let more = rw m at (bytes-more (i + 1) (n - (i + 1))) in
       let l' = ap length (bytes_on i) in
@@ -101,7 +101,7 @@ module _ (kinds f : List ℕ) where
   listed-on from l₀ l l' id i n place next h q r s e' p' =
       let e = rw q at e' in
       let p = rw q at p' in
-      let room = listed-room from l₀ l (line_at f i).id i n place h refl r s in
+      let room = listed_room from l₀ l (line_at f i).id i n place h refl r s in
       let done : List ℕ = take from l₀ ++ written (entries_to kinds f i) in
       let part : List ℕ = written (listed (get_or kinds i 0) (line_at f i).id []) in
       let long : length done ≡ place = length-append (take from l₀) (written (entries_to kinds f i)) ∙ omega (arith, length-take-le from l₀ (omega arith), s.end) in
@@ -113,6 +113,6 @@ module _ (kinds f : List ℕ) where
         bytes = rw (bytes_on i, e, ← append_assoc) on;
       }
 
-  pub listed-end : (from : ℕ) (l₀ l : List ℕ) (i n place : ℕ) → i ≡ n → Listed from l₀ l i place
+  pub listed_end : (from : ℕ) (l₀ l : List ℕ) (i n place : ℕ) → i ≡ n → Listed from l₀ l i place
       → (place ≡ from + length (written (entries_to kinds f n))) × (l ≡ take from l₀ ++ (written (entries_to kinds f n) ++ drop place l₀))
-  listed-end from l₀ l i n place e s = rw (← e) (s.end, s.bytes ∙ append_assoc (take from l₀) (written (entries_to kinds f i)) (drop place l₀))
+  listed_end from l₀ l i n place e s = rw (← e) (s.end, s.bytes ∙ append_assoc (take from l₀) (written (entries_to kinds f i)) (drop place l₀))

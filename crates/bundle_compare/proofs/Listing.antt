@@ -13,7 +13,7 @@ use Rattle.bundle_rules.specs.Bundle.{line_at, lines_from, count_in, body_of, bo
 use Rattle.bundle_contents.proofs.Contents.{lines_done}
 use Rattle.compare_rules.specs.Compare.{Entry, listed, first_entries, second_entries}
 use Rattle.bundle_compare.specs.Internal.{kind_at, kinds_to, entries_to}
-use Rattle.bundle_compare.proofs.Places.{first_next, second_next, kind-told}
+use Rattle.bundle_compare.proofs.Places.{first_next, second_next, kind_told}
 
 -- ---- the entries of the first lines, and of those after them
 
@@ -54,15 +54,15 @@ list_of :
     → entries_to kinds f (count_in f) ≡ of (bodies_of f)
 list_of f kinds kind of next none rest e =
     all-walked kinds f (count_in f) (λ i. of (map (body_of f) (lines_from f i (count_in f - i))))
-    (λ i h. next i h ∙ ap (λ (k : ℕ). listed k (line_at f i).id (of (map (body_of f) (lines_from f (i + 1) (count_in f - (i + 1)))))) (sym (kind-told kind (count_in f) i rest e h)))
+    (λ i h. next i h ∙ ap (λ (k : ℕ). listed k (line_at f i).id (of (map (body_of f) (lines_from f (i + 1) (count_in f - (i + 1)))))) (sym (kind_told kind (count_in f) i rest e h)))
     (ap of (no_lines f) ∙ none)
     ∙ rw (sub-zero (count_in f))
 
 module _ (f s : List ℕ) (p : bundle_check f ≡ pass) (q : bundle_check s ≡ pass) (kinds : List ℕ) where
-  pub first-list : (rest : List ℕ) → kinds ≡ kinds_to (kind_at 1 2 f s) (count_in f) ++ rest → entries_to kinds f (count_in f) ≡ first_entries (bodies_of s) (bodies_of f)
+  pub first_list : (rest : List ℕ) → kinds ≡ kinds_to (kind_at 1 2 f s) (count_in f) ++ rest → entries_to kinds f (count_in f) ≡ first_entries (bodies_of s) (bodies_of f)
   unfolding first_entries
-  first-list = list_of f kinds (kind_at 1 2 f s) (first_entries (bodies_of s)) (λ i h. first_next f s i p q h) refl
+  first_list = list_of f kinds (kind_at 1 2 f s) (first_entries (bodies_of s)) (λ i h. first_next f s i p q h) refl
 
-  pub second-list : (rest : List ℕ) → kinds ≡ kinds_to (kind_at 3 0 s f) (count_in s) ++ rest → entries_to kinds s (count_in s) ≡ second_entries (bodies_of f) (bodies_of s)
+  pub second_list : (rest : List ℕ) → kinds ≡ kinds_to (kind_at 3 0 s f) (count_in s) ++ rest → entries_to kinds s (count_in s) ≡ second_entries (bodies_of f) (bodies_of s)
   unfolding second_entries
-  second-list = list_of s kinds (kind_at 3 0 s f) (second_entries (bodies_of f)) (λ i h. second_next f s i p q h) refl
+  second_list = list_of s kinds (kind_at 3 0 s f) (second_entries (bodies_of f)) (λ i h. second_next f s i p q h) refl

@@ -81,10 +81,10 @@ second_next f s i p q h =
 -- ---- the kinds of the first lines
 
 module _ (kind : ℕ → ℕ) where
-  pub kinds-long : (n : ℕ) → length (kinds_to kind n) ≡ n
+  pub kinds_long : (n : ℕ) → length (kinds_to kind n) ≡ n
   unfolding kinds_to
-  kinds-long zero = refl
-  kinds-long (suc n) = length-append (kinds_to kind n) (kind n ∷ []) ∙ omega (arith, kinds-long n)
+  kinds_long zero = refl
+  kinds_long (suc n) = length-append (kinds_to kind n) (kind n ∷ []) ∙ omega (arith, kinds_long n)
 
   kinds-at : (n i : ℕ) → i < n → get_or (kinds_to kind n) i 0 ≡ kind i
   unfolding kinds_to
@@ -93,14 +93,14 @@ module _ (kind : ℕ → ℕ) where
     where
       go : Dec (i < n) → (i < n → get_or (kinds_to kind n) i 0 ≡ kind i) → get_or (kinds_to kind n ++ (kind n ∷ [])) i 0 ≡ kind i
       go (yes l) later =
-          let long = kinds-long n in
+          let long = kinds_long n in
           get_or-append (kinds_to kind n) (kind n ∷ []) 0 i (omega arith) ∙ later l
       go (no g) later =
           let e : i ≡ n = omega (arith, g) in
-          rw e (get_or_at (kinds_to kind n) (kind n) [] 0 n (kinds-long n))
+          rw e (get_or_at (kinds_to kind n) (kind n) [] 0 n (kinds_long n))
 
   -- a list that begins with them
-  pub kind-told : (n i : ℕ) (rest : List ℕ) {kinds : List ℕ} → kinds ≡ kinds_to kind n ++ rest → i < n → get_or kinds i 0 ≡ kind i
-  kind-told n i rest e h =
-      let long = kinds-long n in
+  pub kind_told : (n i : ℕ) (rest : List ℕ) {kinds : List ℕ} → kinds ≡ kinds_to kind n ++ rest → i < n → get_or kinds i 0 ≡ kind i
+  kind_told n i rest e h =
+      let long = kinds_long n in
       ap (λ (l : List ℕ). get_or l i 0) e ∙ get_or-append (kinds_to kind n) rest 0 i (omega arith) ∙ kinds-at n i h

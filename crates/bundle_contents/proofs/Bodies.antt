@@ -45,11 +45,11 @@ module _ (f : List ℕ) (i n : ℕ) {id body : List ℕ} {whole c : Check} (h : 
   unfolding bodies_check
   one_more = inv ∙ rw (lines_next f i n h, t, p, q)
 
-  pub bodies-stop : {x : Reason} → c ≡ refuse x → refuse x ≡ whole
-  bodies-stop e = first_refuses _ _ e ∙ sym one_more
+  pub bodies_stop : {x : Reason} → c ≡ refuse x → refuse x ≡ whole
+  bodies_stop e = first_refuses _ _ e ∙ sym one_more
 
-  pub bodies-on : c ≡ pass → whole ≡ bodies_check f (lines_from f (i + 1) (n - (i + 1)))
-  bodies-on e = one_more ∙ sym (second_decides _ _ e)
+  pub bodies_on : c ≡ pass → whole ≡ bodies_check f (lines_from f (i + 1) (n - (i + 1)))
+  bodies_on e = one_more ∙ sym (second_decides _ _ e)
 
 pub bodies_done : (f : List ℕ) (i n : ℕ) {whole : Check} → n ≤ i → whole ≡ bodies_check f (lines_from f i (n - i)) → pass ≡ whole
 unfolding bodies_check

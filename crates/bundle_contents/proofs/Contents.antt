@@ -12,21 +12,21 @@ use Rattle.bundle_rules.specs.Bundle.{contents_end, line_at, lines_from, body_of
 -- ---- a line that begins at a place
 
 module _ (f : List ℕ) (i : ℕ) {at : ℕ} (e : at ≡ contents_end i) where
-  pub id-told : take (at + 16 - at) (drop at f) ≡ (line_at f i).id
+  pub id_told : take (at + 16 - at) (drop at f) ≡ (line_at f i).id
   unfolding line_at
-  id-told =
+  id_told =
       let m : at + 16 - at ≡ 16 = omega arith in
       rw (m, e)
 
-  pub offset-told : {r : ℕ} → r ≡ be16_at f (at + 16) → r ≡ (line_at f i).offset
+  pub offset_told : {r : ℕ} → r ≡ be16_at f (at + 16) → r ≡ (line_at f i).offset
   unfolding line_at
-  offset-told q =
+  offset_told q =
       let m : at + 16 ≡ 18 + 20 * i = omega arith in
       q ∙ ap (λ (k : ℕ). be16_at f k) m
 
-  pub size-told : {r : ℕ} → r ≡ be16_at f (at + 18) → r ≡ (line_at f i).size
+  pub size_told : {r : ℕ} → r ≡ be16_at f (at + 18) → r ≡ (line_at f i).size
   unfolding line_at
-  size-told q =
+  size_told q =
       let m : at + 18 ≡ 20 + 20 * i = omega arith in
       q ∙ ap (λ (k : ℕ). be16_at f k) m
 

@@ -9,7 +9,7 @@ use lib.Dec.{eqb}
 use lib.ListN.{length, take, drop}
 use Rattle.refusal.specs.Checks.{Reason, pass, refuse, ◌and_then◌, check6}
 use Rattle.refusal.specs.Answers.{Answer, refused, answer_to, buffer_after}
-use Rattle.slices.proofs.Lists.{rest-drop}
+use Rattle.slices.proofs.Lists.{rest_drop}
 use Rattle.slices.proofs.Truth.{and_left}
 use Rattle.slices.specs.Numbers.{be16_at}
 use Rattle.bundle_rules.specs.Bundle.{contents_end, line_at, lines_from, count_in, follow, bundle_check, read_check, read_answer, read_buffer}
@@ -41,4 +41,4 @@ pub read_so : (f out after : List ℕ) (at : ℕ) {r : Answer} → bundle_check 
     → after ≡ buffer_after (pass and_then check6 (length (take (length f - at) (drop at f))) (length out)) (length (take (length f - at) (drop at f))) (take (length f - at) (drop at f)) out
     → (r ≡ read_answer f (length out)) × (after ≡ read_buffer f out)
 unfolding read_answer read_buffer read_check
-read_so f out after at p e a l = rw (p, ← e) (rw (rest-drop at f) at a, rw (rest-drop at f) at l)
+read_so f out after at p e a l = rw (p, ← e) (rw (rest_drop at f) at a, rw (rest_drop at f) at l)

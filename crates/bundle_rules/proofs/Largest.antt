@@ -12,7 +12,7 @@ use Rattle.key_frame.specs.KeyFrame.{fields_in, length_holds, frame_check}
 use Rattle.bundle_rules.specs.Bundle.{key_id_in, id_stands, id_repeats, file_of, frames_check}
 use Rattle.bundle_rules.specs.Statements.{Largest}
 use Rattle.bundle_rules.specs.Cases.{sample}
-use Rattle.bundle_rules.proofs.Written.{file-size, file-passes}
+use Rattle.bundle_rules.proofs.Written.{file_size, file_passes}
 
 unfoldable samples : ℕ → List (List ℕ)
 samples zero = []
@@ -39,6 +39,6 @@ largest =
     let n = many in
     let low : 1 ≤ length (samples 64) = omega arith in
     let high : length (samples 64) ≤ 64 = omega arith in
-    let size = file-size (samples 64) frames low high once in
+    let size = file_size (samples 64) frames low high once in
     let b = bytes in
-    (file_of (samples 64), file-passes (samples 64) frames low high once, omega arith)
+    (file_of (samples 64), file_passes (samples 64) frames low high once, omega arith)

@@ -17,7 +17,7 @@ use Rattle.bundle_rules.specs.Statements.{WrittenReads, ReadWrites, OneFile}
 use Rattle.bundle_rules.proofs.Packing.{packed_back, all_packed}
 use Rattle.bundle_rules.proofs.Reading.{contents, laid, laid_flatten, laid_frames, laid_ids}
 use Rattle.bundle_rules.proofs.FileBack.{length_bodies, file_back}
-use Rattle.bundle_rules.proofs.Written.{file-size, packed-read, file-passes}
+use Rattle.bundle_rules.proofs.Written.{file_size, packed_read, file_passes}
 
 -- ---- what is written reads back
 
@@ -49,19 +49,19 @@ module _ (attributes : List ℕ) (space : ℕ) (ok : write_check attributes spac
   unfolding file
   length-file =
       let w = writable attributes space ok in
-      file-size (packed attributes) w.frames w.low w.high w.once ∙ ap (λ (l : List ℕ). contents_end (length (packed attributes)) + length l) (all_packed attributes)
+      file_size (packed attributes) w.frames w.low w.high w.once ∙ ap (λ (l : List ℕ). contents_end (length (packed attributes)) + length l) (all_packed attributes)
 
   attributes-read : packed_in file ≡ attributes
   unfolding file
   attributes-read =
       let w = writable attributes space ok in
-      packed-read (packed attributes) w.frames w.low w.high w.once ∙ all_packed attributes
+      packed_read (packed attributes) w.frames w.low w.high w.once ∙ all_packed attributes
 
   reads : (room : ℕ) → length attributes ≤ room → read_check file room ≡ pass
   unfolding read_check file
   reads room h =
       let w = writable attributes space ok in
-      both_pass _ _ (file-passes (packed attributes) w.frames w.low w.high w.once) (test_holds _ (bare 6) (rw attributes-read (le-leb (length attributes) room h)))
+      both_pass _ _ (file_passes (packed attributes) w.frames w.low w.high w.once) (test_holds _ (bare 6) (rw attributes-read (le-leb (length attributes) room h)))
 
   -- what the writer leaves begins with the file
   begins : (buffer : List ℕ) (n : ℕ) → length buffer ≡ space → file_length attributes ≡ n → take n (write_buffer attributes buffer) ≡ file

@@ -150,13 +150,13 @@ both : (a b : Bool) → a ≡ true → b ≡ true → (a && b) ≡ true
 both a b p q = rw (p, q)
 
 module _ (bodies : List (List ℕ)) (c : frames_check bodies ≡ pass) (low : 1 ≤ length bodies) (high : length bodies ≤ 64) (once : id_repeats (map key_id_in bodies) ≡ false) where
-  pub count-read : count_in (file_of bodies) ≡ length bodies
+  pub count_read : count_in (file_of bodies) ≡ length bodies
   unfolding file_of
-  count-read = two_back (length bodies) (omega arith)
+  count_read = two_back (length bodies) (omega arith)
 
-  pub file-size : length (file_of bodies) ≡ contents_end (length bodies) + length (flatten bodies)
+  pub file_size : length (file_of bodies) ≡ contents_end (length bodies) + length (flatten bodies)
   unfolding file_of
-  file-size =
+  file_size =
       let n = lines_size (contents_end (length bodies)) bodies c in
       let m = length-append (lines_of (contents_end (length bodies)) bodies) (flatten bodies) in
       omega arith
@@ -167,8 +167,8 @@ module _ (bodies : List (List ℕ)) (c : frames_check bodies ≡ pass) (low : 1 
       let n = lines_size (contents_end (length bodies)) bodies c in
       drop_at (be16 (length bodies) ++ lines_of (contents_end (length bodies)) bodies) (flatten bodies) (contents_end (length bodies)) (omega arith)
 
-  pub packed-read : packed_in (file_of bodies) ≡ flatten bodies
-  packed-read = rw count-read after-contents
+  pub packed_read : packed_in (file_of bodies) ≡ flatten bodies
+  packed_read = rw count_read after-contents
 
   after-count : drop 2 (file_of bodies) ≡ lines_of (contents_end (length bodies)) bodies ++ flatten bodies
   unfolding file_of
@@ -177,14 +177,14 @@ module _ (bodies : List (List ℕ)) (c : frames_check bodies ≡ pass) (low : 1 
   lines-in : lines_in (file_of bodies) ≡ wanted (contents_end (length bodies)) bodies
   lines-in =
       let m = flatten_size bodies c in
-      rw count-read (lines_read (file_of bodies) 0 (contents_end (length bodies)) bodies (flatten bodies) c (omega arith) after-count)
+      rw count_read (lines_read (file_of bodies) 0 (contents_end (length bodies)) bodies (flatten bodies) c (omega arith) after-count)
 
-  pub file-passes : bundle_check (file_of bodies) ≡ pass
+  pub file_passes : bundle_check (file_of bodies) ≡ pass
   unfolding bundle_check contents_check unless ◌and_then◌
-  file-passes =
-      let size = file-size in
+  file_passes =
+      let size = file_size in
       let f = file_of bodies in
       let t39 = both (leb 2 (length f)) (within 1 64 (length bodies)) (le-leb 2 (length f) (omega arith)) (within_holds 1 64 (length bodies) low high) in
       let t40 = both (leb (contents_end (length bodies)) (length f)) _ (le-leb (contents_end (length bodies)) (length f) (omega arith)) (wanted_follow (contents_end (length bodies)) bodies) in
       let t41 = eq-eqb (last_end (contents_end (length bodies)) (wanted (contents_end (length bodies)) bodies)) (length f) (wanted_end (contents_end (length bodies)) bodies ∙ sym size) in
-      rw (lines-in, count-read, t39, t40, t41, wanted_ids, once) (wanted_bodies f (contents_end (length bodies)) bodies c after-contents)
+      rw (lines-in, count_read, t39, t40, t41, wanted_ids, once) (wanted_bodies f (contents_end (length bodies)) bodies c after-contents)

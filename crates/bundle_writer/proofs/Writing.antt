@@ -39,9 +39,9 @@ unfolding write_check
 write_early a room e = first_refuses _ _ e
 
 module _ (a : List ℕ) (n room : ℕ) (c : packed_check a ≡ pass) (q : n ≡ length (packed a)) where
-  pub write-room : room < contents_end n + length a → refuse (bare 6) ≡ write_check a room
+  pub write_room : room < contents_end n + length a → refuse (bare 6) ≡ write_check a room
   unfolding write_check unless
-  write-room h = sym (sym (second_decides _ _ c) ∙ rw (← q, lt-leb (contents_end n + length a) room h))
+  write_room h = sym (sym (second_decides _ _ c) ∙ rw (← q, lt-leb (contents_end n + length a) room h))
 
   write-passes : contents_end n + length a ≤ room → pass ≡ write_check a room
   unfolding write_check unless

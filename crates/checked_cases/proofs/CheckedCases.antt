@@ -4,7 +4,7 @@ use borrow.Author.Tests.{le-leb}
 use lib.ListN.{length}
 use Rattle.slices.specs.Same.{same_list}
 use Rattle.refusal.specs.Checks.{unless, ◌and_then◌, within}
-use Rattle.prf_plus.specs.PrfPlus.{input_after, block, blockInput}
+use Rattle.prf_plus.specs.PrfPlus.{input_after, block, block_input}
 use Rattle.requests.specs.Rfc5295.{usage_text}
 use Rattle.requests.specs.Requests.{text_of, input_of}
 use Rattle.offer_rules.specs.Rfc5448.{stands, repeats, first_supported, is_first, choose_check, answer_check, renewed_check}
@@ -15,7 +15,7 @@ use Rattle.key_writer.specs.KeyWriter.{attribute, write_check, write_answer, wri
 use Rattle.checked_cases.specs.CheckedCases.{CheckedCases}
 
 pub checked_cases : CheckedCases
-unfolding text_of input_of usage_text blockInput block input_after first_round server_answer server_buffer renewed_answer choose_check answer_check renewed_check stands repeats first_supported is_first same_list write_answer write_buffer write_check attribute header wrappable unless ◌and_then◌ within
+unfolding text_of input_of usage_text block_input block input_after first_round server_answer server_buffer renewed_answer choose_check answer_check renewed_check stands repeats first_supported is_first same_list write_answer write_buffer write_check attribute header wrappable unless ◌and_then◌ within
 checked_cases =
     record {
       p1 = λ room. refl;

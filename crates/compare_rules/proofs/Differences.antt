@@ -11,7 +11,7 @@ use Rattle.compare_rules.specs.Compare.{Found, missing, found, lookup, kind_in_f
 use Rattle.compare_rules.specs.Statements.{same_found, differs, kind_of, times, keep, ids_listed, ExactlyOnce, KindRight, Order}
 use Rattle.compare_rules.proofs.Ids.{times_append, times-keep, times_once}
 use Rattle.compare_rules.proofs.Found.{is_found, found-stands, found_own, ids_once}
-use Rattle.compare_rules.proofs.Listing.{first-listed, first_kind, second_missing, first-ids, second-ids, Listed, here, later, listed_entry}
+use Rattle.compare_rules.proofs.Listing.{first-listed, first_kind, second_missing, first_ids, second_ids, Listed, here, later, listed_entry}
 
 abbrev unlike : List (List ℕ) → List (List ℕ) → List ℕ → Bool
 unlike first second id = not (same_found (lookup id first) (lookup id second))
@@ -32,7 +32,7 @@ module _ (first second : List (List ℕ)) (once₁ : id_repeats (map key_id_in f
   unfolding entries
   ordered =
       map-append (λ (e : Entry). e.id) (first_entries second first) (second_entries first second)
-      ∙ (λ i. first-ids first second first (λ b m. found_own once₁ m) i ++ second-ids first second second i)
+      ∙ (λ i. first_ids first second first (λ b m. found_own once₁ m) i ++ second_ids first second second i)
 
   counted : (id : List ℕ) → times id (ids_listed (entries first second)) ≡ cond (unlike first second id) 1 0
   counted id =

@@ -46,22 +46,22 @@ listed_ids kind id more ids false e h = rw e (λ i. id ∷ h i)
 
 module _ (first second : List (List ℕ)) where
   -- in the first bundle's order those that differ
-  pub first-ids : (bodies : List (List ℕ)) → ((b : List ℕ) → Memᴰ b bodies → lookup (key_id_in b) first ≡ found b)
+  pub first_ids : (bodies : List (List ℕ)) → ((b : List ℕ) → Memᴰ b bodies → lookup (key_id_in b) first ≡ found b)
       → ids_listed (first_entries second bodies) ≡ keep (λ (id : List ℕ). not (same_found (lookup id first) (lookup id second))) (map key_id_in bodies)
   unfolding first_entries keep
-  first-ids [] own = refl
-  first-ids (b ∷ bodies) own =
-      let later = first-ids bodies (λ x m. own x (Memᴰ.tail m)) in
+  first_ids [] own = refl
+  first_ids (b ∷ bodies) own =
+      let later = first_ids bodies (λ x m. own x (Memᴰ.tail m)) in
       let here = own b (Memᴰ.head refl) in
       rw here (listed_ids (kind_in_first b (lookup (key_id_in b) second)) (key_id_in b) _ _ _ (first-listed b (lookup (key_id_in b) second)) later)
 
   -- in the second's order those that are not in the first
-  pub second-ids : (bodies : List (List ℕ)) → ids_listed (second_entries first bodies) ≡ keep (λ (id : List ℕ). not (id_stands id (map key_id_in first))) (map key_id_in bodies)
+  pub second_ids : (bodies : List (List ℕ)) → ids_listed (second_entries first bodies) ≡ keep (λ (id : List ℕ). not (id_stands id (map key_id_in first))) (map key_id_in bodies)
   unfolding second_entries keep
-  second-ids [] = refl
-  second-ids (b ∷ bodies) =
+  second_ids [] = refl
+  second_ids (b ∷ bodies) =
       let same = second_listed (lookup (key_id_in b) first) ∙ found-stands (key_id_in b) first in
-      listed_ids (kind_in_second (lookup (key_id_in b) first)) (key_id_in b) _ _ _ same (second-ids bodies)
+      listed_ids (kind_in_second (lookup (key_id_in b) first)) (key_id_in b) _ _ _ same (second_ids bodies)
 
 -- ---- an entry that is listed
 

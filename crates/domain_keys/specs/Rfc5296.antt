@@ -6,7 +6,7 @@ use Rattle.refusal.specs.Checks.{Check, bare, unless, ◌and_then◌, check6}
 use Rattle.refusal.specs.Answers.{Answer, answer_to, buffer_after}
 use Rattle.labels.specs.FixedLabels.{rrk_label}
 use Rattle.hmac.specs.Rfc2104.{hmac_sha256}
-use Rattle.prf_plus.specs.PrfPlus.{prfPlus}
+use Rattle.prf_plus.specs.PrfPlus.{prf_plus_of}
 
 -- its text S: the label, a zero byte, and the length as two bytes
 unfoldable pub rrk_text : List ℕ
@@ -22,7 +22,7 @@ rrk_check dsrk room = parent_check dsrk and_then check6 64 room
 
 -- the rRK: 64 bytes of prf+, with the domain root key as K
 unfoldable pub rrk_key : List ℕ → List ℕ
-rrk_key dsrk = prfPlus hmac_sha256 dsrk rrk_text 64
+rrk_key dsrk = prf_plus_of hmac_sha256 dsrk rrk_text 64
 
 -- what the call answers: 64, or the first refusal
 unfoldable pub rrk_answer : List ℕ → ℕ → Answer

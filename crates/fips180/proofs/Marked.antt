@@ -9,9 +9,9 @@ use lib.Dec.{lit<}
 use lib.ListN.{length, take, drop, set, replicate, length-append, length-replicate, length-drop, replicate-append-replicate}
 use lib.Seq.{sets, sets-eq, set_at, take_at, drop_at}
 use Rattle.slices.specs.Numbers.{be64}
-use Rattle.slices.proofs.Lists.{rest-drop, copied-front}
+use Rattle.slices.proofs.Lists.{rest_drop, copied_front}
 use Rattle.fips180.specs.Hash.{blocks_by}
-use Rattle.fips180.specs.Stream.{Progress, absorbedBy, finishedBy}
+use Rattle.fips180.specs.Stream.{Progress, absorbed_by, finished_by}
 use Rattle.fips180.specs.Internal.{closing_by, marked_block}
 use Rattle.fips180.proofs.Stream.{empty, starting, finished-closing}
 use Rattle.fips180.proofs.Closing.{close-one, close-two}
@@ -28,7 +28,7 @@ zeros-after a h =
 pub marked : (x : List ℕ) (a : ℕ) {b : List ℕ} → length x ≡ a → a < 64 → b ≡ take (length x) x ++ drop (length x) (replicate 64 0) → set b a 0x80 ≡ marked_block x
 marked x a l h e =
     let z : drop {A = ℕ} (length x) (replicate 64 0) ≡ 0 ∷ replicate (63 - length x) 0 = zeros-after (length x) (omega arith) in
-    ap (λ (y : List ℕ). set y a 0x80) (copied-front x (replicate 64 0) e ∙ ap (λ (y : List ℕ). x ++ y) z) ∙ set_at x 0 (replicate (63 - length x) 0) 0x80 a l
+    ap (λ (y : List ℕ). set y a 0x80) (copied_front x (replicate 64 0) e ∙ ap (λ (y : List ℕ). x ++ y) z) ∙ set_at x 0 (replicate (63 - length x) 0) 0x80 a l
 
 pub marked_length : (x : List ℕ) → length x < 64 → length (marked_block x) ≡ 64
 marked_length x h = simp (length-append, length-replicate) (sum (length x) h)
@@ -49,7 +49,7 @@ pub marked_rest : (m : List ℕ) {b : List ℕ}
     → set b (length m % 64) 0x80 ≡ marked_block (drop (length m / 64 * 64) m)
 marked_rest m {b} e =
     let x : List ℕ = drop (length m / 64 * 64) m in
-    let y : take (length m - (length m - length m % 64)) (drop (length m - length m % 64) m) ≡ x = rest-drop (length m - length m % 64) m ∙ ap (λ (i : ℕ). drop i m) (cut (length m)) in
+    let y : take (length m - (length m - length m % 64)) (drop (length m - length m % 64) m) ≡ x = rest_drop (length m - length m % 64) m ∙ ap (λ (i : ℕ). drop i m) (cut (length m)) in
     let f : b ≡ take (length x) x ++ drop (length x) (replicate 64 0) = e ∙ ap (λ (z : List ℕ). take (length z) z ++ drop (length z) (replicate 64 0)) y in
     marked x (length m % 64) (rest_length m) (mod-lt (length m) (lit< tt)) f
   where
@@ -78,10 +78,10 @@ module _ (compress : List ℕ → List ℕ → List ℕ) where
     marked-two l eg e = close-two compress h b n lb own l eg e ∙ ap (λ (y : List ℕ). closing_by compress h y n) held
 
   -- what a hash at a block's start comes to with a message
-  pub at-start : (written : List ℕ → List ℕ) (s : Progress) (m : List ℕ) → s.count < 2 ^ 64 → s.count % 64 ≡ 0 → s.block ≡ empty
-      → finishedBy compress written (absorbedBy compress s m)
+  pub at_start : (written : List ℕ → List ℕ) (s : Progress) (m : List ℕ) → s.count < 2 ^ 64 → s.count % 64 ≡ 0 → s.block ≡ empty
+      → finished_by compress written (absorbed_by compress s m)
       ≡ written (closing_by compress (blocks_by compress (length m / 64) s.value m) (drop (length m / 64 * 64) m) ((s.count + length m) % 2 ^ 64))
-  at-start written s m f z e =
+  at_start written s m f z e =
       let x : List ℕ = drop (length m / 64 * 64) m in
       let n : ℕ = (s.count + length m) % 2 ^ 64 in
       let lx : length x ≡ n % 64 = rest_length m ∙ aligned s.count (length m) z in
@@ -90,7 +90,7 @@ module _ (compress : List ℕ → List ℕ → List ℕ) where
       let b : List ℕ = sets empty 0 x in
       let lb : length b ≡ 64 = ap length eb ∙ simp (length-append, length-drop) (omega (arith, room)) in
       let t : take (n % 64) b ≡ x = ap (take (n % 64)) eb ∙ take_at x (drop (length x) empty) (n % 64) lx in
-      ap (finishedBy compress written) (starting compress s m f z e)
+      ap (finished_by compress written) (starting compress s m f z e)
       ∙ finished-closing compress written (record { value = blocks_by compress (length m / 64) s.value m; block = b; count = n }) (mod-lt (s.count + length m) (lit< tt)) lb
       ∙ ap (λ (y : List ℕ). written (closing_by compress (blocks_by compress (length m / 64) s.value m) y n)) t
     where

@@ -33,17 +33,17 @@ module _ (n m : ℕ) (e : n + m ≡ 32) where
   rot-split : (x : ℕ) → x < 2 ^ 32 → rot n x ≡ x % 2 ^ n * 2 ^ m + x / 2 ^ n
   rot-split x h = ap (rot n) (sym (split x n)) ∙ rot_parts n m (x / 2 ^ n) (x % 2 ^ n) e (top x h) (mod-lt x (pow_pos n))
 
-  pub rot-xor : (x y : ℕ) → x < 2 ^ 32 → y < 2 ^ 32 → rot n (xor x y) ≡ xor (rot n x) (rot n y)
+  pub rot_xor : (x y : ℕ) → x < 2 ^ 32 → y < 2 ^ 32 → rot n (xor x y) ≡ xor (rot n x) (rot n y)
   unfolding xor
-  rot-xor x y hx hy =
+  rot_xor x y hx hy =
       ap (rot n) (ap₂ bit_xor (sym (split x n)) (sym (split y n)) ∙ xor_block n (x / 2 ^ n) (y / 2 ^ n) (x % 2 ^ n) (y % 2 ^ n) (mod-lt x (pow_pos n)) (mod-lt y (pow_pos n)))
       ∙ rot_parts n m (bit_xor (x / 2 ^ n) (y / 2 ^ n)) (bit_xor (x % 2 ^ n) (y % 2 ^ n)) e (xor_lt m (x / 2 ^ n) (y / 2 ^ n) (top x hx) (top y hy)) (xor_lt n (x % 2 ^ n) (y % 2 ^ n) (mod-lt x (pow_pos n)) (mod-lt y (pow_pos n)))
       ∙ sym (xor_block m (x % 2 ^ n) (y % 2 ^ n) (x / 2 ^ n) (y / 2 ^ n) (top x hx) (top y hy))
       ∙ sym (ap₂ bit_xor (rot-split x hx) (rot-split y hy))
 
-  pub rot-and : (x y : ℕ) → x < 2 ^ 32 → y < 2 ^ 32 → rot n (and x y) ≡ and (rot n x) (rot n y)
+  pub rot_and : (x y : ℕ) → x < 2 ^ 32 → y < 2 ^ 32 → rot n (and x y) ≡ and (rot n x) (rot n y)
   unfolding and
-  rot-and x y hx hy =
+  rot_and x y hx hy =
       ap (rot n) (ap₂ bit_and (sym (split x n)) (sym (split y n)) ∙ and_block n (x / 2 ^ n) (y / 2 ^ n) (x % 2 ^ n) (y % 2 ^ n) (mod-lt x (pow_pos n)) (mod-lt y (pow_pos n)))
       ∙ rot_parts n m (bit_and (x / 2 ^ n) (y / 2 ^ n)) (bit_and (x % 2 ^ n) (y % 2 ^ n)) e (and_lt m (x / 2 ^ n) (y / 2 ^ n) (top x hx) (top y hy)) (and_lt n (x % 2 ^ n) (y % 2 ^ n) (mod-lt x (pow_pos n)) (mod-lt y (pow_pos n)))
       ∙ sym (and_block m (x % 2 ^ n) (y % 2 ^ n) (x / 2 ^ n) (y / 2 ^ n) (top x hx) (top y hy))
@@ -98,11 +98,11 @@ left_lt x h = subst (λ (r : ℕ). r < 2 ^ 32) (sym (left x)) (rot_lt 2 x h)
 
 pub left_xor : (x y : ℕ) → x < 2 ^ 32 → y < 2 ^ 32 → ROTL 30 (bit_xor x y) ≡ bit_xor (ROTL 30 x) (ROTL 30 y)
 unfolding xor
-left_xor x y hx hy = left (bit_xor x y) ∙ rot-xor 2 30 refl x y hx hy ∙ sym (ap₂ bit_xor (left x) (left y))
+left_xor x y hx hy = left (bit_xor x y) ∙ rot_xor 2 30 refl x y hx hy ∙ sym (ap₂ bit_xor (left x) (left y))
 
 pub left_and : (x y : ℕ) → x < 2 ^ 32 → y < 2 ^ 32 → ROTL 30 (bit_and x y) ≡ bit_and (ROTL 30 x) (ROTL 30 y)
 unfolding and
-left_and x y hx hy = left (bit_and x y) ∙ rot-and 2 30 refl x y hx hy ∙ sym (ap₂ bit_and (left x) (left y))
+left_and x y hx hy = left (bit_and x y) ∙ rot_and 2 30 refl x y hx hy ∙ sym (ap₂ bit_and (left x) (left y))
 
 -- a whole turn, by 2 bits and by 30
 pub turned_back : (x : ℕ) → x < 2 ^ 32 → ROTL 30 (ROTL 2 x) ≡ x

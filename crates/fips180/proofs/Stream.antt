@@ -13,7 +13,7 @@ use lib.ListN.{length, set, take, drop, replicate, length-append, length-drop, t
 use lib.Seq.{sets, sets-eq, drop-drop, length-take-le, take-append-add, drop-append-add}
 use Rattle.slices.specs.Numbers.{be64}
 use Rattle.fips180.specs.Hash.{padding, padded, blocks_by, hash_by}
-use Rattle.fips180.specs.Stream.{Progress, started, started_after, absorbByte, absorbedBy, finishedBy}
+use Rattle.fips180.specs.Stream.{Progress, started, started_after, absorb_byte, absorbed_by, finished_by}
 use Rattle.fips180.specs.Statements.{StreamIsHash, AfterBlockIsHash}
 use Rattle.fips180.specs.Internal.{closing_by}
 use Rattle.fips180.proofs.Blocks.{one_block}
@@ -59,10 +59,10 @@ padding_mod n =
 
 module _ (compress : List ℕ → List ℕ → List ℕ) where
   -- absorbing two pieces is absorbing them joined
-  pub absorbed-append : (s : Progress) (xs ys : List ℕ) → absorbedBy compress s (xs ++ ys) ≡ absorbedBy compress (absorbedBy compress s xs) ys
-  unfolding absorbedBy
-  absorbed-append s [] ys = refl
-  absorbed-append s (x ∷ xs) ys = absorbed-append (absorbByte compress s x) xs ys
+  pub absorbed_append : (s : Progress) (xs ys : List ℕ) → absorbed_by compress s (xs ++ ys) ≡ absorbed_by compress (absorbed_by compress s xs) ys
+  unfolding absorbed_by
+  absorbed_append s [] ys = refl
+  absorbed_append s (x ∷ xs) ys = absorbed_append (absorb_byte compress s x) xs ys
 
   -- ---- bytes that the block has room for
 
@@ -76,8 +76,8 @@ module _ (compress : List ℕ → List ℕ → List ℕ) where
         count = (s.count + length xs) % 2 ^ 64;
       }
 
-  within : (xs : List ℕ) (s : Progress) → s.count < 2 ^ 64 → s.count % 64 + length xs ≤ 64 → absorbedBy compress s xs ≡ after s xs
-  unfolding absorbedBy after absorbByte
+  within : (xs : List ℕ) (s : Progress) → s.count < 2 ^ 64 → s.count % 64 + length xs ≤ 64 → absorbed_by compress s xs ≡ after s xs
+  unfolding absorbed_by after absorb_byte
   within [] s f h =
       let n : eqb (s.count % 64 + 0) 64 ≡ false = ne_eqb (s.count % 64 + 0) 64 (λ e. omega arith) in
       let m : s.count ≡ (s.count + 0) % 2 ^ 64 = omega arith in
@@ -94,7 +94,7 @@ module _ (compress : List ℕ → List ℕ → List ℕ) where
       let p : (s.count + 1) % 2 ^ 64 % 64 ≡ suc (s.count % 64) = omega arith in
       let l : (s.count + 1) % 2 ^ 64 % 64 + suc (length ys) ≡ s.count % 64 + suc (suc (length ys)) = omega arith in
       let m : ((s.count + 1) % 2 ^ 64 + suc (length ys)) % 2 ^ 64 ≡ (s.count + suc (suc (length ys))) % 2 ^ 64 = count-more s.count (length ys) in
-      within (y ∷ ys) (absorbByte compress s x) (mod-lt (s.count + 1) (lit< tt)) (subst (λ (k : ℕ). k ≤ 64) (sym l) h)
+      within (y ∷ ys) (absorb_byte compress s x) (mod-lt (s.count + 1) (lit< tt)) (subst (λ (k : ℕ). k ≤ 64) (sym l) h)
       ∙ (λ i. record {
         value = cond (eqb (l i) 64) (compress (q i) (sets (r i) (p i) (y ∷ ys))) (q i);
         block = cond (eqb (l i) 64) empty (sets (r i) (p i) (y ∷ ys));
@@ -103,7 +103,7 @@ module _ (compress : List ℕ → List ℕ → List ℕ) where
 
   -- the block stays short of full
   pub part : (s : Progress) (xs : List ℕ) → s.count < 2 ^ 64 → s.count % 64 + length xs < 64
-      → absorbedBy compress s xs ≡ record { value = s.value; block = sets s.block (s.count % 64) xs; count = (s.count + length xs) % 2 ^ 64 }
+      → absorbed_by compress s xs ≡ record { value = s.value; block = sets s.block (s.count % 64) xs; count = (s.count + length xs) % 2 ^ 64 }
   unfolding after
   part s xs f h =
       let b : List ℕ = sets s.block (s.count % 64) xs in
@@ -113,7 +113,7 @@ module _ (compress : List ℕ → List ℕ → List ℕ) where
 
   -- the block is full
   full : (s : Progress) (xs : List ℕ) → s.count < 2 ^ 64 → s.count % 64 + length xs ≡ 64
-      → absorbedBy compress s xs ≡ record { value = compress s.value (sets s.block (s.count % 64) xs); block = empty; count = (s.count + length xs) % 2 ^ 64 }
+      → absorbed_by compress s xs ≡ record { value = compress s.value (sets s.block (s.count % 64) xs); block = empty; count = (s.count + length xs) % 2 ^ 64 }
   unfolding after
   full s xs f h =
       let b : List ℕ = sets s.block (s.count % 64) xs in
@@ -125,7 +125,7 @@ module _ (compress : List ℕ → List ℕ → List ℕ) where
 
   -- n whole blocks, and r bytes after them
   from_start : (n r : ℕ) (s : Progress) (xs : List ℕ) → s.count < 2 ^ 64 → s.count % 64 ≡ 0 → s.block ≡ empty → r < 64 → length xs ≡ n * 64 + r
-      → absorbedBy compress s xs ≡ record { value = blocks_by compress n s.value xs; block = sets empty 0 (drop (n * 64) xs); count = (s.count + length xs) % 2 ^ 64 }
+      → absorbed_by compress s xs ≡ record { value = blocks_by compress n s.value xs; block = sets empty 0 (drop (n * 64) xs); count = (s.count + length xs) % 2 ^ 64 }
   unfolding blocks_by
   from_start zero r s xs f z e hr l =
       part s xs f (omega arith) ∙ (λ i. record { value = s.value; block = sets (e i) (z i) xs; count = (s.count + length xs) % 2 ^ 64 })
@@ -136,9 +136,9 @@ module _ (compress : List ℕ → List ℕ → List ℕ) where
       let less : length (drop 64 xs) ≡ n * 64 + r = length-drop 64 xs ∙ rest (length xs) n r l in
       let p : 64 + n * 64 ≡ suc n * 64 = omega arith in
       let q : s.count + 64 + length (drop 64 xs) ≡ s.count + length xs = total s.count (length xs) (length (drop 64 xs)) n r l less in
-      ap (absorbedBy compress s) (sym (take-append-drop 64 xs))
-      ∙ absorbed-append s (take 64 xs) (drop 64 xs)
-      ∙ ap (λ (u : Progress). absorbedBy compress u (drop 64 xs)) (full s (take 64 xs) f (omega arith) ∙ (λ i. record { value = compress s.value (one i); block = empty; count = (s.count + lt i) % 2 ^ 64 }))
+      ap (absorbed_by compress s) (sym (take-append-drop 64 xs))
+      ∙ absorbed_append s (take 64 xs) (drop 64 xs)
+      ∙ ap (λ (u : Progress). absorbed_by compress u (drop 64 xs)) (full s (take 64 xs) f (omega arith) ∙ (λ i. record { value = compress s.value (one i); block = empty; count = (s.count + lt i) % 2 ^ 64 }))
       ∙ from_start n r t (drop 64 xs) (mod-lt (s.count + 64) (lit< tt)) (next_start s.count z) refl hr less
       ∙ (λ i. record {
         value = blocks_by compress n (compress s.value (take 64 xs)) (drop 64 xs);
@@ -154,7 +154,7 @@ module _ (compress : List ℕ → List ℕ → List ℕ) where
 
   -- the same by division
   pub starting : (s : Progress) (xs : List ℕ) → s.count < 2 ^ 64 → s.count % 64 ≡ 0 → s.block ≡ empty
-      → absorbedBy compress s xs ≡ record { value = blocks_by compress (length xs / 64) s.value xs; block = sets empty 0 (drop (length xs / 64 * 64) xs); count = (s.count + length xs) % 2 ^ 64 }
+      → absorbed_by compress s xs ≡ record { value = blocks_by compress (length xs / 64) s.value xs; block = sets empty 0 (drop (length xs / 64 * 64) xs); count = (s.count + length xs) % 2 ^ 64 }
   starting s xs f z e = from_start (length xs / 64) (length xs % 64) s xs f z e (mod-lt (length xs) (lit< tt)) (division (length xs))
     where
       division : (x : ℕ) → x ≡ x / 64 * 64 + x % 64
@@ -166,14 +166,14 @@ module _ (compress : List ℕ → List ℕ → List ℕ) where
     filled : Progress
     filled = record { value = compress s.value (sets s.block (s.count % 64) (take k xs)); block = empty; count = (s.count + k) % 2 ^ 64 }
 
-    head : absorbedBy compress s (take k xs) ≡ filled
+    head : absorbed_by compress s (take k xs) ≡ filled
     unfolding filled
     head =
         let l : length (take k xs) ≡ k = length-take-le k xs hk in
         full s (take k xs) f (ap (λ (j : ℕ). s.count % 64 + j) l ∙ ek)
         ∙ (λ i. record { value = compress s.value (sets s.block (s.count % 64) (take k xs)); block = empty; count = (s.count + l i) % 2 ^ 64 })
 
-    pub across : absorbedBy compress s xs ≡
+    pub across : absorbed_by compress s xs ≡
         record {
           value = blocks_by compress (length (drop k xs) / 64) (compress s.value (sets s.block (s.count % 64) (take k xs))) (drop k xs);
           block = sets empty 0 (drop (length (drop k xs) / 64 * 64) (drop k xs));
@@ -182,9 +182,9 @@ module _ (compress : List ℕ → List ℕ → List ℕ) where
     unfolding filled
     across =
         let q : s.count + k + length (drop k xs) ≡ s.count + length xs = simp length-drop (sum s.count k (length xs) hk) in
-        ap (absorbedBy compress s) (sym (take-append-drop k xs))
-        ∙ absorbed-append s (take k xs) (drop k xs)
-        ∙ ap (λ (u : Progress). absorbedBy compress u (drop k xs)) head
+        ap (absorbed_by compress s) (sym (take-append-drop k xs))
+        ∙ absorbed_append s (take k xs) (drop k xs)
+        ∙ ap (λ (u : Progress). absorbed_by compress u (drop k xs)) head
         ∙ starting filled (drop k xs) (mod-lt (s.count + k) (lit< tt)) (aligned s.count k ek) refl
         ∙ (λ i. record {
           value = blocks_by compress (length (drop k xs) / 64) (compress s.value (sets s.block (s.count % 64) (take k xs))) (drop k xs);
@@ -203,7 +203,7 @@ module _ (compress : List ℕ → List ℕ → List ℕ) where
     held : List ℕ
     held = take (s.count % 64) s.block
 
-    joined : (absorbedBy compress s xs).value ≡ blocks_by compress (length (held ++ xs) / 64) s.value (held ++ xs)
+    joined : (absorbed_by compress s xs).value ≡ blocks_by compress (length (held ++ xs) / 64) s.value (held ++ xs)
     unfolding held blocks_by
     joined =
         let a : ℕ = s.count % 64 in
@@ -227,27 +227,27 @@ module _ (compress : List ℕ → List ℕ → List ℕ) where
 
   -- the digest from the parts of a hash in progress
   pub finished-closing : (written : List ℕ → List ℕ) (s : Progress) → s.count < 2 ^ 64 → length s.block ≡ 64
-      → finishedBy compress written s ≡ written (closing_by compress s.value (take (s.count % 64) s.block) s.count)
-  unfolding finishedBy closing_by held
+      → finished_by compress written s ≡ written (closing_by compress s.value (take (s.count % 64) s.block) s.count)
+  unfolding finished_by closing_by held
   finished-closing written s f lb = ap written (joined s (padding s.count) f lb (padding_long s.count))
 
-  pub stream-is-hash : (first : List ℕ) (written : List ℕ → List ℕ) → StreamIsHash compress first written
-  unfolding finishedBy hash_by padded
-  stream-is-hash first written m =
+  pub stream_is_hash : (first : List ℕ) (written : List ℕ → List ℕ) → StreamIsHash compress first written
+  unfolding finished_by hash_by padded
+  stream_is_hash first written m =
       let p : List ℕ = padding (length m) in
       let s : Progress = started first in
-      let c : (absorbedBy compress s m).count ≡ length m % 2 ^ 64 = ap (λ (u : Progress). u.count) (starting s m (lit< tt) refl refl) ∙ ap (λ (n : ℕ). n % 2 ^ 64) (zero-add (length m)) in
+      let c : (absorbed_by compress s m).count ≡ length m % 2 ^ 64 = ap (λ (u : Progress). u.count) (starting s m (lit< tt) refl refl) ∙ ap (λ (n : ℕ). n % 2 ^ 64) (zero-add (length m)) in
       ap written
-      (ap (λ (n : ℕ). (absorbedBy compress (absorbedBy compress s m) (padding n)).value) c
-      ∙ ap (λ (q : List ℕ). (absorbedBy compress (absorbedBy compress s m) q).value) (padding_mod (length m))
-      ∙ ap (λ (t : Progress). t.value) (sym (absorbed-append s m p) ∙ starting s (m ++ p) (lit< tt) refl refl))
+      (ap (λ (n : ℕ). (absorbed_by compress (absorbed_by compress s m) (padding n)).value) c
+      ∙ ap (λ (q : List ℕ). (absorbed_by compress (absorbed_by compress s m) q).value) (padding_mod (length m))
+      ∙ ap (λ (t : Progress). t.value) (sym (absorbed_append s m p) ∙ starting s (m ++ p) (lit< tt) refl refl))
 
   -- a block absorbed from the start
-  absorbed-block : (first b : List ℕ) → length b ≡ 64 → absorbedBy compress (started first) b ≡ started_after (compress first b)
+  absorbed-block : (first b : List ℕ) → length b ≡ 64 → absorbed_by compress (started first) b ≡ started_after (compress first b)
   absorbed-block first b e =
       let none : drop (length b / 64 * 64) b ≡ [] = drop_of_length-le b {i = length b / 64 * 64} (omega arith) in
       let all : (0 + length b) % 2 ^ 64 ≡ 64 = omega arith in
       starting (started first) b (lit< tt) refl refl ∙ (λ i. record { value = one_block compress first b e i; block = sets empty 0 (none i); count = all i })
 
-  pub after-block-is-hash : (first : List ℕ) (written : List ℕ → List ℕ) → AfterBlockIsHash compress first written
-  after-block-is-hash first written b m e = rw (← absorbed-block first b e, ← absorbed-append (started first) b m) (stream-is-hash first written (b ++ m))
+  pub after-block_is_hash : (first : List ℕ) (written : List ℕ → List ℕ) → AfterBlockIsHash compress first written
+  after-block_is_hash first written b m e = rw (← absorbed-block first b e, ← absorbed_append (started first) b m) (stream_is_hash first written (b ++ m))

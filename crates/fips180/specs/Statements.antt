@@ -4,7 +4,7 @@ use Rattle.fips180.specs.Words.{Ch, Maj, word}
 use Rattle.fips180.specs.Hash.{zeros, padded, hash_by}
 use Rattle.fips180.specs.Sha1 as Sha1
 use Rattle.fips180.specs.Sha256.{next_w, W}
-use Rattle.fips180.specs.Stream.{started, started_after, absorbedBy, finishedBy}
+use Rattle.fips180.specs.Stream.{started, started_after, absorbed_by, finished_by}
 
 -- 5.1.1: after n bytes and the byte of the bit 1, the zeros end 8 bytes before the end of a block, and no fewer zeros do.
 -- `fewest_zeros` of proofs/Padding.antt
@@ -43,12 +43,12 @@ Sha1RoundByCases =
     × (60 ≤ t → Has Sha1.Parity 0xca62c1d6 t)
 
 module _ (compress : List ℕ → List ℕ → List ℕ) (first : List ℕ) (written : List ℕ → List ℕ) where
-  -- the digest of a hash in progress that has absorbed m is the hash of m. `stream-is-hash` of proofs/Stream.antt
+  -- the digest of a hash in progress that has absorbed m is the hash of m. `stream_is_hash` of proofs/Stream.antt
   abbrev pub StreamIsHash : Type 0
-  StreamIsHash = (m : List ℕ) → finishedBy compress written (absorbedBy compress (started first) m) ≡ hash_by compress first written m
+  StreamIsHash = (m : List ℕ) → finished_by compress written (absorbed_by compress (started first) m) ≡ hash_by compress first written m
 
   -- a hash that is started after a block b, by the hash value after it, and absorbs m comes to the hash of b and m joined.
-  -- `after-block-is-hash` of proofs/Stream.antt
+  -- `after-block_is_hash` of proofs/Stream.antt
   abbrev pub AfterBlockIsHash : Type 0
   AfterBlockIsHash =
-      (b m : List ℕ) → length b ≡ 64 → finishedBy compress written (absorbedBy compress (started_after (compress first b)) m) ≡ hash_by compress first written (b ++ m)
+      (b m : List ℕ) → length b ≡ 64 → finished_by compress written (absorbed_by compress (started_after (compress first b)) m) ≡ hash_by compress first written (b ++ m)

@@ -20,8 +20,8 @@ started_after value = record { value = value; block = replicate 64 0; count = 64
 
 module _ (compress : List ℕ → List ℕ → List ℕ) where
   -- one byte more: it goes into the block; a full block is compressed, and an empty one begun
-  unfoldable pub absorbByte : Progress → ℕ → Progress
-  absorbByte s x =
+  unfoldable pub absorb_byte : Progress → ℕ → Progress
+  absorb_byte s x =
       let b : List ℕ = set s.block (s.count % 64) x in
       let full : Bool = eqb (s.count % 64) 63 in
       record {
@@ -30,10 +30,10 @@ module _ (compress : List ℕ → List ℕ → List ℕ) where
         count = (s.count + 1) % 2 ^ 64;
       }
 
-  unfoldable pub absorbedBy : Progress → List ℕ → Progress
-  absorbedBy s [] = s
-  absorbedBy s (x ∷ xs) = absorbedBy (absorbByte s x) xs
+  unfoldable pub absorbed_by : Progress → List ℕ → Progress
+  absorbed_by s [] = s
+  absorbed_by s (x ∷ xs) = absorbed_by (absorb_byte s x) xs
 
   -- the digest of all that was absorbed: the padding is absorbed after it, and the last hash value is written as bytes
-  unfoldable pub finishedBy : (List ℕ → List ℕ) → Progress → List ℕ
-  finishedBy written s = written (absorbedBy s (padding s.count)).value
+  unfoldable pub finished_by : (List ℕ → List ℕ) → Progress → List ℕ
+  finished_by written s = written (absorbed_by s (padding s.count)).value

@@ -288,14 +288,14 @@ unfolding inv_mix_byte
 inv_is a b c d = ap₄ bit_xor xor_comm xor_assoc (mul_14 a) (mul_11 b) (mul_13 c) (mul_9 d)
 
 module _ (a b c d : ℕ) (ha : a < 256) (hb : b < 256) (hc : c < 256) (hd : d < 256) where
-  pub unmix-byte : inv_mix_byte (mix_byte a b c d) (mix_byte b c d a) (mix_byte c d a b) (mix_byte d a b c) ≡ a
-  unmix-byte =
+  pub unmix_byte : inv_mix_byte (mix_byte a b c d) (mix_byte b c d a) (mix_byte c d a b) (mix_byte d a b c) ≡ a
+  unmix_byte =
       inv_is (mix_byte a b c d) (mix_byte b c d a) (mix_byte c d a b) (mix_byte d a b c)
       ∙ ap₄ bit_xor xor_comm xor_assoc (ap by14 (mix_is a b c d)) (ap by11 (mix_is b c d a)) (ap by13 (mix_is c d a b)) (ap by9 (mix_is d a b c))
       ∙ undo by14 by11 by13 by9 by2 by3 (λ a. a) (λ a. a) lin14 lin11 lin13 lin9 unmixes a b c d ha hb hc hd
 
-  pub mix-byte : mix_byte (inv_mix_byte a b c d) (inv_mix_byte b c d a) (inv_mix_byte c d a b) (inv_mix_byte d a b c) ≡ a
-  mix-byte =
+  pub mix_byte_lem : mix_byte (inv_mix_byte a b c d) (inv_mix_byte b c d a) (inv_mix_byte c d a b) (inv_mix_byte d a b c) ≡ a
+  mix_byte_lem =
       mix_is (inv_mix_byte a b c d) (inv_mix_byte b c d a) (inv_mix_byte c d a b) (inv_mix_byte d a b c)
       ∙ ap₄ bit_xor xor_comm xor_assoc (ap by2 (inv_is a b c d)) (ap by3 (inv_is b c d a)) (inv_is c d a b) (inv_is d a b c)
       ∙ undo by2 by3 (λ a. a) (λ a. a) by14 by11 by13 by9 xtime_linear lin3 same same mixes a b c d ha hb hc hd

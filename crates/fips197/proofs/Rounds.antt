@@ -116,8 +116,8 @@ module _ (ks : List State) (keys : Keys ks) where
   unfolding cipher
   cipher-block b = lastRound-block (rounds-block 9 (omega arith) (add_round_key-block b key0)) key10
 
-  pub invCipher-block : {s : State} → Block s → Block (inv_cipher ks s)
-  invCipher-block {s} b = rw regrouped (add_round_key-block (turns-block 9 (omega arith) (begun-block b key10)) key0)
+  pub inv_cipher_block : {s : State} → Block s → Block (inv_cipher ks s)
+  inv_cipher_block {s} b = rw regrouped (add_round_key-block (turns-block 9 (omega arith) (begun-block b key10)) key0)
 
   -- what is encrypted is decrypted again
   pub uncipher : {s : State} → Block s → inv_cipher ks (cipher ks s) ≡ s

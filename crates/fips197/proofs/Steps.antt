@@ -8,7 +8,7 @@ use Rattle.aes_sbox.specs.Field.{xtime, mul_bits, mul}
 use Rattle.aes_sbox.specs.Sbox.{sbox_of, inv_sbox_of}
 use Rattle.fips197.specs.State.{State, Column, column, Block, block, columns, bytes, sub_bytes, inv_sub_bytes, shift_rows, inv_shift_rows, mix_byte, inv_mix_byte, mix_column, inv_mix_column, mix_columns, inv_mix_columns, add_column, add_round_key}
 use Rattle.fips197.proofs.Four.{four}
-use Rattle.fips197.proofs.Mix.{mix-byte, unmix-byte}
+use Rattle.fips197.proofs.Mix.{mix_byte_lem, unmix_byte}
 use Rattle.aes_sbox.proofs.Tables.{sbox_of_byte, inv_sbox_of_byte, sbox_undone}
 use Rattle.fips197.proofs.Xor.{bit, mod2_lt, xor_cancel}
 
@@ -104,12 +104,12 @@ inv_mix_column-column w (column a b c d) =
 unmix_column : (w : List ℕ) → Column w → inv_mix_column (mix_column w) ≡ w
 unfolding mix_column inv_mix_column
 unmix_column w (column a b c d) =
-    four (unmix-byte _ _ _ _ a b c d) (unmix-byte _ _ _ _ b c d a) (unmix-byte _ _ _ _ c d a b) (unmix-byte _ _ _ _ d a b c)
+    four (unmix_byte _ _ _ _ a b c d) (unmix_byte _ _ _ _ b c d a) (unmix_byte _ _ _ _ c d a b) (unmix_byte _ _ _ _ d a b c)
 
 remix_column : (w : List ℕ) → Column w → mix_column (inv_mix_column w) ≡ w
 unfolding mix_column inv_mix_column
 remix_column w (column a b c d) =
-    four (mix-byte _ _ _ _ a b c d) (mix-byte _ _ _ _ b c d a) (mix-byte _ _ _ _ c d a b) (mix-byte _ _ _ _ d a b c)
+    four (mix_byte_lem _ _ _ _ a b c d) (mix_byte_lem _ _ _ _ b c d a) (mix_byte_lem _ _ _ _ c d a b) (mix_byte_lem _ _ _ _ d a b c)
 
 pub mix_columns-block : {s : State} → Block s → Block (mix_columns s)
 unfolding mix_columns

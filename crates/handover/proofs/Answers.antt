@@ -6,7 +6,7 @@ use mathlib.Core.List.{List, ◌++◌}
 use lib.Dec.{eqb}
 use lib.ListN.{length, take, drop}
 use Rattle.refusal.specs.Checks.{Reason, Check, pass, refuse, bare, unless, ◌and_then◌, check6}
-use Rattle.slices.proofs.Lists.{copied-front}
+use Rattle.slices.proofs.Lists.{copied_front}
 use Rattle.handover_rules.specs.Handover.{check33, r0_check, r1_check, r0_name_check}
 
 -- two tests with one refusal, made at once
@@ -40,4 +40,4 @@ name_tested r0 ad spa room e =
 
 -- n bytes copied to the start of a buffer
 pub front_of : (n : ℕ) (s buffer : List ℕ) {after : List ℕ} → length s ≡ n → after ≡ take (length s) s ++ drop (length s) buffer → after ≡ s ++ drop n buffer
-front_of n s buffer l e = copied-front s buffer e ∙ ap (λ (k : ℕ). s ++ drop k buffer) l
+front_of n s buffer l e = copied_front s buffer e ∙ ap (λ (k : ℕ). s ++ drop k buffer) l

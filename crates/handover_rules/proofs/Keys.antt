@@ -8,7 +8,7 @@ use lib.Seq.{length-take-le}
 use Rattle.refusal.specs.Checks.{unless, ◌and_then◌}
 use Rattle.hmac_sha1.specs.Rfc2104.{hmac_sha1}
 use Rattle.hmac_sha1.proofs.Laws.{hmac_sha1-length}
-use Rattle.handover_rules.specs.Kdf.{kdf_input, iterations, resultAfter, kdf}
+use Rattle.handover_rules.specs.Kdf.{kdf_input, iterations, result_after, kdf}
 use Rattle.handover_rules.specs.Handover.{r0_label, r1_label, r0_input, r1_input, r0_key, r1_key, r0_check, r1_check, r0_name_check}
 use Rattle.handover_rules.specs.Statements.{InputBytes, KeyOfBlocks, SomeAccepted}
 
@@ -23,11 +23,11 @@ two_macs key x y =
     (omega (arith, length-append (hmac_sha1 key x) (hmac_sha1 key y), hmac_sha1-length key x, hmac_sha1-length key y))
 
 pub r0_of_blocks : (rrk ad spa : List ℕ) → r0_key rrk ad spa ≡ take 32 (hmac_sha1 (take 32 rrk) (r0_input ad spa 1) ++ hmac_sha1 (take 32 rrk) (r0_input ad spa 2))
-unfolding r0_key r0_input kdf iterations resultAfter
+unfolding r0_key r0_input kdf iterations result_after
 r0_of_blocks rrk ad spa = refl
 
 pub r1_of_blocks : (r0 ad an spa : List ℕ) → r1_key r0 ad an spa ≡ take 32 (hmac_sha1 r0 (r1_input ad an spa 1) ++ hmac_sha1 r0 (r1_input ad an spa 2))
-unfolding r1_key r1_input kdf iterations resultAfter
+unfolding r1_key r1_input kdf iterations result_after
 r1_of_blocks r0 ad an spa = refl
 
 pub key_of_blocks : KeyOfBlocks

@@ -16,10 +16,10 @@ iterations bits = (bits + 159) / 160
 
 module _ (mac : List ℕ → List ℕ → List ℕ) where
   -- result after i iterations: it is "" at first, and each iteration appends its MAC
-  unfoldable pub resultAfter : List ℕ → List ℕ → List ℕ → ℕ → ℕ → List ℕ
-  resultAfter key label context bits zero = []
-  resultAfter key label context bits (suc i) = resultAfter key label context bits i ++ mac key (kdf_input label context bits (suc i))
+  unfoldable pub result_after : List ℕ → List ℕ → List ℕ → ℕ → ℕ → List ℕ
+  result_after key label context bits zero = []
+  result_after key label context bits (suc i) = result_after key label context bits i ++ mac key (kdf_input label context bits (suc i))
 
   -- KDF-Length (K, label, Context): the first Length bits of result, for a length of whole bytes
   unfoldable pub kdf : List ℕ → List ℕ → List ℕ → ℕ → List ℕ
-  kdf key label context bits = take (bits / 8) (resultAfter key label context bits (iterations bits))
+  kdf key label context bits = take (bits / 8) (result_after key label context bits (iterations bits))

@@ -6,7 +6,7 @@ use native.Mathlib.Omega.{arith}
 use lib.Dec.{lit≤}
 use lib.ListN.{length}
 use Rattle.fips180.specs.Stream.{Progress, started_after}
-use Rattle.rfc2104.specs.Rfc2104.{masked, keyBlock, ipad, opad, hmac}
+use Rattle.rfc2104.specs.Rfc2104.{masked, key_block, ipad, opad, hmac}
 use Rattle.rfc2104.proofs.Laws as laws
 use Rattle.fips180.specs.Sha256.{sha256, compress, H0, digest}
 use Rattle.sha256.specs.Stream.{absorbed, finished, joined}
@@ -15,7 +15,7 @@ use Rattle.hmac.specs.Rfc2104.{hmac_sha256}
 use Rattle.hmac.specs.Keyed.{key_value, hash_after, mac_by_values}
 
 -- the hash value that the code computes from a key's block
-pub key-value : (key : List ℕ) (pad : ℕ) {block v : List ℕ} → block ≡ keyBlock sha256 key → v ≡ compress H0 (masked block pad) → v ≡ key_value key pad
+pub key-value : (key : List ℕ) (pad : ℕ) {block v : List ℕ} → block ≡ key_block sha256 key → v ≡ compress H0 (masked block pad) → v ≡ key_value key pad
 unfolding sha256
 key-value = laws.key-value compress H0 digest
 
@@ -29,7 +29,7 @@ kept_values_give_mac = laws.kept_values_give_mac compress H0 digest digest_fits
 
 pub hmac_sha256-length : (key message : List ℕ) → length (hmac_sha256 key message) ≡ 32
 unfolding hmac_sha256 hmac
-hmac_sha256-length key message = sha256-length (masked (keyBlock sha256 key) opad ++ sha256 (masked (keyBlock sha256 key) ipad ++ message))
+hmac_sha256-length key message = sha256-length (masked (key_block sha256 key) opad ++ sha256 (masked (key_block sha256 key) ipad ++ message))
 
 -- a digest fits in a block
 pub digest_short : (m : List ℕ) {d : List ℕ} → d ≡ sha256 m → length d ≤ 64

@@ -2,7 +2,7 @@
 -- HMAC-SHA-256 by the hash values after a key's two blocks (Keyed.antt of the crate rfc2104). `KeptValuesGiveMac` of that crate's
 -- Statements.antt says that it is RFC 2104's.
 use Rattle.std.specs.Prelude.{List, ℕ}
-use Rattle.rfc2104.specs.Keyed.{key_value_by, hashAfterBy, macByValuesBy}
+use Rattle.rfc2104.specs.Keyed.{key_value_by, hash_after_by, mac_by_values_by}
 use Rattle.fips180.specs.Sha256.{compress, H0, digest}
 
 -- the hash value after a key's block XOR a byte repeated, which is ipad's or opad's
@@ -11,8 +11,8 @@ key_value = key_value_by compress H0 digest
 
 -- the hash of a block, of which only the hash value is given, and of what comes after it
 abbrev pub hash_after : List ℕ → List ℕ → List ℕ
-hash_after = hashAfterBy compress digest
+hash_after = hash_after_by compress digest
 
 -- the MAC of a message from the two hash values
 abbrev pub mac_by_values : List ℕ → List ℕ → List ℕ → List ℕ
-mac_by_values = macByValuesBy compress digest
+mac_by_values = mac_by_values_by compress digest

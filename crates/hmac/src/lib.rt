@@ -7,7 +7,7 @@ ghost use Rattle.std.specs.Prelude.{◌≡◌, ◌++◌};
 ghost use Rattle.fips180.specs.Sha256.{sha256, compress, H0};
 ghost use Rattle.sha256.specs.Stream.{progress, absorbed, finished, joined};
 ghost use Rattle.rfc2104.specs.Rfc2104 as Rfc2104;
-ghost use Rattle.rfc2104.specs.Rfc2104.{keyBlock, ipad, opad};
+ghost use Rattle.rfc2104.specs.Rfc2104.{key_block, ipad, opad};
 ghost use Rattle.hmac.specs.Rfc2104.{hmac_sha256};
 ghost use Rattle.hmac.specs.Keyed.{key_value, hash_after};
 
@@ -20,7 +20,7 @@ const OPAD: u8 = 0x5c;
 
 // A key as a block: one over a block is hashed first.
 fn key_block(key: &[u8]) -> [u8; Sha256::BLOCK]
-    ensures { result ≡ keyBlock sha256 key.now }
+    ensures { result ≡ key_block sha256 key.now }
 {
     if key.len() <= Sha256::BLOCK {
         return hmac_block::filled(key);

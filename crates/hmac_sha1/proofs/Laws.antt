@@ -5,8 +5,8 @@ use mathlib.Core.List.{List}
 use native.Mathlib.Omega.{arith}
 use lib.Dec.{lit≤}
 use lib.ListN.{length}
-use Rattle.rfc2104.specs.Rfc2104.{masked, keyBlock, ipad, opad, hmac}
-use Rattle.rfc2104.specs.Keyed.{hashAfterBy, macByValuesBy}
+use Rattle.rfc2104.specs.Rfc2104.{masked, key_block, ipad, opad, hmac}
+use Rattle.rfc2104.specs.Keyed.{hash_after_by, mac_by_values_by}
 use Rattle.rfc2104.proofs.Laws as laws
 use Rattle.rfc2104.proofs.Blocks.{masked-length}
 use Rattle.fips180.specs.Hash.{hash_by}
@@ -17,7 +17,7 @@ use Rattle.hmac_sha1.specs.Rfc2104.{hmac_sha1}
 use Rattle.hmac_sha1.specs.Keyed.{key_value, mac_by_values}
 
 -- the hash value that the code computes from a key's block
-pub key-value : (key : List ℕ) (pad : ℕ) {block v : List ℕ} → block ≡ keyBlock sha1 key → v ≡ compress H0 (masked block pad) → v ≡ key_value key pad
+pub key-value : (key : List ℕ) (pad : ℕ) {block v : List ℕ} → block ≡ key_block sha1 key → v ≡ compress H0 (masked block pad) → v ≡ key_value key pad
 unfolding sha1
 key-value = laws.key-value compress H0 digest
 
@@ -41,7 +41,7 @@ mac_by_values_lem key message ei eo e = e ∙ (λ i. mac_by_values (ei i) (eo i)
 
 -- the MAC as the code computes it: the outer hash of the inner one
 pub mac_of_law : (inner outer message : List ℕ) {h m : List ℕ} → h ≡ digest_after inner message → m ≡ digest_after outer h → m ≡ mac_by_values inner outer message
-unfolding macByValuesBy hashAfterBy
+unfolding mac_by_values_by hash_after_by
 mac_of_law inner outer message eh em = em ∙ ap (digest_after outer) eh
 
 -- a digest has 20 bytes

@@ -83,10 +83,10 @@ module _ (b : List ℕ) (p : ℕ) (l : length b ≡ 64) where
       (λ i. set (set (set (set (part k) k (first i)) (k + 1) (byte_at k 1 (omega arith) i)) (k + 2) (byte_at k 2 (omega arith) i)) (k + 3) (byte_at k 3 (omega arith) i))
       ∙ turn (k + 3) n (turn (k + 2) (k + 3) (turn (k + 1) (k + 2) (turn k (k + 1) refl (omega arith) refl) (omega arith) (omega arith)) (omega arith) (omega arith)) h (omega arith)
 
-  pub word-turn : (j : ℕ) {r s : List ℕ} → j < 16 → r ≡ take (4 * j) (masked b p) ++ drop (4 * j) b → s ≡ word_masked r (4 * j) p
+  pub word_turn : (j : ℕ) {r s : List ℕ} → j < 16 → r ≡ take (4 * j) (masked b p) ++ drop (4 * j) b → s ≡ word_masked r (4 * j) p
       → s ≡ take (4 * (j + 1)) (masked b p) ++ drop (4 * (j + 1)) b
   unfolding part
-  word-turn j h e w = w ∙ ap (λ (r : List ℕ). word_masked r (4 * j) p) e ∙ four (4 * j) (4 * (j + 1)) (omega arith) (omega arith)
+  word_turn j h e w = w ∙ ap (λ (r : List ℕ). word_masked r (4 * j) p) e ∙ four (4 * j) (4 * (j + 1)) (omega arith) (omega arith)
 
-  pub all-turns : {j : ℕ} {r : List ℕ} → j ≡ 16 → r ≡ take (4 * j) (masked b p) ++ drop (4 * j) b → r ≡ masked b p
-  all-turns e er = er ∙ ap (λ (j : ℕ). take (4 * j) (masked b p) ++ drop (4 * j) b) e ∙ masked_all b p l
+  pub all_turns : {j : ℕ} {r : List ℕ} → j ≡ 16 → r ≡ take (4 * j) (masked b p) ++ drop (4 * j) b → r ≡ masked b p
+  all_turns e er = er ∙ ap (λ (j : ℕ). take (4 * j) (masked b p) ++ drop (4 * j) b) e ∙ masked_all b p l

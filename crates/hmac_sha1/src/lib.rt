@@ -5,7 +5,7 @@
 ghost use Rattle.std.specs.Prelude.{◌≡◌, ◌+◌, ◌<◌, length};
 ghost use Rattle.fips180.specs.Sha1.{sha1};
 ghost use Rattle.rfc2104.specs.Rfc2104 as Rfc2104;
-ghost use Rattle.rfc2104.specs.Rfc2104.{keyBlock, ipad, opad};
+ghost use Rattle.rfc2104.specs.Rfc2104.{key_block, ipad, opad};
 ghost use Rattle.hmac_sha1.specs.Rfc2104.{hmac_sha1};
 ghost use Rattle.hmac_sha1.specs.Keyed.{key_value, mac_by_values};
 ghost use Rattle.hmac_sha1.specs.Internal.{word_masked};
@@ -19,7 +19,7 @@ const OPAD: u8 = 0x5c;
 
 // A key as a block: one over a block is hashed first.
 fn key_block(key: &[u8]) -> [u8; BLOCK]
-    ensures { result ≡ keyBlock sha1 key.now }
+    ensures { result ≡ key_block sha1 key.now }
 {
     if key.len() <= BLOCK {
         return hmac_block::filled(key);

@@ -2,7 +2,7 @@
 ghost use Rattle.std.specs.Prelude.{◌≡◌};
 ghost use Rattle.hmac.specs.Rfc2104.{hmac_sha256};
 ghost use Rattle.outcome.specs.Outcomes.{outcome_of, check_outcome};
-ghost use Rattle.packet_rules.specs.Mac.{sign_answer, signBuffer, checkCheck};
+ghost use Rattle.packet_rules.specs.Mac.{sign_answer, sign_buffer, check_check};
 
 use outcome::Outcome;
 
@@ -10,7 +10,7 @@ use outcome::Outcome;
 #[unsafe(no_mangle)]
 pub extern "C" fn kv_sign_packet(mac_key: &[u8], attribute_type: u8, packet: &mut [u8]) -> Outcome
     ensures answer { result ≡ outcome_of (sign_answer mac_key.now attribute_type packet.old) }
-    ensures buffer { packet.new ≡ signBuffer hmac_sha256 mac_key.now attribute_type packet.old }
+    ensures buffer { packet.new ≡ sign_buffer hmac_sha256 mac_key.now attribute_type packet.old }
 {
     outcome::returned(packet_mac::sign(mac_key, attribute_type, packet))
 }
@@ -18,7 +18,7 @@ pub extern "C" fn kv_sign_packet(mac_key: &[u8], attribute_type: u8, packet: &mu
 // Source document 004, section 3.3: the MAC in a packet's attribute of the type is checked; 0.
 #[unsafe(no_mangle)]
 pub extern "C" fn kv_check_packet(mac_key: &[u8], attribute_type: u8, packet: &[u8]) -> Outcome
-    ensures { result ≡ check_outcome (checkCheck hmac_sha256 mac_key.now attribute_type packet.now) }
+    ensures { result ≡ check_outcome (check_check hmac_sha256 mac_key.now attribute_type packet.now) }
 {
     outcome::checked(packet_mac::check(mac_key, attribute_type, packet))
 }

@@ -1,7 +1,7 @@
 // The exported functions: slots.
 ghost use Rattle.std.specs.Prelude.{◌≡◌};
 ghost use Rattle.outcome.specs.Outcomes.{outcome_of};
-ghost use Rattle.slot_rules.specs.Table.{liveCount};
+ghost use Rattle.slot_rules.specs.Table.{live_slot_count};
 ghost use Rattle.slot_rules.specs.Calls.{put_answer, drop_answer};
 ghost use Rattle.slot_rules.specs.Stored.{table_of, put_stored, drop_stored};
 ghost use Rattle.outcome.specs.SlotTables.{parent_for, slots_outcome};
@@ -44,7 +44,7 @@ pub extern "C" fn kv_drop_slot(slots: Slots, number: u64) -> SlotsOutcome
 // Document 02, request 12: the live slots are counted.
 #[unsafe(no_mangle)]
 pub extern "C" fn kv_live_slots(slots: Slots) -> u32
-    ensures { result ≡ liveCount (table_of slots) }
+    ensures { result ≡ live_slot_count (table_of slots) }
 {
     slots::live(slots)
 }

@@ -6,7 +6,7 @@ use native.Mathlib.Omega.{arith}
 use borrow.Rule.Slice.PartMut.{put_mid}
 use lib.ListN.{length, take, drop, length-drop, drop_of_length-le}
 use lib.Seq.{take_at, drop_at, drop-drop}
-use Rattle.slices.proofs.Lists.{rest-drop, copied-front}
+use Rattle.slices.proofs.Lists.{rest_drop, copied_front}
 
 -- a list whose part from a place on is replaced
 pub put_from : (at : ℕ) (l z : List ℕ) → put_mid at (length l - at) l z ≡ take at l ++ z
@@ -18,8 +18,8 @@ put_from at l z =
 pub part_after : (at : ℕ) (l values : List ℕ) {z : List ℕ} → z ≡ take (length values) values ++ drop (length values) (take (length l - at) (drop at l))
     → put_mid at (length l - at) l z ≡ take at l ++ (values ++ drop (at + length values) l)
 part_after at l values {z} e =
-    let rest : drop (length values) (take (length l - at) (drop at l)) ≡ drop (at + length values) l = ap (drop (length values)) (rest-drop at l) ∙ drop-drop (length values) at l in
-    put_from at l z ∙ ap (λ (r : List ℕ). take at l ++ r) (copied-front values _ e ∙ ap (λ (r : List ℕ). values ++ r) rest)
+    let rest : drop (length values) (take (length l - at) (drop at l)) ≡ drop (at + length values) l = ap (drop (length values)) (rest_drop at l) ∙ drop-drop (length values) at l in
+    put_from at l z ∙ ap (λ (r : List ℕ). take at l ++ r) (copied_front values _ e ∙ ap (λ (r : List ℕ). values ++ r) rest)
 
 -- one part of n bytes more, where the parts before it are done
 pub next_part : (l₀ done part l after : List ℕ) (at n : ℕ) → length done ≡ at → l ≡ done ++ drop at l₀

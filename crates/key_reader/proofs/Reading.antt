@@ -12,7 +12,7 @@ use Rattle.refusal.specs.declared.Refusal.{Refusal}
 use Rattle.refusal.specs.declared.Answered.{Answered}
 use Rattle.refusal.specs.declared.Answered.TheVariants.{Accepted, Refused}
 use Rattle.refusal.proofs.Passing.{before-passed, last-passed, test_passed, test_holds, both_pass, first_refuses}
-use Rattle.slices.proofs.Lists.{rest-drop}
+use Rattle.slices.proofs.Lists.{rest_drop}
 use Rattle.rfc3394.specs.Rfc3394.{unwrapped_iv, unwrapped_key}
 use Rattle.keywrap.specs.Calls.{check23, check28, key_length, unwrap_check}
 use Rattle.key_frame.specs.KeyFrame.{fields_in, wrapped_in, key_length_in, check22, frame_check, sixteen_of}
@@ -74,14 +74,14 @@ module _ (kek a buffer kek₁ : List ℕ) (r : Ready kek a) (k : kek₁ ≡ sixt
   part = take (length a - 52) (drop 52 a)
 
   part-check : unwrap_check kek₁ part (length buffer) ≡ read_check kek a (length buffer)
-  part-check = rw (rest-drop 52 a, same) (sym (rest_of kek a (length buffer) r.kek_size r.frame))
+  part-check = rw (rest_drop 52 a, same) (sym (rest_of kek a (length buffer) r.kek_size r.frame))
 
   part_length : key_length part ≡ key_length_in a
-  part_length = rw (rest-drop 52 a) (simp length-drop (omega arith))
+  part_length = rw (rest_drop 52 a) (simp length-drop (omega arith))
 
   part-key : unwrapped_key kek₁ part ≡ key_in kek a
   unfolding key_in
-  part-key = rw (rest-drop 52 a, same)
+  part-key = rw (rest_drop 52 a, same)
 
   left-part : {after : List ℕ} → after ≡ buffer_after (unwrap_check kek₁ part (length buffer)) (key_length part) (unwrapped_key kek₁ part) buffer
       → after ≡ buffer_after (read_check kek a (length buffer)) (key_length_in a) (key_in kek a) buffer
@@ -100,10 +100,10 @@ module _ (kek a buffer kek₁ : List ℕ) (r : Ready kek a) (k : kek₁ ≡ sixt
       by_check kek a buffer pass t.0 (ap returned t.1) f (rw t.0 at (left-part b))
 
   -- the unwrapping refuses
-  pub refused-late : {ans : Answered} {why : Refusal} {answer : Answer} {fields : KeyFields} {after : List ℕ} → answer_of ans ≡ answer_to (unwrap_check kek₁ part (length buffer)) (key_length part)
+  pub refused_late : {ans : Answered} {why : Refusal} {answer : Answer} {fields : KeyFields} {after : List ℕ} → answer_of ans ≡ answer_to (unwrap_check kek₁ part (length buffer)) (key_length part)
       → after ≡ buffer_after (unwrap_check kek₁ part (length buffer)) (key_length part) (unwrapped_key kek₁ part) buffer → ans ≡ Refused why → answer ≡ Answer.refused (reason_of why) → fields ≡ no_fields
       → Read kek a buffer answer fields after
-  refused-late {why = why} u b w p f =
+  refused_late {why = why} u b w p f =
       let c = told_refusal _ _ (reason_of why) (ap answer_of (sym w) ∙ answer-part u) in
       by_check kek a buffer (refuse (reason_of why)) c p f (rw c at (left-part b))
 

@@ -14,7 +14,7 @@ use Rattle.rfc3394.specs.Rfc3394.{initial_value, wrapped, unwrapped_iv}
 use Rattle.slices.specs.Bytes.{Bytes}
 use Rattle.keywrap.specs.Calls.{wrappable}
 use Rattle.slices.proofs.Bytes.{bytes_drop}
-use Rattle.rfc3394.proofs.Laws.{length-wrapped, unwrap-initial, unwrap-key, length-unwrapped_key, wrap_again}
+use Rattle.rfc3394.proofs.Laws.{length-wrapped, unwrap_initial, unwrap_key, length-unwrapped_key, wrap_again}
 use Rattle.slices.proofs.Same.{same_equal, equal_same}
 use Rattle.key_frame.specs.KeyFrame.{check22, fields_in, wrapped_in, key_length_in, frame_check}
 use Rattle.key_frame.specs.declared.KeyFields.{KeyFields}
@@ -67,7 +67,7 @@ module _ (f : KeyFields) (kek key : List ℕ) (space : ℕ) (app : f.app_id < 2 
 
   key-same : key_in kek (attribute f kek key) ≡ key
   unfolding key_in
-  key-same = rw wrapped_same (unwrap-key kek bk key by)
+  key-same = rw wrapped_same (unwrap_key kek bk key by)
 
   frame_same : frame_check (attribute f kek key) ≡ pass
   unfolding attribute
@@ -83,7 +83,7 @@ module _ (f : KeyFields) (kek key : List ℕ) (space : ℕ) (app : f.app_id < 2 
       let c22 = test_holds _ (bare 22) (eq-eqb _ _ w.kek_size) in
       let c27 = both_pass _ _ c22 frame_same in
       let c6 = both_pass _ _ c27 (test_holds _ (bare 6) (le-leb _ _ fits)) in
-      both_pass _ _ c6 (test_holds _ (bare 28) (rw (wrapped_same, unwrap-initial kek bk key by) (equal_same initial_value)))
+      both_pass _ _ c6 (test_holds _ (bare 28) (rw (wrapped_same, unwrap_initial kek bk key by) (equal_same initial_value)))
 
   key-length-same : key_length_in (attribute f kek key) ≡ length key
   key-length-same = omega (arith, size)

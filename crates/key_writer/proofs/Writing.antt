@@ -15,7 +15,7 @@ use Rattle.refusal.specs.Checks.{Reason, Check, pass, refuse, ◌and_then◌, ch
 use Rattle.refusal.specs.Answers.{Answer, returned, answer_to, buffer_after}
 use Rattle.refusal.proofs.Passing.{before-passed, last-passed, test_passed, first_refuses}
 use Rattle.slices.proofs.Truth.{and_left, and_right, same_truth}
-use Rattle.slices.proofs.Lists.{rest-drop}
+use Rattle.slices.proofs.Lists.{rest_drop}
 use Rattle.rfc3394.specs.Rfc3394.{wrapped}
 use Rattle.keywrap.specs.Calls.{wrap_check}
 use Rattle.key_frame.specs.KeyFrame.{fields_of, header, check22, sixteen_of}
@@ -91,7 +91,7 @@ module _ (f : KeyFields) (kek key buffer : List ℕ) (ok : named f kek ≡ pass)
   rest_tests : write_check f kek key (length buffer) ≡ wrap_check (length key) (length part)
   unfolding write_check wrap_check ◌and_then◌
   rest_tests =
-      let size : length part ≡ length buffer - start = rw (rest-drop start buffer) (length-drop start buffer) in
+      let size : length part ≡ length buffer - start = rw (rest_drop start buffer) (length-drop start buffer) in
       rw (ok, size, same_fit (length key) (length buffer) start at)
 
   -- it refuses
@@ -101,7 +101,7 @@ module _ (f : KeyFields) (kek key buffer : List ℕ) (ok : named f kek ≡ pass)
   unfolding write_answer write_buffer
   refused_wrap kek₁ x {z} a b =
       let c : wrap_check (length key) (length part) ≡ refuse x = told_refusal _ _ x a in
-      let same : z ≡ drop start buffer = rw c at b ∙ rest-drop start buffer in
+      let same : z ≡ drop start buffer = rw c at b ∙ rest_drop start buffer in
       rw (rest_tests, c) (refl, put_from start buffer z ∙ rw same (take-append-drop start buffer))
 
   -- it accepts
@@ -154,7 +154,7 @@ module _ (f : KeyFields) (kek key buffer : List ℕ) (ok : named f kek ≡ pass)
       let c : wrap_check (length key) (length part) ≡ pass = sym rest_tests ∙ acc.tests in
       let far : start + (length key + 8) ≡ 60 + length key = omega (arith, acc.at_52) in
       let left : z ≡ wrapped kek key ++ drop (60 + length key) buffer
-      = rw (c, same) at b ∙ ap (λ (l : List ℕ). wrapped kek key ++ drop (length key + 8) l) (rest-drop start buffer)
+      = rw (c, same) at b ∙ ap (λ (l : List ℕ). wrapped kek key ++ drop (length key + 8) l) (rest_drop start buffer)
       ∙ ap (λ (l : List ℕ). wrapped kek key ++ l) (drop-drop (length key + 8) start buffer ∙ ap (λ (i : ℕ). drop i buffer) far) in
       let put : drop 52 (put_mid start (length buffer - start) buffer z) ≡ z = ap (drop 52) (put_from start buffer z) ∙ drop_at (take start buffer) z 52 (before_part acc) in
       let whole : after ≡ (header f (attribute_length key) ++ wrapped kek key) ++ drop (60 + length key) buffer

@@ -47,17 +47,17 @@ label_form label = go (within 1 255 (length label)) (first_bad label_byte label)
 
 -- what a label's tests come to, by its form
 module _ (label : List ℕ) where
-  pub left-to-syntax : {c : Check} → WellFormed ≡ form_of label_byte 255 label → c ≡ check32 label → c ≡ label_check label
+  pub left_to_syntax : {c : Check} → WellFormed ≡ form_of label_byte 255 label → c ≡ check32 label → c ≡ label_check label
   unfolding ◌and_then◌
-  left-to-syntax e h = h ∙ ap (λ (f : Form). form_check f and_then check32 label) e ∙ label_form label
+  left_to_syntax e h = h ∙ ap (λ (f : Form). form_check f and_then check32 label) e ∙ label_form label
 
   pub length-refused : WrongLength ≡ form_of label_byte 255 label → refuse (bare 2) ≡ label_check label
   unfolding ◌and_then◌
   length-refused e = ap (λ (f : Form). form_check f and_then check32 label) e ∙ label_form label
 
-  pub byte-refused : {i : ℕ} → BadByte i ≡ form_of label_byte 255 label → refuse (located 3 i) ≡ label_check label
+  pub byte_refused : {i : ℕ} → BadByte i ≡ form_of label_byte 255 label → refuse (located 3 i) ≡ label_check label
   unfolding ◌and_then◌
-  byte-refused e = ap (λ (f : Form). form_check f and_then check32 label) e ∙ label_form label
+  byte_refused e = ap (λ (f : Form). form_check f and_then check32 label) e ∙ label_form label
 
 -- 32 is not 3
 by_syntax : (i : ℕ) (t : Bool) {f : Scan} → unless t (bare 32) ≡ refuse (located 3 i) → f ≡ BadAt i

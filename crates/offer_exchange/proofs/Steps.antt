@@ -21,10 +21,10 @@ unasked (Refused x) other offers buffer = (refl, refl)
 
 -- after an Ask, where the server refuses, and where it has written
 module _ (offers supported buffer sent : List ℕ) (value position : ℕ) (asks : first_round offers supported ≡ ask value position) (left : sent ≡ server_buffer offers value buffer) where
-  pub server-refused : {x : Reason} → server_answer offers value buffer ≡ Answer.refused x → (RenewedAnswer.refused x ≡ negotiated offers supported buffer) × (sent ≡ negotiated_buffer offers supported buffer)
+  pub server_refused : {x : Reason} → server_answer offers value buffer ≡ Answer.refused x → (RenewedAnswer.refused x ≡ negotiated offers supported buffer) × (sent ≡ negotiated_buffer offers supported buffer)
   unfolding negotiated negotiated_buffer
-  server-refused e = (rw (asks, e), rw asks left)
+  server_refused e = (rw (asks, e), rw asks left)
 
-  pub server-wrote : {count : ℕ} → server_answer offers value buffer ≡ returned count → (renewed_answer offers value (take count sent) ≡ negotiated offers supported buffer) × (sent ≡ negotiated_buffer offers supported buffer)
+  pub server_wrote : {count : ℕ} → server_answer offers value buffer ≡ returned count → (renewed_answer offers value (take count sent) ≡ negotiated offers supported buffer) × (sent ≡ negotiated_buffer offers supported buffer)
   unfolding negotiated negotiated_buffer
-  server-wrote e = (rw (asks, e, left), rw asks left)
+  server_wrote e = (rw (asks, e, left), rw asks left)

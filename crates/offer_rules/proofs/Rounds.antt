@@ -20,13 +20,13 @@ at_later offers zero ne = elim (ne refl) [ ]
 at_later offers (suc i) ne = refl
 
 module _ (offers supported : List ℕ) where
-  pub list-refused : {x : Reason} → (check10 offers and_then check11 offers) ≡ refuse x → FirstAnswer.refused x ≡ first_round offers supported
+  pub list_refused : {x : Reason} → (check10 offers and_then check11 offers) ≡ refuse x → FirstAnswer.refused x ≡ first_round offers supported
   unfolding first_round choose_check
-  list-refused e = rw (← first_refuses _ (check12 offers supported) e)
+  list_refused e = rw (← first_refuses _ (check12 offers supported) e)
 
-  pub list-passed : (check10 offers and_then check11 offers) ≡ pass → first_round_to (check12 offers supported) offers (first_supported offers supported) ≡ first_round offers supported
+  pub list_passed : (check10 offers and_then check11 offers) ≡ pass → first_round_to (check12 offers supported) offers (first_supported offers supported) ≡ first_round offers supported
   unfolding first_round choose_check
-  list-passed e = rw (← second_decides _ (check12 offers supported) e)
+  list_passed e = rw (← second_decides _ (check12 offers supported) e)
 
 -- the server writes no more than fits
 pub wrote_fits : (offers buffer : List ℕ) (value count : ℕ) → server_answer offers value buffer ≡ returned count → count ≤ length buffer

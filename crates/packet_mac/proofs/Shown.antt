@@ -5,13 +5,13 @@ use Rattle.packet_rules.specs.Statements.{SignedPasses, OthersStay, SignsAgain, 
 use Rattle.packet_rules.proofs.Shown as any
 
 pub signed_passes : SignedPasses hmac_sha256
-signed_passes = any.signedPasses hmac_sha256 hmac_sha256-length
+signed_passes = any.signed_passes_lem hmac_sha256 hmac_sha256-length
 
 pub others_stay : OthersStay hmac_sha256
-others_stay = any.othersStay hmac_sha256 hmac_sha256-length
+others_stay = any.others_stay_lem hmac_sha256 hmac_sha256-length
 
 pub signs_again : SignsAgain hmac_sha256
-signs_again = any.signsAgain hmac_sha256 hmac_sha256-length
+signs_again = any.signs_again_lem hmac_sha256 hmac_sha256-length
 
 pub only_signed : OnlySigned hmac_sha256
-only_signed = any.onlySigned hmac_sha256 hmac_sha256-length
+only_signed = any.only_signed_lem hmac_sha256 hmac_sha256-length

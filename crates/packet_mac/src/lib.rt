@@ -6,7 +6,7 @@ ghost use Rattle.std.specs.Prelude.{◌≡◌, ◌+◌, ◌≤◌, length, repli
 ghost use Rattle.std.proofs.Math.Seq.{paste};
 ghost use Rattle.refusal.specs.Answers.{checked_as, answer_of};
 ghost use Rattle.hmac.specs.Rfc2104.{hmac_sha256};
-ghost use Rattle.packet_rules.specs.Mac.{with_mac, sign_answer, signBuffer, checkCheck};
+ghost use Rattle.packet_rules.specs.Mac.{with_mac, sign_answer, sign_buffer, check_check};
 
 mod attributes; // the walk through a packet's attributes, and its tests
 
@@ -42,7 +42,7 @@ fn copy_mac(mac: [u8; 32], start: usize, packet: &mut [u8])
 // Signs a packet: writes its MAC into the attribute of the type.
 pub fn sign(mac_key: &[u8], attribute_type: u8, packet: &mut [u8]) -> Answered
     ensures answer { answer_of result ≡ sign_answer mac_key.now attribute_type packet.old }
-    ensures buffer { packet.new ≡ signBuffer hmac_sha256 mac_key.now attribute_type packet.old }
+    ensures buffer { packet.new ≡ sign_buffer hmac_sha256 mac_key.now attribute_type packet.old }
 {
     match mac_place(mac_key, attribute_type, packet) {
         Answered::Refused(why) => Answered::Refused(why),
@@ -56,7 +56,7 @@ pub fn sign(mac_key: &[u8], attribute_type: u8, packet: &mut [u8]) -> Answered
 
 // Checks a packet: its MAC is the one in the attribute of the type.
 pub fn check(mac_key: &[u8], attribute_type: u8, packet: &[u8]) -> Checked
-    ensures { checked_as result ≡ checkCheck hmac_sha256 mac_key.now attribute_type packet.now }
+    ensures { checked_as result ≡ check_check hmac_sha256 mac_key.now attribute_type packet.now }
 {
     match mac_place(mac_key, attribute_type, packet) {
         Answered::Refused(why) => Checked::Failed(why),

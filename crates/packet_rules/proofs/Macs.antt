@@ -19,9 +19,9 @@ module _ (at : ℕ) (mac p : List ℕ) (size : length mac ≡ 32) (room : at + 5
   front : length (take (at + 20) p) ≡ at + 20
   front = length-take-le (at + 20) p (omega arith)
 
-  pub with-length : length (with_mac at mac p) ≡ length p
+  pub with_length : length (with_mac at mac p) ≡ length p
   unfolding with_mac
-  with-length = simp (length-append, length-drop) (omega (arith, front))
+  with_length = simp (length-append, length-drop) (omega (arith, front))
 
   before : (j : ℕ) → j < at + 20 → get_or (with_mac at mac p) j 0 ≡ get_or p j 0
   unfolding with_mac
@@ -44,8 +44,8 @@ module _ (at : ℕ) (mac p : List ℕ) (size : length mac ≡ 32) (room : at + 5
   outside j (inl h) = before j h
   outside j (inr h) = after j h
 
-  pub with-agrees : AgreeOutside at (with_mac at mac p) p
-  with-agrees = record { lengths = with-length; bytes = outside }
+  pub with_agrees : AgreeOutside at (with_mac at mac p) p
+  with_agrees = record { lengths = with_length; bytes = outside }
 
   -- the MAC is found where it was put
   pub mac-found : mac_in at (with_mac at mac p) ≡ mac

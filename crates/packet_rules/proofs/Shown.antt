@@ -8,9 +8,9 @@ use Rattle.refusal.specs.Answers.{returned, answer_to}
 use Rattle.slices.proofs.Same.{equal_same, same_equal}
 use Rattle.refusal.proofs.Passing.{before-passed, last-passed, test_passed}
 use Rattle.packet_rules.specs.Packet.{mac_at}
-use Rattle.packet_rules.specs.Mac.{with_mac, mac_in, mac_input, packet_check, macOf, checkCheck, sign_answer, signBuffer}
+use Rattle.packet_rules.specs.Mac.{with_mac, mac_in, mac_input, packet_check, mac_of, check_check, sign_answer, sign_buffer}
 use Rattle.packet_rules.specs.Statements.{Has32, AgreeOutside, SignedPasses, OthersStay, SignsAgain, OnlySigned, Covered}
-use Rattle.packet_rules.proofs.Macs.{agree_sym, agree_trans, with-agrees, mac-found, with_same, with_own}
+use Rattle.packet_rules.proofs.Macs.{agree_sym, agree_trans, with_agrees, mac-found, with_same, with_own}
 use Rattle.packet_rules.proofs.Placing.{Placed, same_place, same_check, passed_placed}
 
 agree_refl : (at : ℕ) (p : List ℕ) → AgreeOutside at p p
@@ -19,7 +19,7 @@ agree_refl at p = record { lengths = refl; bytes = λ j o. refl }
 -- what the MAC covers agrees with the packet, and has the MAC's attribute at the same place
 blank_agrees : (type : ℕ) (p : List ℕ) → Placed type p → AgreeOutside (mac_at type p) (mac_input type p) p
 unfolding mac_input
-blank_agrees type p h = with-agrees (mac_at type p) (replicate 32 0) p refl h.room
+blank_agrees type p h = with_agrees (mac_at type p) (replicate 32 0) p refl h.room
 
 blank_place : (type : ℕ) (p : List ℕ) → Placed type p → mac_at type p ≡ mac_at type (mac_input type p)
 blank_place type p h = same_place type p (mac_input type p) h (agree_sym (blank_agrees type p h))
@@ -41,19 +41,19 @@ covered key₁ key₂ p q type cp cq = (forth (passed_placed key₁ type p cp) (
 module _ (mac : List ℕ → List ℕ → List ℕ) (law : Has32 mac) where
   -- the packet signed
   signed : List ℕ → ℕ → List ℕ → List ℕ
-  signed key type p = with_mac (mac_at type p) (macOf mac key type p) p
+  signed key type p = with_mac (mac_at type p) (mac_of mac key type p) p
 
-  mac-size : (key : List ℕ) (type : ℕ) (p : List ℕ) → length (macOf mac key type p) ≡ 32
-  unfolding macOf
+  mac-size : (key : List ℕ) (type : ℕ) (p : List ℕ) → length (mac_of mac key type p) ≡ 32
+  unfolding mac_of
   mac-size key type p = law key (mac_input type p)
 
   -- by what the tests came to
-  accepted : (key : List ℕ) (type : ℕ) (p : List ℕ) → packet_check key type p ≡ pass → signBuffer mac key type p ≡ signed key type p
-  unfolding signBuffer signed
+  accepted : (key : List ℕ) (type : ℕ) (p : List ℕ) → packet_check key type p ≡ pass → sign_buffer mac key type p ≡ signed key type p
+  unfolding sign_buffer signed
   accepted key type p h = rw h
 
-  refused : (key : List ℕ) (type : ℕ) (p : List ℕ) {x : Reason} → packet_check key type p ≡ refuse x → signBuffer mac key type p ≡ p
-  unfolding signBuffer
+  refused : (key : List ℕ) (type : ℕ) (p : List ℕ) {x : Reason} → packet_check key type p ≡ refuse x → sign_buffer mac key type p ≡ p
+  unfolding sign_buffer
   refused key type p h = rw h
 
   module _ (key : List ℕ) (type : ℕ) (p : List ℕ) (passes : packet_check key type p ≡ pass) where
@@ -62,7 +62,7 @@ module _ (mac : List ℕ → List ℕ → List ℕ) (law : Has32 mac) where
 
     signed-agrees : AgreeOutside (mac_at type p) (signed key type p) p
     unfolding signed
-    signed-agrees = with-agrees (mac_at type p) (macOf mac key type p) p (mac-size key type p) at.room
+    signed-agrees = with_agrees (mac_at type p) (mac_of mac key type p) p (mac-size key type p) at.room
 
     signed_passes : packet_check key type (signed key type p) ≡ pass
     signed_passes = sym (same_check type p (signed key type p) at (agree_sym signed-agrees) key) ∙ passes
@@ -71,63 +71,63 @@ module _ (mac : List ℕ → List ℕ → List ℕ) (law : Has32 mac) where
     signed-place : mac_at type (signed key type p) ≡ mac_at type p
     signed-place = sym (same_place type p (signed key type p) at (agree_sym signed-agrees))
 
-    signed-mac : macOf mac key type (signed key type p) ≡ macOf mac key type p
-    unfolding macOf
+    signed-mac : mac_of mac key type (signed key type p) ≡ mac_of mac key type p
+    unfolding mac_of
     signed-mac = ap (mac key) (sym (same_input type p (signed key type p) at (agree_sym signed-agrees)))
 
-    mac-there : mac_in (mac_at type (signed key type p)) (signed key type p) ≡ macOf mac key type (signed key type p)
+    mac-there : mac_in (mac_at type (signed key type p)) (signed key type p) ≡ mac_of mac key type (signed key type p)
     unfolding signed
-    mac-there = ap (λ (m : ℕ). mac_in m (signed key type p)) signed-place ∙ mac-found (mac_at type p) (macOf mac key type p) p (mac-size key type p) at.room ∙ sym signed-mac
+    mac-there = ap (λ (m : ℕ). mac_in m (signed key type p)) signed-place ∙ mac-found (mac_at type p) (mac_of mac key type p) p (mac-size key type p) at.room ∙ sym signed-mac
 
-    signed-checks : checkCheck mac key type (signed key type p) ≡ pass
-    unfolding checkCheck ◌and_then◌ unless
+    signed-checks : check_check mac key type (signed key type p) ≡ pass
+    unfolding check_check ◌and_then◌ unless
     signed-checks = rw (signed_passes, mac-there, equal_same)
 
-    signs_again : signBuffer mac key type (signed key type p) ≡ signed key type p
+    signs_again : sign_buffer mac key type (signed key type p) ≡ signed key type p
     unfolding signed
     signs_again =
         accepted key type (signed key type p) signed_passes
-        ∙ ap (λ (m : ℕ). with_mac m (macOf mac key type (signed key type p)) (signed key type p)) signed-place
+        ∙ ap (λ (m : ℕ). with_mac m (mac_of mac key type (signed key type p)) (signed key type p)) signed-place
         ∙ ap (λ (d : List ℕ). with_mac (mac_at type p) d (signed key type p)) signed-mac
-        ∙ sym (with_same (mac_at type p) (macOf mac key type p) p (signed key type p) at.room (agree_sym signed-agrees))
+        ∙ sym (with_same (mac_at type p) (mac_of mac key type p) p (signed key type p) at.room (agree_sym signed-agrees))
 
   wrote-passed : (c : Check) → answer_to c 32 ≡ returned 32 → c ≡ pass
   wrote-passed pass e = refl
   wrote-passed (refuse x) e = cc
 
-  pub signedPasses : SignedPasses mac
+  pub signed_passes_lem : SignedPasses mac
   unfolding sign_answer
-  signedPasses key p type e =
+  signed_passes_lem key p type e =
       let h : packet_check key type p ≡ pass = wrote-passed (packet_check key type p) e in
-      ap (checkCheck mac key type) (accepted key type p h) ∙ signed-checks key type p h
+      ap (check_check mac key type) (accepted key type p h) ∙ signed-checks key type p h
 
-  pub othersStay : OthersStay mac
-  othersStay key p type = go (packet_check key type p) refl
+  pub others_stay_lem : OthersStay mac
+  others_stay_lem key p type = go (packet_check key type p) refl
     where
-      go : (c : Check) → packet_check key type p ≡ c → AgreeOutside (mac_at type p) (signBuffer mac key type p) p
+      go : (c : Check) → packet_check key type p ≡ c → AgreeOutside (mac_at type p) (sign_buffer mac key type p) p
       go pass h = rw (accepted key type p h) (signed-agrees key type p h)
       go (refuse x) h = rw (refused key type p h) (agree_refl (mac_at type p) p)
 
-  pub signsAgain : SignsAgain mac
-  signsAgain key p type = go (packet_check key type p) refl
+  pub signs_again_lem : SignsAgain mac
+  signs_again_lem key p type = go (packet_check key type p) refl
     where
-      go : (c : Check) → packet_check key type p ≡ c → signBuffer mac key type (signBuffer mac key type p) ≡ signBuffer mac key type p
+      go : (c : Check) → packet_check key type p ≡ c → sign_buffer mac key type (sign_buffer mac key type p) ≡ sign_buffer mac key type p
       go pass h = rw (accepted key type p h) (signs_again key type p h)
-      go (refuse x) h = ap (signBuffer mac key type) (refused key type p h)
+      go (refuse x) h = ap (sign_buffer mac key type) (refused key type p h)
 
   -- where the checker's tests pass, the MAC in the packet is its own
-  own-mac : (key : List ℕ) (type : ℕ) (p : List ℕ) → checkCheck mac key type p ≡ pass → signed key type p ≡ p
-  unfolding checkCheck signed
+  own-mac : (key : List ℕ) (type : ℕ) (p : List ℕ) → check_check mac key type p ≡ pass → signed key type p ≡ p
+  unfolding check_check signed
   own-mac key type p h =
-      let e : mac_in (mac_at type p) p ≡ macOf mac key type p = same_equal _ _ (test_passed _ _ (last-passed _ _ h)) in
+      let e : mac_in (mac_at type p) p ≡ mac_of mac key type p = same_equal _ _ (test_passed _ _ (last-passed _ _ h)) in
       rw (← e) (with_own (mac_at type p) p)
 
-  all_pass : (key : List ℕ) (type : ℕ) (p : List ℕ) → checkCheck mac key type p ≡ pass → packet_check key type p ≡ pass
-  unfolding checkCheck
+  all_pass : (key : List ℕ) (type : ℕ) (p : List ℕ) → check_check mac key type p ≡ pass → packet_check key type p ≡ pass
+  unfolding check_check
   all_pass key type p h = before-passed _ _ h
 
-  pub onlySigned : OnlySigned mac
-  onlySigned key p type = (
+  pub only_signed_lem : OnlySigned mac
+  only_signed_lem key p type = (
     λ h. (all_pass key type p h, accepted key type p (all_pass key type p h) ∙ own-mac key type p h),
-    λ h. ap (checkCheck mac key type) (sym (sym (accepted key type p h.0) ∙ h.1)) ∙ signed-checks key type p h.0,
+    λ h. ap (check_check mac key type) (sym (sym (accepted key type p h.0) ∙ h.1)) ∙ signed-checks key type p h.0,
   )

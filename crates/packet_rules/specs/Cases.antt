@@ -2,7 +2,7 @@
 use Rattle.std.specs.Prelude.{◌≡◌, ℕ, ◌+◌, ◌/◌, ◌%◌, List, [], ◌∷◌, ◌++◌, length, replicate}
 use Rattle.refusal.specs.Checks.{Check, pass, refuse, bare}
 use Rattle.packet_rules.specs.Packet.{mac_at}
-use Rattle.packet_rules.specs.Mac.{packet_check, checkCheck}
+use Rattle.packet_rules.specs.Mac.{packet_check, check_check}
 
 -- a header with two length bytes, then the attributes
 abbrev pub length_bytes : (high low : ℕ) → List ℕ → List ℕ
@@ -63,6 +63,6 @@ mac_of32 value k message = replicate 32 value
 
 abbrev pub CheckCases : Type 0
 CheckCases =
-    (checkCheck (mac_of32 5) key 90 (packet good) ≡ pass)
-    × (checkCheck (mac_of32 6) key 90 (packet good) ≡ refuse (bare 38))
-    × (checkCheck (mac_of32 6) key 90 (packet other) ≡ refuse (bare 37))
+    (check_check (mac_of32 5) key 90 (packet good) ≡ pass)
+    × (check_check (mac_of32 6) key 90 (packet good) ≡ refuse (bare 38))
+    × (check_check (mac_of32 6) key 90 (packet other) ≡ refuse (bare 37))

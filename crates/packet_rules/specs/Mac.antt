@@ -27,16 +27,16 @@ unfoldable pub sign_answer : List ℕ → ℕ → List ℕ → Answer
 sign_answer key type p = answer_to (packet_check key type p) 32
 
 module _ (hmac_sha256 : List ℕ → List ℕ → List ℕ) where
-  unfoldable pub macOf : List ℕ → ℕ → List ℕ → List ℕ
-  macOf key type p = hmac_sha256 key (mac_input type p)
+  unfoldable pub mac_of : List ℕ → ℕ → List ℕ → List ℕ
+  mac_of key type p = hmac_sha256 key (mac_input type p)
 
   -- 38: MAC differs
   abbrev pub check38 : List ℕ → ℕ → List ℕ → Check
-  check38 key type p = unless (same_list (mac_in (mac_at type p) p) (macOf key type p)) (bare 38)
+  check38 key type p = unless (same_list (mac_in (mac_at type p) p) (mac_of key type p)) (bare 38)
 
   -- the checker's order: the writer's, then 38
-  unfoldable pub checkCheck : List ℕ → ℕ → List ℕ → Check
-  checkCheck key type p = packet_check key type p and_then check38 key type p
+  unfoldable pub check_check : List ℕ → ℕ → List ℕ → Check
+  check_check key type p = packet_check key type p and_then check38 key type p
 
-  unfoldable pub signBuffer : List ℕ → ℕ → List ℕ → List ℕ
-  signBuffer key type p = after_check (packet_check key type p) (with_mac (mac_at type p) (macOf key type p) p) p
+  unfoldable pub sign_buffer : List ℕ → ℕ → List ℕ → List ℕ
+  sign_buffer key type p = after_check (packet_check key type p) (with_mac (mac_at type p) (mac_of key type p) p) p

@@ -3,7 +3,7 @@ use Rattle.std.specs.Prelude.{ℕ, ◌+◌, ◌≤◌, ◌<◌, ◌≡◌, ◌�
 use Rattle.refusal.specs.Checks.{pass}
 use Rattle.refusal.specs.Answers.{returned}
 use Rattle.packet_rules.specs.Packet.{mac_at}
-use Rattle.packet_rules.specs.Mac.{mac_input, packet_check, checkCheck, sign_answer, signBuffer}
+use Rattle.packet_rules.specs.Mac.{mac_input, packet_check, check_check, sign_answer, sign_buffer}
 
 -- the one law asked of the MAC function
 abbrev pub Has32 : (List ℕ → List ℕ → List ℕ) → Type 0
@@ -16,20 +16,20 @@ pub record AgreeOutside (at : ℕ) (p q : List ℕ) : Type 0 where
 
 -- what the writer signs, the checker accepts under the same key and type number
 abbrev pub SignedPasses : (List ℕ → List ℕ → List ℕ) → Type 0
-SignedPasses mac = (key p : List ℕ) (type : ℕ) → sign_answer key type p ≡ returned 32 → checkCheck mac key type (signBuffer mac key type p) ≡ pass
+SignedPasses mac = (key p : List ℕ) (type : ℕ) → sign_answer key type p ≡ returned 32 → check_check mac key type (sign_buffer mac key type p) ≡ pass
 
 -- all packet bytes but the MAC's 32 stay as they were, and the length does
 abbrev pub OthersStay : (List ℕ → List ℕ → List ℕ) → Type 0
-OthersStay mac = (key p : List ℕ) (type : ℕ) → AgreeOutside (mac_at type p) (signBuffer mac key type p) p
+OthersStay mac = (key p : List ℕ) (type : ℕ) → AgreeOutside (mac_at type p) (sign_buffer mac key type p) p
 
 -- signing what was signed changes nothing
 abbrev pub SignsAgain : (List ℕ → List ℕ → List ℕ) → Type 0
-SignsAgain mac = (key p : List ℕ) (type : ℕ) → signBuffer mac key type (signBuffer mac key type p) ≡ signBuffer mac key type p
+SignsAgain mac = (key p : List ℕ) (type : ℕ) → sign_buffer mac key type (sign_buffer mac key type p) ≡ sign_buffer mac key type p
 
 -- the checker accepts a packet exactly where 1 to 37 pass and signing would change nothing in it
 abbrev pub OnlySigned : (List ℕ → List ℕ → List ℕ) → Type 0
 OnlySigned mac =
-    (key p : List ℕ) (type : ℕ) → (checkCheck mac key type p ≡ pass) ↔ ((packet_check key type p ≡ pass) × (signBuffer mac key type p ≡ p))
+    (key p : List ℕ) (type : ℕ) → (check_check mac key type p ≡ pass) ↔ ((packet_check key type p ≡ pass) × (sign_buffer mac key type p ≡ p))
 
 -- two packets that pass 1 to 37 for one type hand HMAC the same bytes exactly when they agree in every byte outside the MAC's 32
 abbrev pub Covered : Type 0

@@ -5,7 +5,7 @@ use mathlib.Core.List.{List, [], ◌∷◌, ◌++◌, append_assoc}
 use native.Mathlib.Omega.{arith}
 use lib.ListN.{length, length-append}
 use lib.Seq.{length-take-le}
-use Rattle.prf_plus.specs.PrfPlus.{input_after, block_count, block, blockInput, blocks, prfPlus}
+use Rattle.prf_plus.specs.PrfPlus.{input_after, block_count, block, block_input, blocks, prf_plus_of}
 use Rattle.prf_plus.specs.Statements.{TwoCases}
 use Rattle.prf_plus.proofs.Lists.{cancel_front, cancel_back}
 
@@ -16,23 +16,23 @@ count-le n h = omega arith
 
 module _ (mac : List ℕ → List ℕ → List ℕ) where
   -- a block is the MAC of its input
-  pub block-of-input : (key text : List ℕ) (i : ℕ) → block mac key text (suc i) ≡ mac key (blockInput mac key text (suc i))
-  unfolding block blockInput
-  block-of-input key text i = refl
+  pub block_of_input : (key text : List ℕ) (i : ℕ) → block mac key text (suc i) ≡ mac key (block_input mac key text (suc i))
+  unfolding block block_input
+  block_of_input key text i = refl
 
   pub two_cases : TwoCases mac
   unfolding block input_after
   two_cases key text = (refl, λ i. refl)
 
   -- the input of block 1: the text, then 1
-  pub first-input : (key text : List ℕ) → blockInput mac key text 1 ≡ text ++ (1 ∷ [])
-  unfolding blockInput block input_after
-  first-input key text = refl
+  pub first_input : (key text : List ℕ) → block_input mac key text 1 ≡ text ++ (1 ∷ [])
+  unfolding block_input block input_after
+  first_input key text = refl
 
   -- the input of a later block: the whole block before it, the text, then its number
-  pub later-input : (key text : List ℕ) (i : ℕ) → blockInput mac key text (suc (suc i)) ≡ block mac key text (suc i) ++ (text ++ (suc (suc i) ∷ []))
-  unfolding blockInput input_after
-  later-input key text i = refl
+  pub later_input : (key text : List ℕ) (i : ℕ) → block_input mac key text (suc (suc i)) ≡ block mac key text (suc i) ++ (text ++ (suc (suc i) ∷ []))
+  unfolding block_input input_after
+  later_input key text i = refl
 
 module _ (mac : List ℕ → List ℕ → List ℕ) (mac-length : (k t : List ℕ) → length (mac k t) ≡ 32) where
   pub block-length : (key text : List ℕ) (i : ℕ) → length (block mac key text (suc i)) ≡ 32
@@ -44,9 +44,9 @@ module _ (mac : List ℕ → List ℕ → List ℕ) (mac-length : (k t : List �
   blocks-length key text zero = refl
   blocks-length key text (suc m) = omega (arith, length-append (blocks mac key text m) (block mac key text (suc m)), blocks-length key text m, block-length key text m)
 
-  pub prfPlus-length : (key text : List ℕ) (n : ℕ) → length (prfPlus mac key text n) ≡ n
-  unfolding prfPlus block_count
-  prfPlus-length key text n = length-take-le n _ (omega (arith, blocks-length key text ((n + 31) / 32)))
+  pub prf_plus_of-length : (key text : List ℕ) (n : ℕ) → length (prf_plus_of mac key text n) ≡ n
+  unfolding prf_plus_of block_count
+  prf_plus_of-length key text n = length-take-le n _ (omega (arith, blocks-length key text ((n + 31) / 32)))
 
   -- the block before two blocks of one number has one length
   before-length : (key₁ key₂ text₁ text₂ : List ℕ) (i : ℕ) → length (block mac key₁ text₁ i) ≡ length (block mac key₂ text₂ i)
@@ -55,9 +55,9 @@ module _ (mac : List ℕ → List ℕ → List ℕ) (mac-length : (k t : List �
   before-length key₁ key₂ text₁ text₂ (suc i) = block-length key₁ text₁ i ∙ sym (block-length key₂ text₂ i)
 
   -- equal inputs, under any two keys, are of one text and one block number
-  pub input-apart : (key₁ key₂ text₁ text₂ : List ℕ) (i j : ℕ) → blockInput mac key₁ text₁ (suc i) ≡ blockInput mac key₂ text₂ (suc j) → (text₁ ≡ text₂) × (i ≡ j)
-  unfolding blockInput input_after
-  input-apart key₁ key₂ text₁ text₂ i j e =
+  pub input_apart : (key₁ key₂ text₁ text₂ : List ℕ) (i j : ℕ) → block_input mac key₁ text₁ (suc i) ≡ block_input mac key₂ text₂ (suc j) → (text₁ ≡ text₂) × (i ≡ j)
+  unfolding block_input input_after
+  input_apart key₁ key₂ text₁ text₂ i j e =
       let a = block mac key₁ text₁ i in
       let b = block mac key₂ text₂ j in
       let last = cancel_back (a ++ text₁) (b ++ text₂) (suc i ∷ []) (suc j ∷ []) refl (append_assoc a text₁ _ ∙ e ∙ sym (append_assoc b text₂ _)) in

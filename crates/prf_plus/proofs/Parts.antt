@@ -12,7 +12,7 @@ use Rattle.hmac.specs.Rfc2104.{hmac_sha256}
 use Rattle.hmac.specs.Keyed.{key_value, hash_after, mac_by_values}
 use Rattle.hmac.proofs.Laws.{kept_values_give_mac, hmac_sha256-length}
 use Rattle.prf_plus.specs.PrfPlus.{input_after, block, blocks}
-use Rattle.prf_plus.proofs.Steps.{last_block, next-block}
+use Rattle.prf_plus.proofs.Steps.{last_block, next_block}
 
 -- the parts of a block's input, joined from the back, are that input
 input_parts : (p a b c d : List ℕ) (i : ℕ) → joined p a b c d (i ∷ []) ≡ input_after p (a ++ (b ++ (c ++ d))) i
@@ -32,6 +32,6 @@ pub next_under_key : (key text out₀ out : List ℕ) (i from at : ℕ) {inner o
     → from ≡ 32 * (i - 1) → at ≡ 32 * i → out ≡ take at (blocks hmac_sha256 key text i) ++ drop at out₀ → r ≡ block hmac_sha256 key text (i + 1)
 next_under_key key text out₀ out i from at {r = r} ei eo er hf ha ho =
     let previous : List ℕ = take (at - from) (drop from out) in
-    next-block hmac_sha256 hmac_sha256-length key text out₀ previous r i
+    next_block hmac_sha256 hmac_sha256-length key text out₀ previous r i
     (er ∙ (λ j. mac_by_values (ei j) (eo j) (input_after previous text (i + 1))) ∙ kept_values_give_mac key (input_after previous text (i + 1)))
     (last_block hmac_sha256 hmac_sha256-length key text out₀ out i from at hf ha ho)

@@ -34,9 +34,9 @@ module _ (mac : List ℕ → List ℕ → List ℕ) (mac-length : (k t : List �
       ∙ take_at b rest 32 (block-length mac mac-length key text i))
 
   -- the MAC after the last block is the next block
-  pub next-block : (previous r : List ℕ) (i : ℕ) → r ≡ mac key (input_after previous text (i + 1)) → previous ≡ block mac key text i → r ≡ block mac key text (i + 1)
+  pub next_block : (previous r : List ℕ) (i : ℕ) → r ≡ mac key (input_after previous text (i + 1)) → previous ≡ block mac key text i → r ≡ block mac key text (i + 1)
   unfolding block
-  next-block previous r i e p = e ∙ rw (add-one, p)
+  next_block previous r i e p = e ∙ rw (add-one, p)
 
   -- m bytes of the next block are put after i blocks
   pub one_more : (out : List ℕ) (i m : ℕ) → m ≤ 32 → out ≡ take (32 * i) (blocks mac key text i) ++ drop (32 * i) out₀
@@ -53,9 +53,9 @@ module _ (mac : List ℕ → List ℕ → List ℕ) (mac-length : (k t : List �
       rw (front, back, more)
 
   -- the same as the loop has it: out' is the buffer after the copy of m bytes of the next block r
-  pub next-out : (out out' r : List ℕ) (i m at : ℕ) → at ≡ 32 * i → m ≤ 32 → out ≡ take at (blocks mac key text i) ++ drop at out₀
+  pub next_out : (out out' r : List ℕ) (i m at : ℕ) → at ≡ 32 * i → m ≤ 32 → out ≡ take at (blocks mac key text i) ++ drop at out₀
       → r ≡ block mac key text (i + 1) → out' ≡ paste out at (take m r) (length (take m r)) → out' ≡ take (at + m) (blocks mac key text (i + 1)) ++ drop (at + m) out₀
-  next-out out out' r i m at a hm e b p =
+  next_out out out' r i m at a hm e b p =
       let e32 : length (block mac key text (suc i)) ≡ 32 = block-length mac mac-length key text i in
       let whole-r : r ≡ block mac key text (suc i) = b ∙ ap (block mac key text) (add-one i) in
       let size : length (take m r) ≡ m = length-take-le m r (omega (arith, ap length whole-r ∙ e32)) in

@@ -20,9 +20,9 @@ module _ (mac : List ℕ → List ℕ → List ℕ) where
   block key text (suc i) = mac key (input_after (block key text i) text (suc i))
 
   -- the bytes handed to the MAC for block i, from 1 on; the key and the MAC's own padding are not among them
-  unfoldable pub blockInput : List ℕ → List ℕ → ℕ → List ℕ
-  blockInput key text zero = []
-  blockInput key text (suc i) = input_after (block key text i) text (suc i)
+  unfoldable pub block_input : List ℕ → List ℕ → ℕ → List ℕ
+  block_input key text zero = []
+  block_input key text (suc i) = input_after (block key text i) text (suc i)
 
   -- T1 then T2 and on to Tm
   unfoldable pub blocks : List ℕ → List ℕ → ℕ → List ℕ
@@ -30,8 +30,8 @@ module _ (mac : List ℕ → List ℕ → List ℕ) where
   blocks key text (suc m) = blocks key text m ++ block key text (suc m)
 
   -- the first n bytes of T1, T2 and on
-  unfoldable pub prfPlus : List ℕ → List ℕ → ℕ → List ℕ
-  prfPlus key text n = take n (blocks key text (block_count n))
+  unfoldable pub prf_plus_of : List ℕ → List ℕ → ℕ → List ℕ
+  prf_plus_of key text n = take n (blocks key text (block_count n))
 
 -- 5: key length not 1 to 8,160
 abbrev pub check5 : ℕ → Check

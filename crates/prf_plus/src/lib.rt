@@ -6,7 +6,7 @@ ghost use Rattle.std.specs.Prelude.{◌≡◌, ◌++◌, ◌≤◌, length, drop
 ghost use Rattle.refusal.specs.Checks.{◌and_then◌};
 ghost use Rattle.refusal.specs.Answers.{checked_as, answer_of, answer_to, buffer_after};
 ghost use Rattle.hmac.specs.Rfc2104.{hmac_sha256};
-ghost use Rattle.prf_plus.specs.PrfPlus.{prfPlus, expand_check};
+ghost use Rattle.prf_plus.specs.PrfPlus.{prf_plus_of, expand_check};
 
 use hmac::Keyed;
 use refusal::{Answered, Checked, Refusal};
@@ -36,7 +36,7 @@ fn fill<'a>(
 )
     requires n_bound { n ≤ 8160 }
     requires n_in_bounds { n ≤ length out.old }
-    ensures { out.new ≡ prfPlus hmac_sha256 key.now (a.now ++ (b.now ++ (c.now ++ d.now))) n ++ drop n out.old }
+    ensures { out.new ≡ prf_plus_of hmac_sha256 key.now (a.now ++ (b.now ++ (c.now ++ d.now))) n ++ drop n out.old }
 {
     let k = Keyed::new(key);
     let inner = k.inner;
@@ -69,7 +69,7 @@ pub fn expand<'a>(
     out: &mut [u8],
 ) -> Answered
     ensures answer { answer_of result ≡ answer_to (checked_as check and_then expand_check n (length out.old)) n }
-    ensures buffer { out.new ≡ buffer_after (checked_as check and_then expand_check n (length out.old)) n (prfPlus hmac_sha256 key.now (a.now ++ (b.now ++ (c.now ++ d.now))) n) out.old }
+    ensures buffer { out.new ≡ buffer_after (checked_as check and_then expand_check n (length out.old)) n (prf_plus_of hmac_sha256 key.now (a.now ++ (b.now ++ (c.now ++ d.now))) n) out.old }
 {
     match refusal::then_check(check, check_expand(n, out.len())) {
         Checked::Failed(why) => Answered::Refused(why),

@@ -5,7 +5,7 @@ use mathlib.Core.List.{List, [], ◌∷◌}
 use native.Mathlib.Omega.{arith}
 use lib.ListN.{length, take, drop, length-drop, drop_of_length-le}
 use lib.Seq.{drop-drop}
-use Rattle.slices.proofs.Lists.{rest-drop}
+use Rattle.slices.proofs.Lists.{rest_drop}
 use Rattle.radius_attributes.specs.Attributes.{attribute_length, split}
 use Rattle.radius_attributes.proofs.Lengths.{length_some, length_fits}
 use Rattle.radius_attributes.proofs.Splitting.{split_next, split-none}
@@ -30,7 +30,7 @@ step_at_lem bytes at n h q =
 
 -- by the part from there on, as it is lent
 pub step : (bytes : List ℕ) (at n : ℕ) → at < length bytes → n ≡ attribute_length (take (length bytes - at) (drop at bytes)) → Step bytes at n
-step bytes at n h e = step_at_lem bytes at n h (e ∙ ap attribute_length (rest-drop at bytes))
+step bytes at n h e = step_at_lem bytes at n h (e ∙ ap attribute_length (rest_drop at bytes))
 
 -- nothing is left at the end
 pub none_left : (bytes : List ℕ) (at : ℕ) → length bytes ≤ at → split (drop at bytes) ≡ []

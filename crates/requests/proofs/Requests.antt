@@ -13,8 +13,8 @@ use Rattle.labels.specs.Syntax.{count, breaches}
 use Rattle.labels.proofs.Labels.{fixed_labels_pass}
 use Rattle.hmac.specs.Rfc2104.{hmac_sha256}
 use Rattle.hmac.proofs.Laws.{hmac_sha256-length}
-use Rattle.prf_plus.specs.PrfPlus.{block, prfPlus}
-use Rattle.prf_plus.proofs.Laws.{count-le, block-of-input, prfPlus-length}
+use Rattle.prf_plus.specs.PrfPlus.{block, prf_plus_of}
+use Rattle.prf_plus.proofs.Laws.{count-le, block_of_input, prf_plus_of-length}
 use Rattle.requests.specs.Requests.{Request, BlockOf, length_of, check_of, text_of, input_of, key_of}
 use Rattle.requests.specs.Statements.{KeyOfBlocks, VrkIsUsage, SomeAccepted}
 use Rattle.requests.proofs.Accepting.{sound}
@@ -23,14 +23,14 @@ use Rattle.requests.proofs.Accepting.{sound}
 block_of_request : (emsk : List ℕ) (r : Request) (i : ℕ) → BlockOf r i → block hmac_sha256 emsk (text_of r) i ≡ hmac_sha256 emsk (input_of emsk r i)
 unfolding input_of
 block_of_request emsk r zero b = absurd (not-suc-le-zero b.0)
-block_of_request emsk r (suc i) b = block-of-input hmac_sha256 emsk (text_of r) i
+block_of_request emsk r (suc i) b = block_of_input hmac_sha256 emsk (text_of r) i
 
 pub key_of_blocks : KeyOfBlocks
-unfolding key_of prfPlus
+unfolding key_of prf_plus_of
 key_of_blocks emsk r = (
   refl,
   block_of_request emsk r,
-  prfPlus-length hmac_sha256 hmac_sha256-length emsk (text_of r) (length_of r),
+  prf_plus_of-length hmac_sha256 hmac_sha256-length emsk (text_of r) (length_of r),
   λ a. count-le (length_of r) (sound emsk r a).high,
 )
 

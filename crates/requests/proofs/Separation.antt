@@ -12,7 +12,7 @@ use Rattle.labels.specs.Bytes.{every, label_byte}
 use Rattle.hmac.specs.Rfc2104.{hmac_sha256}
 use Rattle.hmac.proofs.Laws.{hmac_sha256-length}
 use Rattle.prf_plus.proofs.Lists.{cancel_back}
-use Rattle.prf_plus.proofs.Laws.{input-apart}
+use Rattle.prf_plus.proofs.Laws.{input_apart}
 use Rattle.requests.specs.Rfc5295.{usage_text}
 use Rattle.requests.specs.Requests.{label_of, data_of, length_of, text_of, input_of}
 use Rattle.requests.specs.Statements.{Separated, UsageTextExample}
@@ -47,7 +47,7 @@ separated emsk r₁ r₂ a₁ a₂ zero j b₁ b₂ = absurd (not-suc-le-zero b�
 separated emsk r₁ r₂ a₁ a₂ (suc i) zero b₁ b₂ = absurd (not-suc-le-zero b₂.0)
 separated emsk r₁ r₂ a₁ a₂ (suc i) (suc j) b₁ b₂ = (
   λ e.
-      let s = input-apart hmac_sha256 hmac_sha256-length emsk emsk (text_of r₁) (text_of r₂) i j e in
+      let s = input_apart hmac_sha256 hmac_sha256-length emsk emsk (text_of r₁) (text_of r₂) i j e in
       let g₁ = sound emsk r₁ a₁ in
       let g₂ = sound emsk r₂ a₂ in
       let t = text_apart (label_of r₁) (label_of r₂) (data_of r₁) (data_of r₂) (length_of r₁) (length_of r₂) g₁.label g₂.label g₁.high g₂.high s.0 in

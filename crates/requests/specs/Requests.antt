@@ -7,7 +7,7 @@ use Rattle.refusal.specs.Answers.{Answer, answer_to, buffer_after}
 use Rattle.labels.specs.FixedLabels.{vrk_label, dsrk_label}
 use Rattle.labels.specs.Checks.{label_check, check8, check31}
 use Rattle.hmac.specs.Rfc2104.{hmac_sha256}
-use Rattle.prf_plus.specs.PrfPlus.{block_count, blockInput, prfPlus, check5}
+use Rattle.prf_plus.specs.PrfPlus.{block_count, block_input, prf_plus_of, check5}
 use Rattle.requests.specs.Rfc5295.{usage_text, check4}
 
 -- a usage request (document 01's term): a label, optional data (none is data of length 0), the key length n, and the room in the output
@@ -56,11 +56,11 @@ BlockOf r i = (1 ≤ i) × (i ≤ block_count (length_of r))
 
 -- the bytes handed to HMAC for block i
 unfoldable pub input_of : List ℕ → Request → ℕ → List ℕ
-input_of emsk r i = blockInput hmac_sha256 emsk (text_of r) i
+input_of emsk r i = block_input hmac_sha256 emsk (text_of r) i
 
 -- its key: the first n bytes of prf+, with the EMSK as K
 unfoldable pub key_of : List ℕ → Request → List ℕ
-key_of emsk r = prfPlus hmac_sha256 emsk (text_of r) (length_of r)
+key_of emsk r = prf_plus_of hmac_sha256 emsk (text_of r) (length_of r)
 
 -- what the call answers: n, or the first refusal
 unfoldable pub request_answer : List ℕ → Request → Answer

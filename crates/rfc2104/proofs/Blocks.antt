@@ -10,8 +10,8 @@ use lib.Bits.{bit_xor}
 use lib.Dec.{leb}
 use lib.ListN.{length, get_or, set, take, drop, replicate, length-map, get_or-map, length-append, length-replicate, drop_of_length-le}
 use lib.Seq.{take_all}
-use Rattle.slices.proofs.Lists.{copy-turn}
-use Rattle.rfc2104.specs.Rfc2104.{masked, shortKey, keyBlock}
+use Rattle.slices.proofs.Lists.{copy_turn}
+use Rattle.rfc2104.specs.Rfc2104.{masked, short_key, key_block}
 
 pub drop-replicate : (n m : ℕ) → drop {A = ℕ} n (replicate m 0) ≡ replicate (m - n) 0
 drop-replicate zero m = let e : m ≡ m - 0 = omega arith in ap (λ (k : ℕ). replicate k 0) e
@@ -29,7 +29,7 @@ unfolding masked
 mask_turn b c j {r} e h =
     let f : ℕ → ℕ = λ x. bit_xor x c in
     let l : j < length (map f b) = omega (arith, length-map b f) in
-    ap (set r j) (sym (get_or-map f b j 0)) ∙ copy-turn b (map f b) j (f 0) e h l
+    ap (set r j) (sym (get_or-map f b j 0)) ∙ copy_turn b (map f b) j (f 0) e h l
 
 pub masked_all : (b : List ℕ) (c : ℕ) → length b ≡ 64 → take 64 (masked b c) ++ drop 64 b ≡ masked b c
 unfolding masked
@@ -44,25 +44,25 @@ masked-length b c = length-map b (λ x. bit_xor x c)
 
 -- the key's block, by the key's length, under any hash
 module _ (hash : List ℕ → List ℕ) where
-  pub key-short : (k : List ℕ) {r : List ℕ} → length k ≤ 64 → r ≡ k ++ replicate (64 - length k) 0 → r ≡ keyBlock hash k
-  unfolding keyBlock shortKey
-  key-short k h e =
+  pub key_short : (k : List ℕ) {r : List ℕ} → length k ≤ 64 → r ≡ k ++ replicate (64 - length k) 0 → r ≡ key_block hash k
+  unfolding key_block short_key
+  key_short k h e =
       let s : cond (leb (length k) 64) k (hash k) ≡ k = ap (λ (t : Bool). cond t k (hash k)) (le-leb (length k) 64 h) in
       e ∙ sym (ap (λ (l : List ℕ). l ++ replicate (64 - length l) 0) s)
 
-  pub key-long : (k : List ℕ) {d r : List ℕ} → 64 < length k → d ≡ hash k → r ≡ d ++ replicate (64 - length d) 0 → r ≡ keyBlock hash k
-  unfolding keyBlock shortKey
-  key-long k h f e =
+  pub key_long : (k : List ℕ) {d r : List ℕ} → 64 < length k → d ≡ hash k → r ≡ d ++ replicate (64 - length d) 0 → r ≡ key_block hash k
+  unfolding key_block short_key
+  key_long k h f e =
       let s : cond (leb (length k) 64) k (hash k) ≡ hash k = ap (λ (t : Bool). cond t k (hash k)) (lt-leb (length k) 64 h) in
       e ∙ ap (λ (l : List ℕ). l ++ replicate (64 - length l) 0) (f ∙ sym s)
 
   -- the key's block has 64 bytes, since a digest has no more
-  pub keyBlock-length : ((m : List ℕ) → length (hash m) ≤ 64) → (k : List ℕ) → length (keyBlock hash k) ≡ 64
-  unfolding keyBlock shortKey
-  keyBlock-length fits k =
-      length-append (shortKey hash k) (replicate (64 - length (shortKey hash k)) 0)
-      ∙ ap (λ (n : ℕ). length (shortKey hash k) + n) (length-replicate (64 - length (shortKey hash k)) 0)
-      ∙ filled (length (shortKey hash k)) (short (dec_lt 64 (length k)))
+  pub key_block-length : ((m : List ℕ) → length (hash m) ≤ 64) → (k : List ℕ) → length (key_block hash k) ≡ 64
+  unfolding key_block short_key
+  key_block-length fits k =
+      length-append (short_key hash k) (replicate (64 - length (short_key hash k)) 0)
+      ∙ ap (λ (n : ℕ). length (short_key hash k) + n) (length-replicate (64 - length (short_key hash k)) 0)
+      ∙ filled (length (short_key hash k)) (short (dec_lt 64 (length k)))
     where
       filled : (n : ℕ) → n ≤ 64 → n + (64 - n) ≡ 64
       filled n h = omega arith

@@ -16,13 +16,13 @@ masked block pad = map (λ x. bit_xor x pad) block
 
 module _ (hash : List ℕ → List ℕ) where
   -- a key over 64 bytes is hashed first; what comes of it is used as the key
-  unfoldable pub shortKey : List ℕ → List ℕ
-  shortKey key = cond (leb (length key) 64) key (hash key)
+  unfoldable pub short_key : List ℕ → List ℕ
+  short_key key = cond (leb (length key) 64) key (hash key)
 
   -- step 1: the key with zeros after it, to a block
-  unfoldable pub keyBlock : List ℕ → List ℕ
-  keyBlock key = shortKey key ++ replicate (64 - length (shortKey key)) 0
+  unfoldable pub key_block : List ℕ → List ℕ
+  key_block key = short_key key ++ replicate (64 - length (short_key key)) 0
 
   -- steps 2 to 7: H(K XOR opad, H(K XOR ipad, text)), where the comma joins
   unfoldable pub hmac : List ℕ → List ℕ → List ℕ
-  hmac key message = hash (masked (keyBlock key) opad ++ hash (masked (keyBlock key) ipad ++ message))
+  hmac key message = hash (masked (key_block key) opad ++ hash (masked (key_block key) ipad ++ message))

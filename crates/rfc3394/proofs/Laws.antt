@@ -8,7 +8,7 @@ use lib.ListN.{length, take, drop, length-append, length-drop, take-append-drop}
 use lib.Seq.{length-take-le, take_at, drop_at}
 use Rattle.fips197.specs.State.{State, Block, block, column}
 use Rattle.fips197.specs.Cipher.{cipher, inv_cipher}
-use Rattle.fips197.proofs.Rounds.{Keys, cipher-block, invCipher-block, uncipher, recipher, expand_key_keys}
+use Rattle.fips197.proofs.Rounds.{Keys, cipher-block, inv_cipher_block, uncipher, recipher, expand_key_keys}
 use Rattle.slices.specs.Bytes.{Bytes}
 use Rattle.rfc3394.specs.Rfc3394.{initial_value, Registers, wrap_passes, unwrap_passes, key_state, round_keys, wrap_registers, wrapped, unwrap_registers, unwrapped_iv, unwrapped_key}
 use Rattle.rfc3394.specs.Statements.{UnwrapUndoes, WrapUndoes, WrappedLength, UnwrappedLength}
@@ -35,7 +35,7 @@ module _ (kek : List ℕ) (k : Bytes kek) where
 
   keepsD : (s : State) → Block s → Block (D s)
   unfolding D
-  keepsD s b = invCipher-block (round_keys kek) keys b
+  keepsD s b = inv_cipher_block (round_keys kek) keys b
 
   undone : (s : State) → Block s → D (E s) ≡ s
   unfolding E D
@@ -134,8 +134,8 @@ length-unwrapped_key kek k w b long = length-unwrappedKey-of kek k w b long
 
 -- its two parts
 module _ (kek : List ℕ) (k : Bytes kek) (key : List ℕ) (b : Bytes key) where
-  pub unwrap-initial : unwrapped_iv kek (wrapped kek key) ≡ initial_value
-  unwrap-initial = (unwrap_undoes kek k key b).0
+  pub unwrap_initial : unwrapped_iv kek (wrapped kek key) ≡ initial_value
+  unwrap_initial = (unwrap_undoes kek k key b).0
 
-  pub unwrap-key : unwrapped_key kek (wrapped kek key) ≡ key
-  unwrap-key = (unwrap_undoes kek k key b).1
+  pub unwrap_key : unwrapped_key kek (wrapped kek key) ≡ key
+  unwrap_key = (unwrap_undoes kek k key b).1

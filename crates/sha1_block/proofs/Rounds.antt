@@ -30,17 +30,17 @@ module _ (h b : List ℕ) (t p j n : ℕ) {w s r : List ℕ} (ew : w ≡ window 
   turn : (f : ℕ → ℕ → ℕ → ℕ) (k : ℕ) → p + j ≡ t → j + n ≤ 16 → ((i : ℕ) → i < n → Has f k (t + i)) → r ≡ runs f k w j s n → r ≡ rounds h b (t + n)
   turn f k place le has e = e ∙ (λ i. runs f k (ew i) j (es i) n) ∙ run f k h b t p j place n le has
 
-  pub by-ch : p + j ≡ t → j + n ≤ 16 → t + n ≤ 20 → r ≡ runs Ch 0x5a827999 w j s n → r ≡ rounds h b (t + n)
-  by-ch place le below = turn Ch 0x5a827999 place le (λ i l. (round_by_cases (t + i)).0 (omega arith))
+  pub by_ch : p + j ≡ t → j + n ≤ 16 → t + n ≤ 20 → r ≡ runs Ch 0x5a827999 w j s n → r ≡ rounds h b (t + n)
+  by_ch place le below = turn Ch 0x5a827999 place le (λ i l. (round_by_cases (t + i)).0 (omega arith))
 
-  pub by-parity : p + j ≡ t → j + n ≤ 16 → 20 ≤ t → t + n ≤ 40 → r ≡ runs Parity 0x6ed9eba1 w j s n → r ≡ rounds h b (t + n)
-  by-parity place le from below = turn Parity 0x6ed9eba1 place le (λ i l. (round_by_cases (t + i)).1 (omega arith) (omega arith))
+  pub by_parity : p + j ≡ t → j + n ≤ 16 → 20 ≤ t → t + n ≤ 40 → r ≡ runs Parity 0x6ed9eba1 w j s n → r ≡ rounds h b (t + n)
+  by_parity place le from below = turn Parity 0x6ed9eba1 place le (λ i l. (round_by_cases (t + i)).1 (omega arith) (omega arith))
 
-  pub by-maj : p + j ≡ t → j + n ≤ 16 → 40 ≤ t → t + n ≤ 60 → r ≡ runs Maj 0x8f1bbcdc w j s n → r ≡ rounds h b (t + n)
-  by-maj place le from below = turn Maj 0x8f1bbcdc place le (λ i l. (round_by_cases (t + i)).2 (omega arith) (omega arith))
+  pub by_maj : p + j ≡ t → j + n ≤ 16 → 40 ≤ t → t + n ≤ 60 → r ≡ runs Maj 0x8f1bbcdc w j s n → r ≡ rounds h b (t + n)
+  by_maj place le from below = turn Maj 0x8f1bbcdc place le (λ i l. (round_by_cases (t + i)).2 (omega arith) (omega arith))
 
-  pub by-last-parity : p + j ≡ t → j + n ≤ 16 → 60 ≤ t → r ≡ runs Parity 0xca62c1d6 w j s n → r ≡ rounds h b (t + n)
-  by-last-parity place le from = turn Parity 0xca62c1d6 place le (λ i l. (round_by_cases (t + i)).3 (omega arith))
+  pub by_last_parity : p + j ≡ t → j + n ≤ 16 → 60 ≤ t → r ≡ runs Parity 0xca62c1d6 w j s n → r ≡ rounds h b (t + n)
+  by_last_parity place le from = turn Parity 0xca62c1d6 place le (λ i l. (round_by_cases (t + i)).3 (omega arith))
 
 pub no_round : (h b : List ℕ) {s : List ℕ} → s ≡ h → s ≡ rounds h b 0
 unfolding rounds

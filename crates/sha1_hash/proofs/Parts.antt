@@ -2,7 +2,7 @@
 use Rattle.std.proofs.Common.{◌≡◌, ℕ, ◌+◌, ◌*◌, ◌/◌, ◌%◌, ◌^◌, ◌<◌, List, length, drop, replicate, sym, refl, ap, ◌∙◌, arith}
 use Rattle.fips180.specs.Internal.{closing_by, marked_block}
 use Rattle.fips180.specs.Sha1.{compress, digest, blocks}
-use Rattle.fips180.proofs.Marked.{rest_length, at-start}
+use Rattle.fips180.proofs.Marked.{rest_length, at_start}
 use Rattle.sha1_hash.specs.Internal.{digest_from}
 
 -- `digest_from`: h is the hash value after the message's whole blocks, b the block of its last bytes, n the count of all bytes, w the last hash value
@@ -14,4 +14,4 @@ from_parts v before m {n = n} small starts eh eb en law er =
     let x : List ℕ = drop (length m / 64 * 64) m in
     let same : length m % 64 ≡ n % 64 = omega (arith, en, starts) in
     er ∙ ap digest (law x (rest_length m ∙ same) eb ∙ (λ i. closing_by compress (eh i) x (en i)))
-    ∙ sym (at-start compress digest (record { value = v; block = replicate 64 0; count = before }) m small starts refl)
+    ∙ sym (at_start compress digest (record { value = v; block = replicate 64 0; count = before }) m small starts refl)

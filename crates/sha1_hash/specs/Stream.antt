@@ -2,8 +2,8 @@
 -- says that it is the standard's hash.
 use Rattle.std.specs.Prelude.{ℕ, List}
 use Rattle.fips180.specs.Sha1.{compress, digest}
-use Rattle.fips180.specs.Stream.{started_after, absorbedBy, finishedBy}
+use Rattle.fips180.specs.Stream.{started_after, absorbed_by, finished_by}
 
 -- the digest of a block, of which only the hash value is given, and of a message after it
 abbrev pub digest_after : List ℕ → List ℕ → List ℕ
-digest_after value message = finishedBy compress digest (absorbedBy compress (started_after value) message)
+digest_after value message = finished_by compress digest (absorbed_by compress (started_after value) message)

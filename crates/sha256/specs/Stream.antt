@@ -3,7 +3,7 @@
 -- that crate's Statements.antt say that what it comes to is the standard's hash.
 use Rattle.std.specs.Prelude.{ℕ, List, ◌++◌}
 use Rattle.fips180.specs.Stream as Stream
-use Rattle.fips180.specs.Stream.{Progress, absorbedBy, finishedBy}
+use Rattle.fips180.specs.Stream.{Progress, absorbed_by, finished_by}
 use Rattle.fips180.specs.Sha256.{compress, H0, digest}
 use Rattle.sha256.specs.declared.Sha256.{Sha256}
 
@@ -16,11 +16,11 @@ abbrev pub started : Progress
 started = Stream.started H0
 
 abbrev pub absorbed : Progress → List ℕ → Progress
-absorbed = absorbedBy compress
+absorbed = absorbed_by compress
 
 -- the digest of all that was absorbed
 abbrev pub finished : Progress → List ℕ
-finished = finishedBy compress digest
+finished = finished_by compress digest
 
 -- six parts, one after the other
 abbrev pub joined : List ℕ → List ℕ → List ℕ → List ℕ → List ℕ → List ℕ → List ℕ

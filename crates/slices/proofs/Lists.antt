@@ -11,13 +11,13 @@ use lib.Seq.{paste-suc, take_all, take-length, drop-length}
 
 module _ {A : Type 0} where
   -- a part from index i to the end, as a loan of it has it
-  pub rest-drop : (i : ℕ) (s : List A) → take (length s - i) (drop i s) ≡ drop i s
-  rest-drop i s = take_all (length s - i) (drop i s) (simp length-drop (omega arith))
+  pub rest_drop : (i : ℕ) (s : List A) → take (length s - i) (drop i s) ≡ drop i s
+  rest_drop i s = take_all (length s - i) (drop i s) (simp length-drop (omega arith))
 
   -- one element more: after j turns the first j elements of s stand at the start of r, and after them what stood in d
-  pub copy-turn : (d s : List A) (j : ℕ) (z : A) {r : List A} → r ≡ take j s ++ drop j d → j < length d → j < length s
+  pub copy_turn : (d s : List A) (j : ℕ) (z : A) {r : List A} → r ≡ take j s ++ drop j d → j < length d → j < length s
       → set r j (get_or s j z) ≡ take (j + 1) s ++ drop (j + 1) d
-  copy-turn d s j z e hd hs =
+  copy_turn d s j z e hd hs =
       ap (λ (l : List A). set l j (get_or s j z)) e ∙ rw add-one (simp zero-add at (paste-suc d 0 s j z (simp zero-add hd) hs))
 
   -- all turns: as many elements as the shorter of the two has
@@ -35,5 +35,5 @@ module _ {A : Type 0} where
           λ j. (ap (λ (k : ℕ). take k s) n ∙ take-length s ∙ sym (take_all (length d) s le)) j ++ drop (n j) d
 
   -- what the kit's `bytes::copy` leaves: all of s, and after it what stood in d
-  pub copied-front : (s d : List A) {r : List A} → r ≡ take (length s) s ++ drop (length s) d → r ≡ s ++ drop (length s) d
-  copied-front s d e = e ∙ ap (λ (l : List A). l ++ drop (length s) d) (take-length s)
+  pub copied_front : (s d : List A) {r : List A} → r ≡ take (length s) s ++ drop (length s) d → r ≡ s ++ drop (length s) d
+  copied_front s d e = e ∙ ap (λ (l : List A). l ++ drop (length s) d) (take-length s)

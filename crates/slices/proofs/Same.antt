@@ -43,9 +43,9 @@ unfolding same_list
 same_step s t i h₁ h₂ = rw (add-one, drop-cons s i 0, drop-cons t i 0)
 
 module _ (s t : List ℕ) (i : ℕ) (so_far : Bool) (inv : same_list s t ≡ (so_far && same_list (drop i s) (drop i t))) where
-  pub same-on : i < length s → i < length t
+  pub same_on : i < length s → i < length t
       → same_list s t ≡ ((so_far && eqb (get_or s i 0) (get_or t i 0)) && same_list (drop (i + 1) s) (drop (i + 1) t))
-  same-on h₁ h₂ = inv ∙ rw (same_step s t i h₁ h₂) (sym (and_assoc so_far _ _))
+  same_on h₁ h₂ = inv ∙ rw (same_step s t i h₁ h₂) (sym (and_assoc so_far _ _))
 
   pub same_end : length s ≤ i → length t ≤ i → so_far ≡ same_list s t
   unfolding same_list

@@ -13,10 +13,10 @@ use Rattle.refusal.proofs.Passing.{before-passed, last-passed, test_passed}
 use Rattle.slot_rules.specs.declared.Name.{Name}
 use Rattle.slot_rules.specs.declared.Parent.{Parent}
 use Rattle.slot_rules.specs.declared.Parent.TheVariants.{Root, Below}
-use Rattle.slot_rules.specs.Table.{Slot, free, holding, lowestFree, isHolding, isLive, freed}
+use Rattle.slot_rules.specs.Table.{Slot, free, holding, lowest_free, is_holding, is_live, freed}
 use Rattle.slot_rules.specs.Parents.{Key, parent_in, up, is_slot, reaches, goes_with, is_none, is_root, root_at, root_within, parent_live, root_near}
 use Rattle.slot_rules.specs.Calls.{check46, check47, check48, check49, put_check, put_table, drop_table}
-use Rattle.slot_rules.proofs.Tables.{lowest-none, freed-at}
+use Rattle.slot_rules.proofs.Tables.{lowest_none, freed_at}
 use Rattle.slot_rules.specs.Statements.{Call, puts, drops, empty, after, after_all, AlwaysSound}
 
 -- ---- truth values
@@ -89,12 +89,12 @@ module _ (t : List (Slot Key)) (n : ℕ) where
 
   pub rest_at : (s : ℕ) → get_or rest s free ≡ cond (goes_with t n s) free (get_or t s free)
   unfolding rest
-  rest_at s = let e : 0 + s ≡ s = omega arith in freed-at (goes_with t n) 0 t s ∙ ap (λ (i : ℕ). cond (goes_with t n i) free (get_or t s free)) e
+  rest_at s = let e : 0 + s ≡ s = omega arith in freed_at (goes_with t n) 0 t s ∙ ap (λ (i : ℕ). cond (goes_with t n i) free (get_or t s free)) e
 
   -- what does not come to n, with a root near, stays, and so does its way
   stays : (k s : ℕ) → root_within k t (Below s) ≡ true → reaches k t n (Below s) ≡ false → get_or rest s free ≡ get_or t s free
   unfolding goes_with
-  stays k s r e = rest_at s ∙ go (isLive t s) (reaches 3 t n (Below s)) refl
+  stays k s r e = rest_at s ∙ go (is_live t s) (reaches 3 t n (Below s)) refl
     where
       go : (a b : Bool) → reaches 3 t n (Below s) ≡ b → cond (a && b) free (get_or t s free) ≡ get_or t s free
       go true true f = absurd (false≢true (sym e ∙ no_further t n 3 k (Below s) r f))
@@ -124,13 +124,13 @@ module _ (t : List (Slot Key)) (n : ℕ) where
   root-stays (suc k) x r e = root-later k x r e (λ q f. root-stays k (up t x) q f)
 
 Roots : List (Slot Key) → Type 0
-Roots t = (s : ℕ) → isLive t s ≡ true → root_within 3 t (Below s) ≡ true
+Roots t = (s : ℕ) → is_live t s ≡ true → root_within 3 t (Below s) ≡ true
 
 drop-roots : (t : List (Slot Key)) (n : ℕ) → Roots t → Roots (freed (goes_with t n) 0 t)
 unfolding Roots goes_with rest
-drop-roots t n r s live = go (isLive t s) (reaches 3 t n (Below s)) refl refl (sym (ap isHolding (rest_at t n s)) ∙ live)
+drop-roots t n r s live = go (is_live t s) (reaches 3 t n (Below s)) refl refl (sym (ap is_holding (rest_at t n s)) ∙ live)
   where
-    go : (a b : Bool) → isLive t s ≡ a → reaches 3 t n (Below s) ≡ b → isHolding (cond (a && b) free (get_or t s free)) ≡ true
+    go : (a b : Bool) → is_live t s ≡ a → reaches 3 t n (Below s) ≡ b → is_holding (cond (a && b) free (get_or t s free)) ≡ true
         → root_within 3 (freed (goes_with t n) 0 t) (Below s) ≡ true
     go true true p q f = absurd (false≢true f)
     go true false p q f = root-stays t n 3 (Below s) (r s p) q
@@ -188,20 +188,20 @@ new_root t i x (Below q) none h e =
     (ap (root_within 2 (set t i (holding k))) here ∙ near)
 
 put_roots : (t : List (Slot Key)) (x : Name) (p : Parent) → Roots t → put_check t p ≡ pass
-    → Roots (set t (lowestFree t) (holding (record { name = x; parent = p })))
+    → Roots (set t (lowest_free t) (holding (record { name = x; parent = p })))
 unfolding Roots put_check check46 check49 u
-put_roots t x p r e s live = go (eqb s (lowestFree t)) refl
+put_roots t x p r e s live = go (eqb s (lowest_free t)) refl
   where
-    go : (b : Bool) → eqb s (lowestFree t) ≡ b → root_within 3 (set t (lowestFree t) (holding (record { name = x; parent = p }))) (Below s) ≡ true
+    go : (b : Bool) → eqb s (lowest_free t) ≡ b → root_within 3 (set t (lowest_free t) (holding (record { name = x; parent = p }))) (Below s) ≡ true
     go true q =
-        let h : lowestFree t < length t = ltb-true _ _ (test_passed _ _ (last-passed (check48 t p and_then check49 t p) _ e)) in
+        let h : lowest_free t < length t = ltb-true _ _ (test_passed _ _ (last-passed (check48 t p and_then check49 t p) _ e)) in
         let d : root_near t p ≡ true = test_passed _ _ (last-passed (check48 t p) _ (before-passed (check48 t p and_then check49 t p) _ e)) in
-        ap (λ (j : ℕ). root_within 3 (set t (lowestFree t) (holding (record { name = x; parent = p }))) (Below j)) (eqb-true s (lowestFree t) q)
-        ∙ new_root t (lowestFree t) x p (lowest-none t) h d
+        ap (λ (j : ℕ). root_within 3 (set t (lowest_free t) (holding (record { name = x; parent = p }))) (Below j)) (eqb-true s (lowest_free t) q)
+        ∙ new_root t (lowest_free t) x p (lowest_none t) h d
     go false q =
         let k : Key = record { name = x; parent = p } in
-        let same : get_or (set t (lowestFree t) (holding k)) s free ≡ get_or t s free = unmoved t (lowestFree t) k (lowest-none t) s (eqb-false s (lowestFree t) q) in
-        root_kept t (lowestFree t) k (lowest-none t) 3 (Below s) (r s (sym (ap isHolding same) ∙ live))
+        let same : get_or (set t (lowest_free t) (holding k)) s free ≡ get_or t s free = unmoved t (lowest_free t) k (lowest_none t) s (eqb-false s (lowest_free t) q) in
+        root_kept t (lowest_free t) k (lowest_none t) 3 (Below s) (r s (sym (ap is_holding same) ∙ live))
 
 -- ---- any calls
 
@@ -223,7 +223,7 @@ unfolding after_all
 all_roots t [] r = r
 all_roots t (c ∷ calls) r = all_roots (after t c) calls (after-roots t c r)
 
-none_held : (n s : ℕ) → isHolding (get_or (replicate {A = Slot Key} n free) s free) ≡ false
+none_held : (n s : ℕ) → is_holding (get_or (replicate {A = Slot Key} n free) s free) ≡ false
 none_held zero s = refl
 none_held (suc n) zero = refl
 none_held (suc n) (suc s) = none_held n s
@@ -233,12 +233,12 @@ unfolding root_within
 near_live t k Root r = refl
 near_live t zero (Below p) r = go (get_or t p free) r
   where
-    go : (y : Slot Key) → is_root y ≡ true → isHolding y ≡ true
+    go : (y : Slot Key) → is_root y ≡ true → is_holding y ≡ true
     go free e = e
     go (holding z) e = refl
 near_live t (suc k) (Below p) r = go (get_or t p free) r
   where
-    go : (y : Slot Key) → (is_root y || root_within k t (parent_in y)) ≡ true → isHolding y ≡ true
+    go : (y : Slot Key) → (is_root y || root_within k t (parent_in y)) ≡ true → is_holding y ≡ true
     go free e = sym (root_none t k) ∙ e
     go (holding z) e = refl
 

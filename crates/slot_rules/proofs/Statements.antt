@@ -13,7 +13,7 @@ use Rattle.refusal.specs.Checks.{Reason, Check, pass, refuse, bare, unless, ◌a
 use Rattle.refusal.specs.Answers.{Answer, returned, refused, answer_to, after_check}
 use Rattle.refusal.proofs.Passing.{last-passed, test_passed, test_holds}
 use Rattle.slot_rules.specs.declared.Parent.{Parent}
-use Rattle.slot_rules.specs.Table.{Slot, free, holding, lowestFree, liveCount, isHolding, isLive, count_gone}
+use Rattle.slot_rules.specs.Table.{Slot, free, holding, lowest_free, live_slot_count, is_holding, is_live, count_gone}
 use Rattle.slot_rules.specs.Parents.{Key, reaches, goes_with, parent_live, root_near}
 use Rattle.slot_rules.specs.Calls.{check46, check47, check48, check49, put_check, put_answer, put_table, drop_answer, drop_table}
 use Rattle.slot_rules.specs.Statements.{
@@ -42,34 +42,34 @@ use Rattle.slot_rules.specs.Statements.{
   ZerosAreEmpty,
 }
 use Rattle.slot_rules.proofs.Words.{empty_law}
-use Rattle.slot_rules.proofs.Tables.{taken_more, freed-less, none_live, lowest-none, below-lowest, lowest-le, live-le, full-lowest}
+use Rattle.slot_rules.proofs.Tables.{taken_more, freed_less, none_live, lowest_none, below_lowest, lowest_le, live_le, full_lowest}
 use Rattle.slot_rules.proofs.Sound.{rest, rest_at}
 
 -- ---- the live count
 
-goes_live : (t : List (Slot Key)) (n s : ℕ) → goes_with t n (0 + s) ≡ true → isHolding (get_or t s free) ≡ true
+goes_live : (t : List (Slot Key)) (n s : ℕ) → goes_with t n (0 + s) ≡ true → is_holding (get_or t s free) ≡ true
 unfolding goes_with
 goes_live t n s e =
-    let q : 0 + s ≡ s = omega arith in ap (λ (i : ℕ). isHolding (get_or t i free)) (sym q) ∙ and_left _ _ e
+    let q : 0 + s ≡ s = omega arith in ap (λ (i : ℕ). is_holding (get_or t i free)) (sym q) ∙ and_left _ _ e
 
-room : (t : List (Slot Key)) (p : Parent) → put_check t p ≡ pass → lowestFree t < length t
+room : (t : List (Slot Key)) (p : Parent) → put_check t p ≡ pass → lowest_free t < length t
 unfolding put_check check46
 room t p e = ltb-true _ _ (test_passed _ _ (last-passed (check48 t p and_then check49 t p) _ e))
 
-step : (t : List (Slot Key)) (c : Call) → liveCount (after t c) + gone_by t c ≡ put_by t c + liveCount t
+step : (t : List (Slot Key)) (c : Call) → live_slot_count (after t c) + gone_by t c ≡ put_by t c + live_slot_count t
 unfolding put_table put_answer drop_table drop_answer
 step t (puts x p) = go (put_check t p) refl
   where
-    go : (c : Check) → put_check t p ≡ c → liveCount (put_table t x p) + 0 ≡ one_put (put_answer t p) + liveCount t
+    go : (c : Check) → put_check t p ≡ c → live_slot_count (put_table t x p) + 0 ≡ one_put (put_answer t p) + live_slot_count t
     go pass e = let h = taken_more t (record { name = x; parent = p }) (room t p e) in simp e (omega arith)
     go (refuse y) e = simp e (omega arith)
 step t (drops n) = go (check47 t n) refl
   where
-    go : (c : Check) → check47 t n ≡ c → liveCount (drop_table t n) + gone (drop_answer t n) ≡ 0 + liveCount t
-    go pass e = let h = freed-less (goes_with t n) 0 t (λ i q. goes_live t n i q) in simp e (omega arith)
+    go : (c : Check) → check47 t n ≡ c → live_slot_count (drop_table t n) + gone (drop_answer t n) ≡ 0 + live_slot_count t
+    go pass e = let h = freed_less (goes_with t n) 0 t (λ i q. goes_live t n i q) in simp e (omega arith)
     go (refuse y) e = simp e (omega arith)
 
-any_calls : (t : List (Slot Key)) (calls : List Call) → liveCount (after_all t calls) + went t calls ≡ accepted t calls + liveCount t
+any_calls : (t : List (Slot Key)) (calls : List Call) → live_slot_count (after_all t calls) + went t calls ≡ accepted t calls + live_slot_count t
 unfolding after_all accepted went
 any_calls t [] = omega arith
 any_calls t (c ∷ calls) = let h = any_calls (after t c) calls in let s = step t c in omega arith
@@ -90,11 +90,11 @@ refused-before (refuse x) n y after before e = refl
 -- ---- refused exactly then
 
 -- no slot is free exactly when all are counted
-full : {X : Type 0} (t : List (Slot X)) → ltb (lowestFree t) (length t) ≡ false → liveCount t ≡ length t
-full t e = let a = lowest-le t in let b = live-le t in let h : length t ≤ lowestFree t = ltb-false _ _ e in omega arith
+full : {X : Type 0} (t : List (Slot X)) → ltb (lowest_free t) (length t) ≡ false → live_slot_count t ≡ length t
+full t e = let a = lowest_le t in let b = live_le t in let h : length t ≤ lowest_free t = ltb-false _ _ e in omega arith
 
-not_full : {X : Type 0} (t : List (Slot X)) → liveCount t ≡ length t → ltb (lowestFree t) (length t) ≡ false
-not_full t e = let f = full-lowest t e in let h : length t ≤ lowestFree t = omega arith in le-ltb _ _ h
+not_full : {X : Type 0} (t : List (Slot X)) → live_slot_count t ≡ length t → ltb (lowest_free t) (length t) ≡ false
+not_full t e = let f = full_lowest t e in let h : length t ≤ lowest_free t = omega arith in le-ltb _ _ h
 
 -- the answer of a put, by its three tests in their order
 said : (a b c : Bool) → ℕ → Answer
@@ -133,8 +133,8 @@ unfolding put_answer put_check check46 check48 check49 said unless ◌and_then�
 put_refused t p =
     let a = parent_live t p in
     let b = root_near t p in
-    let c = ltb (lowestFree t) (length t) in
-    let n = lowestFree t in (
+    let c = ltb (lowest_free t) (length t) in
+    let n = lowest_free t in (
       said_48 a b c n,
       λ e. rw e,
       said_49 a b c n,
@@ -144,8 +144,8 @@ put_refused t p =
     )
 
 -- a slot is free where not all are counted
-free_left : {X : Type 0} (t : List (Slot X)) → liveCount t < length t → ltb (lowestFree t) (length t) ≡ true
-free_left t h = let a = lowest-le t in let b : lowestFree t < length t = omega arith in lt-ltb _ _ b
+free_left : {X : Type 0} (t : List (Slot X)) → live_slot_count t < length t → ltb (lowest_free t) (length t) ≡ true
+free_left t h = let a = lowest_le t in let b : lowest_free t < length t = omega arith in lt-ltb _ _ b
 
 pub put_accepted : PutAccepted
 unfolding put_answer put_check check46 check48 check49 unless ◌and_then◌
@@ -153,9 +153,9 @@ put_accepted t p e f h = rw e (rw f (rw (free_left t h)))
 
 pub no_such_slot_exactly : NoSuchSlotExactly
 unfolding drop_answer check47 unless
-no_such_slot_exactly t n = (go (isLive t n) refl, λ e. simp e)
+no_such_slot_exactly t n = (go (is_live t n) refl, λ e. simp e)
   where
-    go : (b : Bool) → isLive t n ≡ b → drop_answer t n ≡ refused (bare 47) → isLive t n ≡ false
+    go : (b : Bool) → is_live t n ≡ b → drop_answer t n ≡ refused (bare 47) → is_live t n ≡ false
     go true e f = let z : ◌≡◌ {A = ℕ} 0 1 = cc (sym (rw e at f)) in absurd (omega arith)
     go false e f = e
 
@@ -164,18 +164,18 @@ no_such_slot_exactly t n = (go (isLive t n) refl, λ e. simp e)
 pub lowest_taken : LowestTaken
 unfolding put_answer put_check check46 check48 check49 said
 lowest_taken t p i e =
-    let h = said_wrote (parent_live t p) (root_near t p) (ltb (lowestFree t) (length t)) (lowestFree t) i e in
-    let inside : lowestFree t < length t = ltb-true _ _ h.0 in
-    (rw h.1 at inside, rw h.1 at (ap isHolding (lowest-none t)), λ j g. below-lowest t j (rw h.1 g))
+    let h = said_wrote (parent_live t p) (root_near t p) (ltb (lowest_free t) (length t)) (lowest_free t) i e in
+    let inside : lowest_free t < length t = ltb-true _ _ h.0 in
+    (rw h.1 at inside, rw h.1 at (ap is_holding (lowest_none t)), λ j g. below_lowest t j (rw h.1 g))
 
 pub put_kept : PutKept
 unfolding put_table put_answer
 put_kept t x p i e =
     let k : Key = record { name = x; parent = p } in
-    let h = tests-passed (put_check t p) (lowestFree t) i e in
-    ap (λ (c : Check). get_or (after_check c (set t (lowestFree t) (holding k)) t) i free) h.0
-    ∙ ap (λ (j : ℕ). get_or (set t (lowestFree t) (holding k)) j free) (sym h.1)
-    ∙ get_or-set_same t (lowestFree t) (holding k) free (room t p h.0)
+    let h = tests-passed (put_check t p) (lowest_free t) i e in
+    ap (λ (c : Check). get_or (after_check c (set t (lowest_free t) (holding k)) t) i free) h.0
+    ∙ ap (λ (j : ℕ). get_or (set t (lowest_free t) (holding k)) j free) (sym h.1)
+    ∙ get_or-set_same t (lowest_free t) (holding k) free (room t p h.0)
 
 -- ---- nothing else changes
 
@@ -184,21 +184,21 @@ unfolding put_table
 others_stay t x p j h = go (put_check t p) refl
   where
     go : (c : Check) → put_check t p ≡ c → get_or (put_table t x p) j free ≡ get_or t j free
-    go pass e = simp e (get_or-set_other t (lowestFree t) j (holding (record { name = x; parent = p })) free h)
+    go pass e = simp e (get_or-set_other t (lowest_free t) j (holding (record { name = x; parent = p })) free h)
     go (refuse y) e = simp e
 
 pub refused_stays : RefusedStays
 unfolding put_table put_answer drop_table drop_answer
 refused_stays t = (
-  λ x p y e. refused-before (put_check t p) (lowestFree t) y _ t e,
+  λ x p y e. refused-before (put_check t p) (lowest_free t) y _ t e,
   λ n y e. refused-before (check47 t n) (count_gone (goes_with t n) 0 (length t)) y _ t e,
 )
 
 pub drop-counted : DropCounted
 unfolding drop_table drop_answer check47
 drop-counted t n live = (
-  rw (test_holds (isLive t n) (bare 47) live),
-  rw (test_holds (isLive t n) (bare 47) live) (freed-less (goes_with t n) 0 t (λ i q. goes_live t n i q)),
+  rw (test_holds (is_live t n) (bare 47) live),
+  rw (test_holds (is_live t n) (bare 47) live) (freed_less (goes_with t n) 0 t (λ i q. goes_live t n i q)),
 )
 
 pub drop_exactly : DropExactly

@@ -15,7 +15,7 @@ use Rattle.slot_rules.specs.declared.Name.{Name}
 use Rattle.slot_rules.specs.declared.Slots.{Slots}
 use Rattle.slot_rules.specs.declared.Parent.{Parent}
 use Rattle.slot_rules.specs.declared.Parent.TheVariants.{Root, Below}
-use Rattle.slot_rules.specs.Table.{free, holding, slotsFrom, lowestFree, isHolding, isLive}
+use Rattle.slot_rules.specs.Table.{free, holding, slots_from, lowest_free, is_holding, is_live}
 use Rattle.slot_rules.specs.Parents.{Key, goes_with, parent_live}
 use Rattle.slot_rules.specs.Calls.{check46, check47, check48, check49, put_check, put_table, drop_table}
 use Rattle.slot_rules.specs.Stored.{Fits, parent_of, byte_of, keys_of, table_of, put_stored, drop_stored}
@@ -58,7 +58,7 @@ module _ (s : Slots) (f : Fits s) where
   size = length_slots (keys_of s.names s.parents) s.taken ∙ keys-size
 
   -- a live slot is one of the 64
-  pub live_below : (n : ℕ) → isLive (table_of s) n ≡ true → n < 64
+  pub live_below : (n : ℕ) → is_live (table_of s) n ≡ true → n < 64
   live_below n e = go (dec_lt n 64)
     where
       go : Dec (n < 64) → n < 64
@@ -66,18 +66,18 @@ module _ (s : Slots) (f : Fits s) where
       go (no g) =
           let z = size in
           let past : length (table_of s) ≤ n = omega arith in
-          absurd (false≢true (sym (ap isHolding (get_or-eq_default (table_of s) free past)) ∙ e))
+          absurd (false≢true (sym (ap is_holding (get_or-eq_default (table_of s) free past)) ∙ e))
 
   -- ---- a put
 
   -- 46 asks for a slot below 64
-  pub full : check46 (table_of s) ≡ unless (ltb (lowestFree (table_of s)) 64) (bare 46)
+  pub full : check46 (table_of s) ≡ unless (ltb (lowest_free (table_of s)) 64) (bare 46)
   unfolding check46
-  full = ap (λ (n : ℕ). unless (ltb (lowestFree (table_of s)) n) (bare 46)) size
+  full = ap (λ (n : ℕ). unless (ltb (lowest_free (table_of s)) n) (bare 46)) size
 
   -- where its tests pass, a slot is free, and the parent is none or a slot's number
   module _ (p : Parent) (e : put_check (table_of s) p ≡ pass) where
-    pub room : lowestFree (table_of s) < 64
+    pub room : lowest_free (table_of s) < 64
     unfolding put_check
     room = ltb-true _ _ (test_passed _ _ (sym full ∙ last-passed (check48 (table_of s) p and_then check49 (table_of s) p) _ e))
 
@@ -97,14 +97,14 @@ module _ (s : Slots) (f : Fits s) where
     where
       go : (c : Check) → put_check (table_of s) p ≡ c → table_of (put_stored s x p) ≡ put_table (table_of s) x p
       go pass e =
-          let i : ℕ = lowestFree (table_of s) in
-          let h : lowestFree (table_of s) < 64 = room p e in
+          let i : ℕ = lowest_free (table_of s) in
+          let h : lowest_free (table_of s) < 64 = room p e in
           let l = f.names in
           let k = keys-size in
-          let inside : lowestFree (table_of s) < length s.names = omega arith in
-          let held : lowestFree (table_of s) < length (keys_of s.names s.parents) = omega arith in
+          let inside : lowest_free (table_of s) < length s.names = omega arith in
+          let held : lowest_free (table_of s) < length (keys_of s.names s.parents) = omega arith in
           simp e
-          (ap (slotsFrom (bit_or s.taken (2 ^ i))) (keys_set s.names s.parents i x (byte_of p) same inside)
+          (ap (slots_from (bit_or s.taken (2 ^ i))) (keys_set s.names s.parents i x (byte_of p) same inside)
           ∙ put_law (keys_of s.names s.parents) s.taken i (record { name = x; parent = parent_of (byte_of p) }) held
           ∙ ap (λ (q : Parent). set (table_of s) i (holding (record { name = x; parent = q }))) (byte_back p (parent-below p e)))
       go (refuse y) e = simp e

@@ -7,10 +7,10 @@ use native.Mathlib.Nat.{pow-suc, mod-lt, zero-lt-suc}
 use native.Mathlib.Omega.{arith}
 use lib.Bits.{bit_and, bit_or, or_mod, or_shr, or_zero_r, and_mod, and_shr}
 use lib.ListN.{length, set, replicate}
-use Rattle.slot_rules.specs.Table.{Slot, free, holding, slot_of, slotsFrom, freed, bit, word_gone}
+use Rattle.slot_rules.specs.Table.{Slot, free, holding, slot_of, slots_from, freed, bit, word_gone}
 
-pub length_slots : {X : Type 0} (held : List X) (w : ℕ) → length (slotsFrom w held) ≡ length held
-unfolding slotsFrom
+pub length_slots : {X : Type 0} (held : List X) (w : ℕ) → length (slots_from w held) ≡ length held
+unfolding slots_from
 length_slots [] w = refl
 length_slots (x ∷ held) w = ap suc (length_slots held (w / 2))
 
@@ -22,18 +22,18 @@ or_one (suc zero) h = refl
 or_one (suc (suc d)) h = absurd (omega arith)
 
 pub put_law : {X : Type 0} (held : List X) (w i : ℕ) (x : X) → i < length held
-    → slotsFrom (bit_or w (2 ^ i)) (set held i x) ≡ set (slotsFrom w held) i (holding x)
-unfolding slotsFrom
+    → slots_from (bit_or w (2 ^ i)) (set held i x) ≡ set (slots_from w held) i (holding x)
+unfolding slots_from
 put_law [] w i x h = absurd (omega arith)
 put_law (y ∷ held) w zero x h =
-    ap₂ (λ (d v : ℕ). slot_of d x ∷ slotsFrom v held)
+    ap₂ (λ (d v : ℕ). slot_of d x ∷ slots_from v held)
     (or_mod w 1 1 ∙ or_one (w % 2) (mod-lt w (zero-lt-suc 1)))
     (or_shr w 1 1 ∙ or_zero_r (w / 2))
 put_law (y ∷ held) w (suc i) x h =
     let e = pow-suc 2 i in
     let even : 2 ^ suc i % 2 ≡ 0 = omega arith in
     let half : 2 ^ suc i / 2 ≡ 2 ^ i = omega arith in
-    ap₂ (λ (d v : ℕ). slot_of d y ∷ slotsFrom v (set held i x))
+    ap₂ (λ (d v : ℕ). slot_of d y ∷ slots_from v (set held i x))
     (or_mod w (2 ^ suc i) 1 ∙ ap (bit_or (w % 2)) even ∙ or_zero_r (w % 2))
     (or_shr w (2 ^ suc i) 1 ∙ ap (bit_or (w / 2)) half)
     ∙ ap (λ (s : List (Slot _)). slot_of (w % 2) y ∷ s) (put_law held (w / 2) i x (omega arith))
@@ -66,8 +66,8 @@ slot_cond x true d = refl
 slot_cond x false d = refl
 
 pub freed_law : {X : Type 0} (goes : ℕ → Bool) (held : List X) (w at : ℕ)
-    → slotsFrom (bit_and w ((2 ^ length held - 1) - word_gone goes at (length held))) held ≡ freed goes at (slotsFrom w held)
-unfolding slotsFrom freed word_gone
+    → slots_from (bit_and w ((2 ^ length held - 1) - word_gone goes at (length held))) held ≡ freed goes at (slots_from w held)
+unfolding slots_from freed word_gone
 freed_law goes [] w at = refl
 freed_law goes (y ∷ held) w at =
     let k = length held in
@@ -77,13 +77,13 @@ freed_law goes (y ∷ held) w at =
     let d = bit-lt (goes at) in
     let odd : ((2 ^ suc k - 1) - (g * 2 + bit (goes at))) % 2 ≡ 1 - bit (goes at) = omega arith in
     let half : ((2 ^ suc k - 1) - (g * 2 + bit (goes at))) / 2 ≡ (2 ^ k - 1) - g = omega arith in
-    ap₂ (λ (d v : ℕ). slot_of d y ∷ slotsFrom v held)
+    ap₂ (λ (d v : ℕ). slot_of d y ∷ slots_from v held)
     (and_mod w ((2 ^ suc k - 1) - (g * 2 + bit (goes at))) 1 ∙ ap (bit_and (w % 2)) odd ∙ cleared (w % 2) (goes at) (mod-lt w (zero-lt-suc 1)))
     (and_shr w ((2 ^ suc k - 1) - (g * 2 + bit (goes at))) 1 ∙ ap (bit_and (w / 2)) half)
     ∙ ap₂ (λ (s : Slot _) (t : List (Slot _)). s ∷ t) (slot_cond y (goes at) (w % 2)) (freed_law goes held (w / 2) (suc at))
 
 -- no bit set: all slots are free
-pub empty_law : {X : Type 0} (held : List X) → slotsFrom 0 held ≡ replicate (length held) free
-unfolding slotsFrom
+pub empty_law : {X : Type 0} (held : List X) → slots_from 0 held ≡ replicate (length held) free
+unfolding slots_from
 empty_law [] = refl
 empty_law (x ∷ held) = ap (λ (t : List (Slot _)). free ∷ t) (empty_law held)

@@ -4,17 +4,17 @@ use Rattle.refusal.specs.Checks.{Check, bare, unless, ◌and_then◌}
 use Rattle.refusal.specs.Answers.{Answer, answer_to, after_check}
 use Rattle.slot_rules.specs.declared.Name.{Name}
 use Rattle.slot_rules.specs.declared.Parent.{Parent}
-use Rattle.slot_rules.specs.Table.{Slot, holding, lowestFree, isLive, freed, count_gone}
+use Rattle.slot_rules.specs.Table.{Slot, holding, lowest_free, is_live, freed, count_gone}
 use Rattle.slot_rules.specs.Parents.{Key, goes_with, parent_live, root_near}
 
 module _ {X : Type 0} where
   -- 46: all slots are taken
   unfoldable pub check46 : List (Slot X) → Check
-  check46 t = unless (ltb (lowestFree t) (length t)) (bare 46)
+  check46 t = unless (ltb (lowest_free t) (length t)) (bare 46)
 
   -- 47: the number is over the last slot's, or that slot is free
   unfoldable pub check47 : List (Slot X) → ℕ → Check
-  check47 t n = unless (isLive t n) (bare 47)
+  check47 t n = unless (is_live t n) (bare 47)
 
 -- 48: the parent is neither none nor a live slot
 unfoldable pub check48 : List (Slot Key) → Parent → Check
@@ -29,10 +29,10 @@ unfoldable pub put_check : List (Slot Key) → Parent → Check
 put_check t p = check48 t p and_then check49 t p and_then check46 t
 
 unfoldable pub put_answer : List (Slot Key) → Parent → Answer
-put_answer t p = answer_to (put_check t p) (lowestFree t)
+put_answer t p = answer_to (put_check t p) (lowest_free t)
 
 unfoldable pub put_table : List (Slot Key) → Name → Parent → List (Slot Key)
-put_table t x p = after_check (put_check t p) (set t (lowestFree t) (holding (record { name = x; parent = p }))) t
+put_table t x p = after_check (put_check t p) (set t (lowest_free t) (holding (record { name = x; parent = p }))) t
 
 -- a drop frees its slot and all that descend from it, and returns how many went
 unfoldable pub drop_answer : List (Slot Key) → ℕ → Answer

@@ -3,7 +3,7 @@ use Rattle.std.specs.Prelude.{ℕ, zero, suc, Bool, true, false, ◌||◌, ◌&&
 use Rattle.slot_rules.specs.declared.Name.{Name}
 use Rattle.slot_rules.specs.declared.Parent.{Parent}
 use Rattle.slot_rules.specs.declared.Parent.TheVariants.{Root, Below}
-use Rattle.slot_rules.specs.Table.{Slot, free, holding, isLive}
+use Rattle.slot_rules.specs.Table.{Slot, free, holding, is_live}
 
 -- what a live slot holds
 pub record Key : Type 0 where
@@ -31,7 +31,7 @@ reaches (suc k) t n x = is_slot n x || reaches k t n (up t x)
 
 -- those that a drop of n takes: the live slots that are n, or from which one to three steps through live ones reach it
 unfoldable pub goes_with : List (Slot Key) → ℕ → ℕ → Bool
-goes_with t n s = isLive t s && reaches 3 t n (Below s)
+goes_with t n s = is_live t s && reaches 3 t n (Below s)
 
 abbrev pub is_none : Parent → Bool
 is_none Root = true
@@ -53,7 +53,7 @@ root_within (suc k) t x = root_at t x || root_within k t (up t x)
 -- whether a parent is none or a live slot, and whether it is none or has a root within two steps
 abbrev pub parent_live : List (Slot Key) → Parent → Bool
 parent_live t Root = true
-parent_live t (Below p) = isLive t p
+parent_live t (Below p) = is_live t p
 
 abbrev pub root_near : List (Slot Key) → Parent → Bool
 root_near t Root = true

@@ -6,7 +6,7 @@ use Rattle.slot_rules.specs.declared.Name.{Name}
 use Rattle.slot_rules.specs.declared.Slots.{Slots}
 use Rattle.slot_rules.specs.declared.Parent.{Parent}
 use Rattle.slot_rules.specs.declared.Parent.TheVariants.{Below}
-use Rattle.slot_rules.specs.Table.{Slot, free, holding, lowestFree, liveCount, isLive, slotsFrom, count_gone}
+use Rattle.slot_rules.specs.Table.{Slot, free, holding, lowest_free, live_slot_count, is_live, slots_from, count_gone}
 use Rattle.slot_rules.specs.Parents.{Key, parent_in, goes_with, root_within, parent_live, root_near}
 use Rattle.slot_rules.specs.Calls.{put_answer, put_table, drop_answer, drop_table}
 use Rattle.slot_rules.specs.Stored.{Fits, table_of, put_stored, drop_stored}
@@ -56,12 +56,12 @@ went t (x ∷ calls) = gone_by t x + went (after t x) calls
 
 -- from the empty table, after any calls: the live slots and all that went are the accepted puts
 abbrev pub LiveCount : Type 0
-LiveCount = (calls : List Call) → liveCount (after_all empty calls) + went empty calls ≡ accepted empty calls
+LiveCount = (calls : List Call) → live_slot_count (after_all empty calls) + went empty calls ≡ accepted empty calls
 
 -- a table in which every live slot's parent is none or live, and a root is reached within three steps
 pub record Sound (t : List (Slot Key)) : Type 0 where
-  pub parents : (s : ℕ) → isLive t s ≡ true → parent_live t (parent_in (get_or t s free)) ≡ true
-  pub roots : (s : ℕ) → isLive t s ≡ true → root_within 3 t (Below s) ≡ true
+  pub parents : (s : ℕ) → is_live t s ≡ true → parent_live t (parent_in (get_or t s free)) ≡ true
+  pub roots : (s : ℕ) → is_live t s ≡ true → root_within 3 t (Below s) ≡ true
 
 -- from the empty table, after any calls
 abbrev pub AlwaysSound : Type 0
@@ -76,8 +76,8 @@ PutRefused =
     × (parent_live t p ≡ false → put_answer t p ≡ refused (bare 48))
     × (put_answer t p ≡ refused (bare 49) → (parent_live t p ≡ true) × (root_near t p ≡ false))
     × (parent_live t p ≡ true → root_near t p ≡ false → put_answer t p ≡ refused (bare 49))
-    × (put_answer t p ≡ refused (bare 46) → (parent_live t p ≡ true) × (root_near t p ≡ true) × (liveCount t ≡ length t))
-    × (parent_live t p ≡ true → root_near t p ≡ true → liveCount t ≡ length t → put_answer t p ≡ refused (bare 46))
+    × (put_answer t p ≡ refused (bare 46) → (parent_live t p ≡ true) × (root_near t p ≡ true) × (live_slot_count t ≡ length t))
+    × (parent_live t p ≡ true → root_near t p ≡ true → live_slot_count t ≡ length t → put_answer t p ≡ refused (bare 46))
 
 -- and it is accepted in every other case, with the number of the lowest free slot
 abbrev pub PutAccepted : Type 0
@@ -85,15 +85,15 @@ PutAccepted =
     (t : List (Slot Key)) (p : Parent)
     → parent_live t p ≡ true
     → root_near t p ≡ true
-    → liveCount t < length t
-    → put_answer t p ≡ returned (lowestFree t)
+    → live_slot_count t < length t
+    → put_answer t p ≡ returned (lowest_free t)
 
 -- the slot that a put takes is free, every lower one is taken, name and parent are kept there, and no other slot changes
 abbrev pub LowestTaken : Type 0
 LowestTaken =
     (t : List (Slot Key)) (p : Parent) (i : ℕ)
     → put_answer t p ≡ returned i
-    → (i < length t) × (isLive t i ≡ false) × ((j : ℕ) → j < i → isLive t j ≡ true)
+    → (i < length t) × (is_live t i ≡ false) × ((j : ℕ) → j < i → is_live t j ≡ true)
 
 abbrev pub PutKept : Type 0
 PutKept =
@@ -102,21 +102,21 @@ PutKept =
     → get_or (put_table t x p) i free ≡ holding (record { name = x; parent = p })
 
 abbrev pub OthersStay : Type 0
-OthersStay = (t : List (Slot Key)) (x : Name) (p : Parent) (j : ℕ) → (j ≡ lowestFree t → ⊥) → get_or (put_table t x p) j free ≡ get_or t j free
+OthersStay = (t : List (Slot Key)) (x : Name) (p : Parent) (j : ℕ) → (j ≡ lowest_free t → ⊥) → get_or (put_table t x p) j free ≡ get_or t j free
 
 -- a drop is refused exactly when there is no such live slot
 abbrev pub NoSuchSlotExactly : Type 0
 NoSuchSlotExactly =
     (t : List (Slot Key)) (n : ℕ)
-    → (drop_answer t n ≡ refused (bare 47) → isLive t n ≡ false) × (isLive t n ≡ false → drop_answer t n ≡ refused (bare 47))
+    → (drop_answer t n ≡ refused (bare 47) → is_live t n ≡ false) × (is_live t n ≡ false → drop_answer t n ≡ refused (bare 47))
 
 -- in every other case it is accepted, and the number that it answers is of slots that were live and are not any more
 abbrev pub DropCounted : Type 0
 DropCounted =
     (t : List (Slot Key)) (n : ℕ)
-    → isLive t n ≡ true
+    → is_live t n ≡ true
     → (drop_answer t n ≡ returned (count_gone (goes_with t n) 0 (length t)))
-    × (liveCount (drop_table t n) + count_gone (goes_with t n) 0 (length t) ≡ liveCount t)
+    × (live_slot_count (drop_table t n) + count_gone (goes_with t n) 0 (length t) ≡ live_slot_count t)
 
 -- a refused call changes nothing
 abbrev pub RefusedStays : Type 0
@@ -129,14 +129,14 @@ RefusedStays =
 abbrev pub DropExactly : Type 0
 DropExactly =
     (t : List (Slot Key)) (n : ℕ)
-    → isLive t n ≡ true
+    → is_live t n ≡ true
     → (goes_with t n n ≡ true)
     × ((s : ℕ) → goes_with t n s ≡ true → get_or (drop_table t n) s free ≡ free)
     × ((s : ℕ) → goes_with t n s ≡ false → get_or (drop_table t n) s free ≡ get_or t s free)
 
 -- a word of zeros is the empty table, whatever stands in the slots
 abbrev pub ZerosAreEmpty : Type 1
-ZerosAreEmpty = (X : Type 0) (held : List X) → length held ≡ 64 → slotsFrom 0 held ≡ empty
+ZerosAreEmpty = (X : Type 0) (held : List X) → length held ≡ 64 → slots_from 0 held ≡ empty
 
 -- what a put stores holds the table after the put, and so with a drop
 abbrev pub StoredIsTable : Type 0

@@ -6,7 +6,7 @@ use Rattle.slot_rules.specs.declared.Name.{Name}
 use Rattle.slot_rules.specs.declared.Slots.{Slots}
 use Rattle.slot_rules.specs.declared.Parent.{Parent}
 use Rattle.slot_rules.specs.declared.Parent.TheVariants.{Root, Below}
-use Rattle.slot_rules.specs.Table.{Slot, slotsFrom, lowestFree, word_gone}
+use Rattle.slot_rules.specs.Table.{Slot, slots_from, lowest_free, word_gone}
 use Rattle.slot_rules.specs.Parents.{Key, goes_with}
 use Rattle.slot_rules.specs.Calls.{check47, put_check}
 
@@ -30,7 +30,7 @@ keys_of (x ∷ names) [] = []
 keys_of (x ∷ names) (p ∷ parents) = record { name = x; parent = parent_of p } ∷ keys_of names parents
 
 abbrev pub table_of : Slots → List (Slot Key)
-table_of s = slotsFrom s.taken (keys_of s.names s.parents)
+table_of s = slots_from s.taken (keys_of s.names s.parents)
 
 -- slot i taken: its bit is set, and name and parent stand in their places
 abbrev pub taking : Slots → ℕ → Name → Parent → Slots
@@ -45,7 +45,7 @@ abbrev pub gone_with : Slots → ℕ → ℕ
 gone_with s n = word_gone (goes_with (table_of s) n) 0 64
 
 unfoldable pub put_stored : Slots → Name → Parent → Slots
-put_stored s x p = after_check (put_check (table_of s) p) (taking s (lowestFree (table_of s)) x p) s
+put_stored s x p = after_check (put_check (table_of s) p) (taking s (lowest_free (table_of s)) x p) s
 
 unfoldable pub drop_stored : Slots → ℕ → Slots
 drop_stored s n = after_check (check47 (table_of s) n) (freeing s (gone_with s n)) s

@@ -9,24 +9,24 @@ pub data Slot (X : Type 0) : Type 0 where
 
 module _ {X : Type 0} where
   -- the number of the lowest free slot; where none is free, the count of all
-  unfoldable pub lowestFree : List (Slot X) → ℕ
-  lowestFree [] = 0
-  lowestFree (free ∷ slots) = 0
-  lowestFree (holding x ∷ slots) = suc (lowestFree slots)
+  unfoldable pub lowest_free : List (Slot X) → ℕ
+  lowest_free [] = 0
+  lowest_free (free ∷ slots) = 0
+  lowest_free (holding x ∷ slots) = suc (lowest_free slots)
 
   -- how many slots are taken
-  unfoldable pub liveCount : List (Slot X) → ℕ
-  liveCount [] = 0
-  liveCount (free ∷ slots) = liveCount slots
-  liveCount (holding x ∷ slots) = suc (liveCount slots)
+  unfoldable pub live_slot_count : List (Slot X) → ℕ
+  live_slot_count [] = 0
+  live_slot_count (free ∷ slots) = live_slot_count slots
+  live_slot_count (holding x ∷ slots) = suc (live_slot_count slots)
 
-  abbrev pub isHolding : Slot X → Bool
-  isHolding free = false
-  isHolding (holding x) = true
+  abbrev pub is_holding : Slot X → Bool
+  is_holding free = false
+  is_holding (holding x) = true
 
   -- whether a number is a live slot's: there is such a slot, and it holds something
-  abbrev pub isLive : List (Slot X) → ℕ → Bool
-  isLive t n = isHolding (get_or t n free)
+  abbrev pub is_live : List (Slot X) → ℕ → Bool
+  is_live t n = is_holding (get_or t n free)
 
   -- a slot by its bit, 1 for taken, and by what stands there, which counts only then
   abbrev pub slot_of : ℕ → X → Slot X
@@ -34,9 +34,9 @@ module _ {X : Type 0} where
   slot_of (suc d) x = holding x
 
   -- the slots of a word of taken ones, and of what stands in each
-  unfoldable pub slotsFrom : ℕ → List X → List (Slot X)
-  slotsFrom taken [] = []
-  slotsFrom taken (x ∷ held) = slot_of (taken % 2) x ∷ slotsFrom (taken / 2) held
+  unfoldable pub slots_from : ℕ → List X → List (Slot X)
+  slots_from taken [] = []
+  slots_from taken (x ∷ held) = slot_of (taken % 2) x ∷ slots_from (taken / 2) held
 
   -- the slots from number `at` on, with those freed that go
   unfoldable pub freed : (ℕ → Bool) → ℕ → List (Slot X) → List (Slot X)

@@ -11,7 +11,7 @@ use lib.Count.{ones, ones_step, count_trailing_zeros, under}
 use lib.Dec.{eqb}
 use lib.ListN.{length, get_or, length-map}
 use lib.Pow.{pow_mono, pow-lt, pow-add, shr-shr, field, mod-mod-pow}
-use Rattle.slot_rules.specs.Table.{Slot, free, slot_of, slotsFrom, lowestFree, liveCount, bit, count_gone, word_gone}
+use Rattle.slot_rules.specs.Table.{Slot, free, slot_of, slots_from, lowest_free, live_slot_count, bit, count_gone, word_gone}
 use Rattle.slot_rules.proofs.Words.{bit-lt, word_lt}
 use Rattle.slots.specs.Internal.{has_bit}
 
@@ -68,34 +68,34 @@ high_tested w i l h = ap (λ (d : ℕ). eqb d 1) (high_bit w i l) ∙ tested w i
 
 -- ---- a table of a word
 
-lowest_step : {X : Type 0} (x : X) (d t : ℕ) (s : List (Slot X)) → d < 2 → t ≡ lowestFree s → under (1 - d) t ≡ lowestFree (slot_of d x ∷ s)
-unfolding lowestFree
+lowest_step : {X : Type 0} (x : X) (d t : ℕ) (s : List (Slot X)) → d < 2 → t ≡ lowest_free s → under (1 - d) t ≡ lowest_free (slot_of d x ∷ s)
+unfolding lowest_free
 lowest_step x zero t s h e = refl
 lowest_step x (suc zero) t s h e = ap suc e
 lowest_step x (suc (suc d)) t s h e = absurd (omega arith)
 
 -- the zeros below the lowest zero bit are the slots below the lowest free one
 pub lowest_law : {X : Type 0} (held : List X) (w : ℕ) → w < 2 ^ length held
-    → count_trailing_zeros (length held) ((2 ^ length held - 1) - w) ≡ lowestFree (slotsFrom w held)
-unfolding count_trailing_zeros slotsFrom lowestFree
+    → count_trailing_zeros (length held) ((2 ^ length held - 1) - w) ≡ lowest_free (slots_from w held)
+unfolding count_trailing_zeros slots_from lowest_free
 lowest_law [] w h = refl
 lowest_law (x ∷ held) w h =
     let k = length held in
     ap₂ under (not_odd k w h) (ap (count_trailing_zeros k) (not_half k w h))
-    ∙ lowest_step x (w % 2) _ (slotsFrom (w / 2) held) (mod-lt w (zero-lt-suc 1)) (lowest_law held (w / 2) (half_lt k w h))
+    ∙ lowest_step x (w % 2) _ (slots_from (w / 2) held) (mod-lt w (zero-lt-suc 1)) (lowest_law held (w / 2) (half_lt k w h))
 
-live_step : {X : Type 0} (x : X) (d t : ℕ) (s : List (Slot X)) → d < 2 → t ≡ liveCount s → d + t ≡ liveCount (slot_of d x ∷ s)
-unfolding liveCount
+live_step : {X : Type 0} (x : X) (d t : ℕ) (s : List (Slot X)) → d < 2 → t ≡ live_slot_count s → d + t ≡ live_slot_count (slot_of d x ∷ s)
+unfolding live_slot_count
 live_step x zero t s h e = omega arith
 live_step x (suc zero) t s h e = omega arith
 live_step x (suc (suc d)) t s h e = absurd (omega arith)
 
 -- the set bits are counted as the live slots are
-pub live_law : {X : Type 0} (held : List X) (w : ℕ) → w < 2 ^ length held → ones w ≡ liveCount (slotsFrom w held)
-unfolding ones slotsFrom liveCount
+pub live_law : {X : Type 0} (held : List X) (w : ℕ) → w < 2 ^ length held → ones w ≡ live_slot_count (slots_from w held)
+unfolding ones slots_from live_slot_count
 live_law [] w h = let e : w ≡ 0 = omega arith in ap ones e
 live_law (x ∷ held) w h =
-    ones_step w ∙ live_step x (w % 2) _ (slotsFrom (w / 2) held) (mod-lt w (zero-lt-suc 1)) (live_law held (w / 2) (half_lt (length held) w h))
+    ones_step w ∙ live_step x (w % 2) _ (slots_from (w / 2) held) (mod-lt w (zero-lt-suc 1)) (live_law held (w / 2) (half_lt (length held) w h))
 
 pub count_law : (goes : ℕ → Bool) (at n : ℕ) → ones (word_gone goes at n) ≡ count_gone goes at n
 unfolding word_gone count_gone ones
@@ -109,8 +109,8 @@ count_law goes at (suc n) =
 
 -- ---- a bit read
 
-pub at_law : {X : Type 0} (held : List X) (w i : ℕ) (d : X) → i < length held → get_or (slotsFrom w held) i free ≡ slot_of (w / 2 ^ i % 2) (get_or held i d)
-unfolding slotsFrom
+pub at_law : {X : Type 0} (held : List X) (w i : ℕ) (d : X) → i < length held → get_or (slots_from w held) i free ≡ slot_of (w / 2 ^ i % 2) (get_or held i d)
+unfolding slots_from
 at_law [] w i d h = absurd (omega arith)
 at_law (y ∷ held) w zero d h =
     let e : w / 1 ≡ w = omega arith in ap (λ (v : ℕ). slot_of (v % 2) y) (sym e)

@@ -14,7 +14,7 @@ use lib.Seq.{get_or-set_same, get_or-set_other}
 use Rattle.slices.proofs.Truth.{and_left}
 use Rattle.slot_rules.specs.declared.Name.{Name}
 use Rattle.slot_rules.specs.declared.Parent.TheVariants.{Root, Below}
-use Rattle.slot_rules.specs.Table.{Slot, free, holding, slot_of, slotsFrom, lowestFree, liveCount, isHolding, isLive}
+use Rattle.slot_rules.specs.Table.{Slot, free, holding, slot_of, slots_from, lowest_free, live_slot_count, is_holding, is_live}
 use Rattle.slot_rules.specs.Parents.{Key, parent_in, up, is_slot, reaches, goes_with, is_none, is_root, root_at, root_within}
 use Rattle.slot_rules.specs.Stored.{parent_of, keys_of}
 use Rattle.slots.specs.Internal.{has_bit, step_from, step_in, reaches_by, root_by, root_within_two_by}
@@ -72,7 +72,7 @@ module _ (w : ℕ) (names : List Name) (parents : List ℕ) (b : w < 2 ^ 64) (l 
   keys = keys_of names parents
 
   unfoldable pub table : List (Slot Key)
-  table = slotsFrom w keys
+  table = slots_from w keys
 
   same : length names ≡ length parents
   same = l ∙ sym m
@@ -84,7 +84,7 @@ module _ (w : ℕ) (names : List Name) (parents : List ℕ) (b : w < 2 ^ 64) (l 
   bound : w < 2 ^ length keys
   bound = rw size b
 
-  pub counted : ones w ≡ liveCount (slotsFrom w (keys_of names parents))
+  pub counted : ones w ≡ live_slot_count (slots_from w (keys_of names parents))
   unfolding keys
   counted = live_law keys w bound
 
@@ -111,10 +111,10 @@ module _ (w : ℕ) (names : List Name) (parents : List ℕ) (b : w < 2 ^ 64) (l 
   slot-of : (s : ℕ) → get_or table s free ≡ cond (has_bit w s) (holding (key s)) free
   slot-of s = slot_is s (dec_lt s 64)
 
-  pub live_of : (s : ℕ) → isLive table s ≡ has_bit w s
-  live_of s = ap isHolding (slot-of s) ∙ go (has_bit w s)
+  pub live_of : (s : ℕ) → is_live table s ≡ has_bit w s
+  live_of s = ap is_holding (slot-of s) ∙ go (has_bit w s)
     where
-      go : (c : Bool) → isHolding (cond c (holding (key s)) free) ≡ c
+      go : (c : Bool) → is_holding (cond c (holding (key s)) free) ≡ c
       go true = refl
       go false = refl
 
@@ -185,7 +185,7 @@ module _ (w : ℕ) (names : List Name) (parents : List ℕ) (b : w < 2 ^ 64) (l 
       let two : up table (up table (Below s)) ≡ parent_of (p (p s)) = ap (up table) one ∙ up_of (p s) in
       ap₂ ◌||◌ (root_below s) (ap₂ ◌||◌ (ap (root_at table) one ∙ root-of (p s)) (ap (root_at table) two ∙ root-of (p (p s))))
 
-  pub lowest : count_trailing_zeros 64 ((2 ^ 64 - 1) - w) ≡ lowestFree table
+  pub lowest : count_trailing_zeros 64 ((2 ^ 64 - 1) - w) ≡ lowest_free table
   unfolding table
   lowest = rw size at (lowest_law keys w bound)
 

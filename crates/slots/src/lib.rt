@@ -4,7 +4,7 @@
 
 ghost use Rattle.std.specs.Prelude.{◌≡◌, ◌<◌};
 ghost use Rattle.refusal.specs.Answers.{checked_as, answer_of};
-ghost use Rattle.slot_rules.specs.Table.{lowestFree, liveCount};
+ghost use Rattle.slot_rules.specs.Table.{lowest_free, live_slot_count};
 ghost use Rattle.slot_rules.specs.Calls.{put_check, put_answer, drop_answer};
 ghost use Rattle.slot_rules.specs.Stored.{table_of, byte_of, put_stored, drop_stored};
 
@@ -26,7 +26,7 @@ pub struct After {
 
 // How many slots are live.
 pub fn live(slots: Slots) -> u32
-    ensures { result ≡ liveCount (table_of slots) }
+    ensures { result ≡ live_slot_count (table_of slots) }
 {
     u64::count_ones(slots.taken)
 }
@@ -35,7 +35,7 @@ pub fn live(slots: Slots) -> u32
 
 // The lowest free slot, 64 where none is free.
 fn lowest_free(slots: Slots) -> u32
-    ensures { result ≡ lowestFree (table_of slots) }
+    ensures { result ≡ lowest_free (table_of slots) }
 {
     u64::trailing_zeros(!slots.taken)
 }

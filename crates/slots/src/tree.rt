@@ -3,7 +3,7 @@
 ghost use Rattle.std.specs.Prelude.{◌≡◌, true, cond};
 ghost use Rattle.refusal.specs.Checks.{◌and_then◌};
 ghost use Rattle.refusal.specs.Answers.{checked_as};
-ghost use Rattle.slot_rules.specs.Table.{bit, isLive, word_gone};
+ghost use Rattle.slot_rules.specs.Table.{bit, is_live, word_gone};
 ghost use Rattle.slot_rules.specs.Calls.{check48, check49};
 ghost use Rattle.slot_rules.specs.Stored.{table_of, gone_with};
 ghost use Rattle.slots.specs.Internal.{step_from, step_in, HasSteps, reaches_by, root_by, root_within_two_by};
@@ -129,7 +129,7 @@ fn reaching(steps: &[u8; 64], n: u64) -> u64
 
 // The word of the slots that go with a live slot. What reaches a live slot is live.
 pub(crate) fn gone(slots: Slots, number: u64) -> u64
-    requires { isLive (table_of slots) number ≡ true }
+    requires { is_live (table_of slots) number ≡ true }
     ensures { result ≡ gone_with slots number }
 {
     let parents = slots.parents;

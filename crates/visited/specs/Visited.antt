@@ -6,7 +6,7 @@ use Rattle.refusal.specs.Answers.{Answer, answer_to, buffer_after}
 use Rattle.labels.specs.FixedLabels.{visited_reauth_label}
 use Rattle.labels.specs.Checks.{check7, check8}
 use Rattle.hmac.specs.Rfc2104.{hmac_sha256}
-use Rattle.prf_plus.specs.PrfPlus.{prfPlus}
+use Rattle.prf_plus.specs.PrfPlus.{prf_plus_of}
 
 -- the text S of a VMSK: server ID then domain, with no length
 unfoldable pub vmsk_text : List ℕ → List ℕ → List ℕ
@@ -18,7 +18,7 @@ vmsk_check vrk server domain room = check1 vrk and_then check7 server and_then c
 
 -- the VMSK: 64 bytes of prf+, with the VRK as K
 unfoldable pub vmsk_key : List ℕ → List ℕ → List ℕ → List ℕ
-vmsk_key vrk server domain = prfPlus hmac_sha256 vrk (vmsk_text server domain) 64
+vmsk_key vrk server domain = prf_plus_of hmac_sha256 vrk (vmsk_text server domain) 64
 
 -- what the call answers: 64, or the first refusal
 unfoldable pub vmsk_answer : List ℕ → List ℕ → List ℕ → ℕ → Answer
@@ -38,7 +38,7 @@ reauth_check vmsk room = check1 vmsk and_then check6 64 room
 
 -- the V-rRK: 64 bytes of prf+, with the VMSK as K
 unfoldable pub reauth_key : List ℕ → List ℕ
-reauth_key vmsk = prfPlus hmac_sha256 vmsk reauth_text 64
+reauth_key vmsk = prf_plus_of hmac_sha256 vmsk reauth_text 64
 
 -- what the call answers: 64, or the first refusal
 unfoldable pub reauth_answer : List ℕ → ℕ → Answer

@@ -16,8 +16,8 @@ word≡ p q r s = λ i. word_of (p i) (q i) (r i) (s i)
 -- ---- sums, and masks, byte by byte
 
 module _ (a b c d e f g h : ℕ) (ha : a < 256) (hb : b < 256) (hc : c < 256) (he : e < 256) (hf : f < 256) (hg : g < 256) where
-  pub xor-word : bit_xor (word_of a b c d) (word_of e f g h) ≡ word_of (bit_xor a e) (bit_xor b f) (bit_xor c g) (bit_xor d h)
-  xor-word =
+  pub xor_word : bit_xor (word_of a b c d) (word_of e f g h) ≡ word_of (bit_xor a e) (bit_xor b f) (bit_xor c g) (bit_xor d h)
+  xor_word =
       xor_block 8 ((d * 256 + c) * 256 + b) ((h * 256 + g) * 256 + f) a e ha he
       ∙ ap (λ (x : ℕ). x * 256 + bit_xor a e)
       (xor_block 8 (d * 256 + c) (h * 256 + g) b f hb hf ∙ ap (λ (x : ℕ). x * 256 + bit_xor b f) (xor_block 8 d h c g hc hg))
@@ -54,8 +54,8 @@ pub word_bytes : (x : ℕ) (w : List ℕ) → column_of x ≡ bytes (λ (y : ℕ
 word_bytes x w e = subst Column e (word-column x)
 
 module _ (a b c d : ℕ) (ha : a < 256) (hb : b < 256) (hc : c < 256) (hd : d < 256) where
-  pub turn-word : turned (word_of a b c d) ≡ word_of b c d a
-  turn-word = omega arith
+  pub turn_word : turned (word_of a b c d) ≡ word_of b c d a
+  turn_word = omega arith
 
   pub column-word : column_of (word_of a b c d) ≡ a ∷ b ∷ c ∷ d ∷ []
   column-word = four (omega arith) (omega arith) (omega arith) (omega arith)

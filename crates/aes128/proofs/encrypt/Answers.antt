@@ -2,7 +2,7 @@
 use mathlib.Core.Path.{◌≡◌, refl}
 use native.Mathlib.Omega.{arith}
 use Rattle.fips197.specs.Cipher.{rounds}
-use Rattle.aes128.proofs.Rounds.{begun_by, round_by, last-round-by, round-step, cipher-end}
+use Rattle.aes128.proofs.Rounds.{begun_by, round_by, last-round_by, round-step, cipher_end}
 use Rattle.aes128.proofs.encrypt.Goals as goal
 
 pub loop-i-init : goal.loop-i-init
@@ -22,8 +22,8 @@ pub returns : goal.returns
 returns c =
     let p = c in
     let e : p.loop-i.i ≡ 9 = omega arith in
-    cipher-end p.args.ks.now p.loop-i.i _ _ _ _
+    cipher_end p.args.ks.now p.loop-i.i _ _ _ _
     (begun_by _ _ _ p.words-t.result p.add_round_key.ensures p.words-t.ensures)
     p.loop-i.invariant.1 e
-    (last-round-by _ p.loop-i.t _ _ c.state-2.ensures _ _ c.shift_rows-2.ensures c.sub_bytes.ensures
+    (last-round_by _ p.loop-i.t _ _ c.state-2.ensures _ _ c.shift_rows-2.ensures c.sub_bytes.ensures
     c.add_round_key-2.ensures)

@@ -66,13 +66,13 @@ at_zero P p zero h = p
 at_zero P p (suc n) h = absurd (omega arith)
 
 module _ (k : State) (i : ℕ) where
-  pub next-step : (c : ℕ) (x u : State) → x ≡ round_key k i → c ≡ rcon i → u ≡ next_key x c → u ≡ round_key k (i + 1)
+  pub next_step : (c : ℕ) (x u : State) → x ≡ round_key k i → c ≡ rcon i → u ≡ next_key x c → u ≡ round_key k (i + 1)
   unfolding round_key
-  next-step c x u p q e = e ∙ ap₂ next_key p q ∙ rw add-one
+  next_step c x u p q e = e ∙ ap₂ next_key p q ∙ rw add-one
 
-  pub constant-step : (c d : ℕ) → c ≡ rcon i → d ≡ xtime c → d ≡ rcon (i + 1)
+  pub constant_step : (c d : ℕ) → c ≡ rcon i → d ≡ xtime c → d ≡ rcon (i + 1)
   unfolding rcon
-  constant-step c d p e = e ∙ ap xtime p ∙ rw add-one
+  constant_step c d p e = e ∙ ap xtime p ∙ rw add-one
 
 pub expanded : (k : State) (ks : List State) → length ks ≡ 11 → ((n : ℕ) → n < 11 → get_or ks n [] ≡ round_key k n) → ks ≡ expand_key k
 unfolding expand_key

@@ -11,7 +11,7 @@ use Rattle.fips197.proofs.Four.{four}
 use Rattle.fips197.proofs.Mix.{by4, one_doubling, premix}
 use Rattle.fips197.proofs.Steps.{xor_byte, xtime_byte}
 use Rattle.aes128.specs.Internal.{word_of, column_of, turned, doubled}
-use Rattle.aes128.proofs.columns.Words.{word≡, xor-word, and_word, turn-word, column-word, word_bytes}
+use Rattle.aes128.proofs.columns.Words.{word≡, xor_word, and_word, turn_word, column-word, word_bytes}
 
 -- ---- a word times a number, and a word shifted by one bit to the left, with a bit a from below
 
@@ -69,13 +69,13 @@ module _ (a b c d : ℕ) (ha : a < 256) (hb : b < 256) (hc : c < 256) (hd : d < 
   unfolding xtime
   double-word =
       ap₂ bit_xor low_bits (ap (λ (x : ℕ). x * 0x1b) high_bits ∙ times_27 (a / 128 % 2) (b / 128 % 2) (c / 128 % 2) (d / 128 % 2))
-      ∙ xor-word (a * 2 % 256) (b * 2 % 256) (c * 2 % 256) (d * 2 % 256) (a / 128 % 2 * 0x1b) (b / 128 % 2 * 0x1b) (c / 128 % 2 * 0x1b) (d / 128 % 2 * 0x1b)
+      ∙ xor_word (a * 2 % 256) (b * 2 % 256) (c * 2 % 256) (d * 2 % 256) (a / 128 % 2 * 0x1b) (b / 128 % 2 * 0x1b) (c / 128 % 2 * 0x1b) (d / 128 % 2 * 0x1b)
       (omega arith) (omega arith) (omega arith) (omega arith) (omega arith) (omega arith)
 
 -- ---- the column mixed as one word
 
 turn_twice : (a b c d : ℕ) → a < 256 → b < 256 → c < 256 → d < 256 → turned (turned (word_of a b c d)) ≡ word_of c d a b
-turn_twice a b c d ha hb hc hd = ap turned (turn-word a b c d ha hb hc hd) ∙ turn-word b c d a hb hc hd ha
+turn_twice a b c d ha hb hc hd = ap turned (turn_word a b c d ha hb hc hd) ∙ turn_word b c d a hb hc hd ha
 
 module _ (a b c d : ℕ) (ha : a < 256) (hb : b < 256) (hc : c < 256) (hd : d < 256) where
   mixed-word : (x t y u v : ℕ) → x ≡ word_of a b c d → t ≡ turned x → y ≡ bit_xor x t → u ≡ doubled y → v ≡ turned (turned y)
@@ -86,13 +86,13 @@ module _ (a b c d : ℕ) (ha : a < 256) (hb : b < 256) (hc : c < 256) (hd : d < 
       let cd = xor_byte hc hd in
       let da = xor_byte hd ha in
       let xt = xtime_byte in
-      let t' : t ≡ word_of b c d a = et ∙ ap turned ex ∙ turn-word a b c d ha hb hc hd in
-      let y' : y ≡ word_of (bit_xor a b) (bit_xor b c) (bit_xor c d) (bit_xor d a) = ey ∙ ap₂ bit_xor ex t' ∙ xor-word a b c d b c d a ha hb hc hb hc hd in
+      let t' : t ≡ word_of b c d a = et ∙ ap turned ex ∙ turn_word a b c d ha hb hc hd in
+      let y' : y ≡ word_of (bit_xor a b) (bit_xor b c) (bit_xor c d) (bit_xor d a) = ey ∙ ap₂ bit_xor ex t' ∙ xor_word a b c d b c d a ha hb hc hb hc hd in
       let u' : u ≡ word_of (xtime (bit_xor a b)) (xtime (bit_xor b c)) (xtime (bit_xor c d)) (xtime (bit_xor d a)) = eu ∙ ap doubled y' ∙ double-word _ _ _ _ ab bc cd da in
       let v' : v ≡ word_of (bit_xor c d) (bit_xor d a) (bit_xor a b) (bit_xor b c) = ev ∙ ap (λ (z : ℕ). turned (turned z)) y' ∙ turn_twice _ _ _ _ ab bc cd da in
       ap column_of
-      (ap₂ bit_xor (ap₂ bit_xor u' t' ∙ xor-word _ _ _ _ b c d a (xt _) (xt _) (xt _) hb hc hd) v'
-      ∙ xor-word _ _ _ _ _ _ _ _ (xor_byte (xt _) hb) (xor_byte (xt _) hc) (xor_byte (xt _) hd) cd da ab)
+      (ap₂ bit_xor (ap₂ bit_xor u' t' ∙ xor_word _ _ _ _ b c d a (xt _) (xt _) (xt _) hb hc hd) v'
+      ∙ xor_word _ _ _ _ _ _ _ _ (xor_byte (xt _) hb) (xor_byte (xt _) hc) (xor_byte (xt _) hd) cd da ab)
       ∙ column-word _ _ _ _ (xor_byte (xor_byte (xt _) hb) cd) (xor_byte (xor_byte (xt _) hc) da) (xor_byte (xor_byte (xt _) hd) ab) (xor_byte (xor_byte (xt _) ha) bc)
       ∙ four (one_doubling a b c d) (one_doubling b c d a) (one_doubling c d a b) (one_doubling d a b c)
 
@@ -107,29 +107,29 @@ module _ (a b c d : ℕ) (ha : a < 256) (hb : b < 256) (hc : c < 256) (hd : d < 
       let xt = xtime_byte in
       let v' : v ≡ word_of c d a b = ev ∙ ap (λ (z : ℕ). turned (turned z)) ex ∙ turn_twice a b c d ha hb hc hd in
       let u' : u ≡ word_of (xtime (bit_xor a c)) (xtime (bit_xor b d)) (xtime (bit_xor c a)) (xtime (bit_xor d b))
-      = eu ∙ ap doubled (ap₂ bit_xor ex v' ∙ xor-word a b c d c d a b ha hb hc hc hd ha) ∙ double-word _ _ _ _ ac bd ca db in
+      = eu ∙ ap doubled (ap₂ bit_xor ex v' ∙ xor_word a b c d c d a b ha hb hc hc hd ha) ∙ double-word _ _ _ _ ac bd ca db in
       let w' : w ≡ word_of (by4 (bit_xor a c)) (by4 (bit_xor b d)) (by4 (bit_xor c a)) (by4 (bit_xor d b))
       = ew ∙ ap doubled u' ∙ double-word _ _ _ _ (xt _) (xt _) (xt _) (xt _) in
       ap (λ (l : List ℕ). each_row mix_byte (get_or l 0 0) (get_or l 1 0) (get_or l 2 0) (get_or l 3 0))
-      (ap column_of (ap₂ bit_xor ex w' ∙ xor-word a b c d _ _ _ _ ha hb hc (xt _) (xt _) (xt _))
+      (ap column_of (ap₂ bit_xor ex w' ∙ xor_word a b c d _ _ _ _ ha hb hc (xt _) (xt _) (xt _))
       ∙ column-word _ _ _ _ (xor_byte ha (xt _)) (xor_byte hb (xt _)) (xor_byte hc (xt _)) (xor_byte hd (xt _)))
       ∙ four (premix a b c d) (premix b c d a) (premix c d a b) (premix d a b c)
 
 -- ---- the same of a column of which the code has the word
 
 module _ (w : List ℕ) (x : ℕ) (ex : x ≡ word_of (get_or w 0 0) (get_or w 1 0) (get_or w 2 0) (get_or w 3 0)) (ec : column_of x ≡ bytes (λ (y : ℕ). y) w) where
-  pub mix-by : (t y u p v : ℕ) (r : List ℕ) → t ≡ turned x → y ≡ bit_xor x t → u ≡ doubled y → p ≡ turned y → v ≡ turned p
+  pub mix_by : (t y u p v : ℕ) (r : List ℕ) → t ≡ turned x → y ≡ bit_xor x t → u ≡ doubled y → p ≡ turned y → v ≡ turned p
       → r ≡ column_of (bit_xor (bit_xor u t) v) → r ≡ mix_column w
   unfolding mix_column
-  mix-by t y u p v r et ey eu ep ev er = er ∙ go (word_bytes x w ec)
+  mix_by t y u p v r et ey eu ep ev er = er ∙ go (word_bytes x w ec)
     where
       go : Column (bytes (λ (y : ℕ). y) w) → column_of (bit_xor (bit_xor u t) v) ≡ mix_column w
       go (column ha hb hc hd) = mixed-word _ _ _ _ ha hb hc hd x t y u v ex et ey eu (ev ∙ ap turned ep)
 
-  pub premix-by : (p v u d : ℕ) (r : List ℕ) → p ≡ turned x → v ≡ turned p → u ≡ doubled (bit_xor x v) → d ≡ doubled u
+  pub premix_by : (p v u d : ℕ) (r : List ℕ) → p ≡ turned x → v ≡ turned p → u ≡ doubled (bit_xor x v) → d ≡ doubled u
       → r ≡ column_of (bit_xor x d) → mix_column r ≡ inv_mix_column w
   unfolding inv_mix_column
-  premix-by p v u d r ep ev eu ed er = ap mix_column er ∙ go (word_bytes x w ec)
+  premix_by p v u d r ep ev eu ed er = ap mix_column er ∙ go (word_bytes x w ec)
     where
       go : Column (bytes (λ (y : ℕ). y) w) → mix_column (column_of (bit_xor x d)) ≡ inv_mix_column w
       go (column ha hb hc hd) = premixed-word _ _ _ _ ha hb hc hd x v u d ex (ev ∙ ap turned ep) eu ed

@@ -4,7 +4,7 @@ use Rattle.refusal.specs.Checks.{pass, ◌and_then◌}
 use Rattle.refusal.proofs.Passing.{before-passed, last-passed}
 use Rattle.bundle_rules.specs.Bundle.{bundle_check}
 use Rattle.bundle_rules.proofs.Reading.{contents}
-use Rattle.bundle_compare.proofs.Comparing.{Told, told_by, Counted, counted_by, counts-few, bytes-long, no_room, compared, refused_early, compare_refused}
+use Rattle.bundle_compare.proofs.Comparing.{Told, told_by, Counted, counted_by, counts_few, bytes_long, no_room, compared, refused_early, compare_refused}
 use Rattle.bundle_compare.proofs.compare_bundles.Goals as goal
 use Rattle.bundle_compare.proofs.compare_bundles.Goals.{After-put_kinds-m, After-count_kind-only_second}
 
@@ -52,13 +52,13 @@ count_kind-only_second-requires c =
     (omega arith, omega arith)
 
 pub overflow_add-size : goal.overflow_add-size
-overflow_add-size c = omega (arith, counts-few _ _ _ _ _ _ _ (counted (goal.at.overflow_add-size c).After-count_kind-only_second))
+overflow_add-size c = omega (arith, counts_few _ _ _ _ _ _ _ (counted (goal.at.overflow_add-size c).After-count_kind-only_second))
 
 pub overflow_add-size-in-Passed : goal.overflow_add-size-in-Passed
-overflow_add-size-in-Passed c = omega (arith, counts-few _ _ _ _ _ _ _ (counted (goal.at.overflow_add-size-in-Passed c).After-count_kind-only_second))
+overflow_add-size-in-Passed c = omega (arith, counts_few _ _ _ _ _ _ _ (counted (goal.at.overflow_add-size-in-Passed c).After-count_kind-only_second))
 
 pub overflow_mul-size : goal.overflow_mul-size
-overflow_mul-size c = omega (arith, counts-few _ _ _ _ _ _ _ (counted (goal.at.overflow_mul-size c).After-count_kind-only_second))
+overflow_mul-size c = omega (arith, counts_few _ _ _ _ _ _ _ (counted (goal.at.overflow_mul-size c).After-count_kind-only_second))
 
 pub returns-then-out-size : goal.returns-then-out-size
 returns-then-out-size c =
@@ -69,14 +69,14 @@ pub put_entries-end-requires : goal.put_entries-end-requires
 put_entries-end-requires c =
     let k = counted (goal.at.put_entries-end-requires c).After-count_kind-only_second in
     let t = k.told in
-    record { file_value = t.first_passes; file_in_bounds = omega arith; file_in_bounds_2 = omega (arith, c.if-out-size.false, bytes-long _ _ _ _ _ _ _ k) }
+    record { file_value = t.first_passes; file_in_bounds = omega arith; file_in_bounds_2 = omega (arith, c.if-out-size.false, bytes_long _ _ _ _ _ _ _ k) }
 
 pub put_entries-requires : goal.put_entries-requires
 put_entries-requires c =
     let k = counted (goal.at.put_entries-requires c).After-count_kind-only_second in
     let t = k.told in
     let e = c.put_entries-end.ensures in
-    let z = bytes-long _ _ _ _ _ _ _ k in
+    let z = bytes_long _ _ _ _ _ _ _ k in
     record { file_value = t.second_passes; file_in_bounds = omega arith; file_in_bounds_2 = omega (arith, c.if-out-size.false, e.end) }
 
 pub returns-in-Failed : goal.returns-in-Failed

@@ -6,7 +6,7 @@ use native.Mathlib.Numerals.{add-one}
 use lib.ListN.{length, drop, set, length-set}
 use lib.Seq.{drop-cons, set_at}
 use Rattle.bundle_compare.specs.Internal.{kinds_to}
-use Rattle.bundle_compare.proofs.Places.{kinds-long}
+use Rattle.bundle_compare.proofs.Places.{kinds_long}
 
 -- the array once the kinds of the first i lines stand in it
 module _ (kind : ℕ → ℕ) where
@@ -22,7 +22,7 @@ module _ (kind : ℕ → ℕ) where
   unfolding kinds_to
   fill_on l₀ l i x h e f =
       let here = drop-cons l₀ i 0 h in
-      let put = set_at (kinds_to kind i) _ (drop (suc i) l₀) (kind i) i (kinds-long kind i) ∙ sym (append_assoc (kinds_to kind i) (kind i ∷ []) (drop (suc i) l₀)) in
+      let put = set_at (kinds_to kind i) _ (drop (suc i) l₀) (kind i) i (kinds_long kind i) ∙ sym (append_assoc (kinds_to kind i) (kind i ∷ []) (drop (suc i) l₀)) in
       record { size = length-set l i x ∙ f.size; kinds = rw (f.kinds, here, e, add-one i) put }
 
   pub fill_end : (l₀ l : List ℕ) (i n : ℕ) → i ≡ n → Filled l₀ l i → l ≡ kinds_to kind n ++ drop n l₀

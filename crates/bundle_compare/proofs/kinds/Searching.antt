@@ -25,22 +25,22 @@ module _ (absent changed : ℕ) (f other : List ℕ) (i : ℕ) {id : List ℕ} {
   at_place : found_at other (place_in (line_at f i).id other) ≡ found_at other place
   at_place = rw (p, o)
 
-  pub kind-absent : n ≤ place → absent ≡ kind_at absent changed f other i
+  pub kind_absent : n ≤ place → absent ≡ kind_at absent changed f other i
   unfolding found_at
-  kind-absent t = rw (at_place, ← q, le-ltb place n t)
+  kind_absent t = rw (at_place, ← q, le-ltb place n t)
 
   kind-found : place < n → cond (same_list (body_of f (line_at f i)) (body_of other (line_at other place))) 0 changed ≡ kind_at absent changed f other i
   unfolding found_at
   kind-found t = rw (at_place, ← q, lt-ltb place n t)
 
   -- where 0 stands for another body too, none has to be compared
-  pub kind-any : place < n → changed ≡ 0 → 0 ≡ kind_at absent changed f other i
-  kind-any t z = go (same_list (body_of f (line_at f i)) (body_of other (line_at other place))) ∙ kind-found t
+  pub kind_any : place < n → changed ≡ 0 → 0 ≡ kind_at absent changed f other i
+  kind_any t z = go (same_list (body_of f (line_at f i)) (body_of other (line_at other place))) ∙ kind-found t
     where
       go : (b : Bool) → 0 ≡ cond b 0 changed
       go true = refl
       go false = sym z
 
-  pub kind-told : {a b : List ℕ} {r t : Bool} → place < n → a ≡ body_of f (line_at f i) → b ≡ body_of other (line_at other place) → r ≡ same_list a b → r ≡ t
+  pub kind_told : {a b : List ℕ} {r t : Bool} → place < n → a ≡ body_of f (line_at f i) → b ≡ body_of other (line_at other place) → r ≡ same_list a b → r ≡ t
       → cond t 0 changed ≡ kind_at absent changed f other i
-  kind-told l x y s e = rw (← e, s, x, y) (kind-found l)
+  kind_told l x y s e = rw (← e, s, x, y) (kind-found l)

@@ -2,7 +2,7 @@ use Rattle.std.proofs.Common.{◌≡◌, ◌+◌, ◌-◌, ◌≤◌, ℕ, List,
 use borrow.Rule.Slice.PartMut.{put_mid}
 use lib.ListN.{set, length-set, length-drop}
 use Rattle.slices.proofs.Copies.{copied_fits}
-use Rattle.slices.proofs.Lists.{rest-drop}
+use Rattle.slices.proofs.Lists.{rest_drop}
 use Rattle.key_frame.proofs.Parts.{part_after}
 use Rattle.compare_rules.specs.Compare.{listed, written}
 use Rattle.bundle_compare.proofs.Entries.{none_put, entry_put, entry_room}
@@ -16,7 +16,7 @@ id_copied : (kind at : ℕ) (id out : List ℕ) {to : List ℕ} → (kind ≡ 0 
 id_copied kind at id out k h e =
     let l : List ℕ = set out at kind in
     let n = length-set out at kind in
-    let r = ap length (rest-drop (at + 1) l) in
+    let r = ap length (rest_drop (at + 1) l) in
     let d = length-drop (at + 1) l in
     entry_put kind at id out _ k h (part_after (at + 1) l id (copied_fits id (take (length l - (at + 1)) (drop (at + 1) l)) (omega arith) e))
 

@@ -79,8 +79,8 @@ module _ (a b : List ℕ) (i : ℕ) {x y : ℕ} (h : i + 4 ≤ length a) (k : i 
       let q : 4 ≤ length (drop i b) = simp length-drop (omega arith) in
       inv ∙ rw (word-drop i a, word-drop i b, ← m.0, ← n.0, drop-drop 4 i a, drop-drop 4 i b) at (first_word (drop i a) (drop i b) p q (bytes_drop i a m.1) (bytes_drop i b n.1))
 
-  pub words-on : x ≡ y → same_list a b ≡ same_list (drop (i + 4) a) (drop (i + 4) b)
-  words-on e = word_next ∙ rw (eq-eqb x y e)
+  pub words_on : x ≡ y → same_list a b ≡ same_list (drop (i + 4) a) (drop (i + 4) b)
+  words_on e = word_next ∙ rw (eq-eqb x y e)
 
   pub words_last : same_list (drop (i + 4) a) (drop (i + 4) b) ≡ true → eqb x y ≡ same_list a b
   words_last e = sym (word_next ∙ rw e (and-true (eqb x y)))

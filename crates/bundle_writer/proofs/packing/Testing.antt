@@ -22,13 +22,13 @@ unfolding packed_check ◌and_then◌
 packed_frames a e = rw e
 
 module _ (a : List ℕ) (n : ℕ) (c : frames_check (packed a) ≡ pass) (q : n ≡ length (packed a)) where
-  pub packed-none-lent : n < 1 → refuse (bare 39) ≡ packed_check a
+  pub packed-none_lent : n < 1 → refuse (bare 39) ≡ packed_check a
   unfolding packed_check unless ◌and_then◌ within
-  packed-none-lent h = rw (c, ← q, lt-leb 1 n h)
+  packed-none_lent h = rw (c, ← q, lt-leb 1 n h)
 
-  pub packed-many : 64 < n → refuse (bare 39) ≡ packed_check a
+  pub packed_many : 64 < n → refuse (bare 39) ≡ packed_check a
   unfolding packed_check unless ◌and_then◌ within
-  packed-many h = rw (c, ← q, lt-leb n 64 h, and-false)
+  packed_many h = rw (c, ← q, lt-leb n 64 h, and-false)
 
   module _ (low : 1 ≤ n) (high : n ≤ 64) where
     pub packed-twice : id_repeats (map key_id_in (packed a)) ≡ true → refuse (bare 42) ≡ packed_check a

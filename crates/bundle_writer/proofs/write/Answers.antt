@@ -3,13 +3,13 @@ use Rattle.std.proofs.Common.{◌≡◌, ◌+◌, length, arith}
 use Rattle.refusal.proofs.Answering.{told_count, told_refusal}
 use Rattle.bundle_rules.specs.Bundle.{contents_end, packed, packed_check}
 use Rattle.bundle_writer.proofs.Parts.{count-length}
-use Rattle.bundle_writer.proofs.Writing.{frames_of, count-high, write_early, write-room, write_refused, write_all}
+use Rattle.bundle_writer.proofs.Writing.{frames_of, count-high, write_early, write_room, write_refused, write_all}
 use Rattle.bundle_writer.proofs.write.Goals as goal
 
 pub returns-then-out-size : goal.returns-then-out-size
 returns-then-out-size c =
     let k = told_count _ _ _ c.in-Accepted.ensures in
-    let r = write_refused _ _ (write-room _ _ _ k.0 k.1 (omega (arith, k.1, count-high _ k.0, c.if-out-size.true, c.lines_length-contents.ensures))) in
+    let r = write_refused _ _ (write_room _ _ _ k.0 k.1 (omega (arith, k.1, count-high _ k.0, c.if-out-size.true, c.lines_length-contents.ensures))) in
     record { answer = r.0; buffer = r.1 }
 
 pub put_lines-requires : goal.put_lines-requires

@@ -53,26 +53,26 @@ r1_begun e = let m = ap (λ (t : List ℕ). set t 59 1) e in (m, ap length m)
 -- z, x and y are what the copies of SPA, AN-ID and AD-ID leave of their parts
 module _ (spa : List ℕ) (ls : length spa ≡ 6) {t z : List ℕ} (et : t ≡ take 20 (head r0_label) ++ drop 20 (replicate 44 0))
     (ez : z ≡ take (length (take 8 (drop 36 (set t 43 1)))) spa ++ drop (length spa) (take 8 (drop 36 (set t 43 1)))) where
-  pub r0-spa : Is ((head r0_label ++ replicate 16 0) ++ (spa ++ tail)) 44 (put_mid 36 8 (set t 43 1) z)
+  pub r0_spa : Is ((head r0_label ++ replicate 16 0) ++ (spa ++ tail)) 44 (put_mid 36 8 (set t 43 1) z)
   unfolding r0_label
-  r0-spa = part_put 8 36 (head r0_label ++ replicate 16 0) (replicate 6 0) (tail) spa (r0_begun et) refl (sym ls) ez
+  r0_spa = part_put 8 36 (head r0_label ++ replicate 16 0) (replicate 6 0) (tail) spa (r0_begun et) refl (sym ls) ez
 
-  pub r0-laid : (ad : List ℕ) {y : List ℕ} → length ad ≡ 16 → y ≡ take (length (take 24 (drop 20 (put_mid 36 8 (set t 43 1) z)))) ad ++ drop (length ad) (take 24 (drop 20 (put_mid 36 8 (set t 43 1) z)))
+  pub r0_laid : (ad : List ℕ) {y : List ℕ} → length ad ≡ 16 → y ≡ take (length (take 24 (drop 20 (put_mid 36 8 (set t 43 1) z)))) ad ++ drop (length ad) (take 24 (drop 20 (put_mid 36 8 (set t 43 1) z)))
       → put_mid 20 24 (put_mid 36 8 (set t 43 1) z) y ≡ r0_input ad spa 1
   unfolding r0_input kdf_input r0_label
-  r0-laid ad la ey = (part_put 24 20 (head r0_label) (replicate 16 0) (spa ++ tail) ad r0-spa refl (sym la) ey).0 ∙ simp append_assoc
+  r0_laid ad la ey = (part_put 24 20 (head r0_label) (replicate 16 0) (spa ++ tail) ad r0_spa refl (sym la) ey).0 ∙ simp append_assoc
 
 module _ (spa : List ℕ) (ls : length spa ≡ 6) {t z : List ℕ} (et : t ≡ take 20 (head r1_label) ++ drop 20 (replicate 60 0))
     (ez : z ≡ take (length (take 8 (drop 52 (set t 59 1)))) spa ++ drop (length spa) (take 8 (drop 52 (set t 59 1)))) where
-  pub r1-spa : Is ((head r1_label ++ (replicate 16 0 ++ replicate 16 0)) ++ (spa ++ tail)) 60 (put_mid 52 8 (set t 59 1) z)
+  pub r1_spa : Is ((head r1_label ++ (replicate 16 0 ++ replicate 16 0)) ++ (spa ++ tail)) 60 (put_mid 52 8 (set t 59 1) z)
   unfolding r1_label
-  r1-spa = part_put 8 52 (head r1_label ++ (replicate 16 0 ++ replicate 16 0)) (replicate 6 0) (tail) spa (r1_begun et) refl (sym ls) ez
+  r1_spa = part_put 8 52 (head r1_label ++ (replicate 16 0 ++ replicate 16 0)) (replicate 6 0) (tail) spa (r1_begun et) refl (sym ls) ez
 
   module _ (an : List ℕ) (ln : length an ≡ 16) {x : List ℕ}
       (ex : x ≡ take (length (take 24 (drop 36 (put_mid 52 8 (set t 59 1) z)))) an ++ drop (length an) (take 24 (drop 36 (put_mid 52 8 (set t 59 1) z)))) where
     pub r1-an : Is ((head r1_label ++ replicate 16 0) ++ (an ++ (spa ++ tail))) 60 (put_mid 36 24 (put_mid 52 8 (set t 59 1) z) x)
     unfolding r1_label
-    r1-an = part_put 24 36 (head r1_label ++ replicate 16 0) (replicate 16 0) (spa ++ tail) an r1-spa refl (sym ln) ex
+    r1-an = part_put 24 36 (head r1_label ++ replicate 16 0) (replicate 16 0) (spa ++ tail) an r1_spa refl (sym ln) ex
 
     pub r1-laid : (ad : List ℕ) {y : List ℕ} → length ad ≡ 16 → y ≡ take (length (take 40 (drop 20 (put_mid 36 24 (put_mid 52 8 (set t 59 1) z) x)))) ad ++ drop (length ad) (take 40 (drop 20 (put_mid 36 24 (put_mid 52 8 (set t 59 1) z) x)))
         → put_mid 20 40 (put_mid 36 24 (put_mid 52 8 (set t 59 1) z) x) y ≡ r1_input ad an spa 1

@@ -1,5 +1,5 @@
 use Rattle.fips180.specs.Sha1.{sha1}
-use Rattle.rfc2104.proofs.Blocks.{key-short, key-long}
+use Rattle.rfc2104.proofs.Blocks.{key_short, key_long}
 use Rattle.hmac_block.proofs.Filling.{filled_short}
 use Rattle.hmac_sha1.proofs.Laws.{digest_short}
 use Rattle.hmac_sha1.proofs.key_block.Goals as goal
@@ -8,9 +8,9 @@ pub returns-then-key-le-BLOCK : goal.returns-then-key-le-BLOCK
 returns-then-key-le-BLOCK c =
     let key = c.args.key.now in
     let short = c.if-key-le-BLOCK.true in
-    key-short sha1 key short (filled_short key short c.filled.ensures)
+    key_short sha1 key short (filled_short key short c.filled.ensures)
 
 pub returns : goal.returns
 returns c =
     let key = c.args.key.now in
-    key-long sha1 key c.if-key-le-BLOCK.false c.digest-short.ensures (filled_short c.digest-short.result (digest_short key c.digest-short.ensures) c.filled-2.ensures)
+    key_long sha1 key c.if-key-le-BLOCK.false c.digest-short.ensures (filled_short c.digest-short.result (digest_short key c.digest-short.ensures) c.filled-2.ensures)

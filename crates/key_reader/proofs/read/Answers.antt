@@ -3,7 +3,7 @@
 use mathlib.Core.Path.{sym}
 use native.Mathlib.Omega.{arith}
 use Rattle.refusal.proofs.Passing.{joined}
-use Rattle.key_reader.proofs.Reading.{ready, refused_early, refused-late, read_so}
+use Rattle.key_reader.proofs.Reading.{ready, refused_early, refused_late, read_so}
 use Rattle.key_reader.proofs.read.Goals as goal
 
 pub slice_bounds-unwrap-count : goal.slice_bounds-unwrap-count
@@ -32,7 +32,7 @@ pub returns-in-Refused : goal.returns-in-Refused
 returns-in-Refused c =
     let x = c.args in
     let r = ready _ _ (sym (joined c.in-Passed.ensures c.unless-c22.ensures c.check_frame.ensures)) in
-    let h = refused-late x.kek.now x.attribute.now x.out.now _ r c.sixteen.ensures c.unwrap-answer.ensures.answer c.unwrap-answer.ensures.buffer c.in-Refused.is c.not_read-in-Refused.ensures.0 c.not_read-in-Refused.ensures.1 in
+    let h = refused_late x.kek.now x.attribute.now x.out.now _ r c.sixteen.ensures c.unwrap-answer.ensures.answer c.unwrap-answer.ensures.buffer c.in-Refused.is c.not_read-in-Refused.ensures.0 c.not_read-in-Refused.ensures.1 in
     record { answer = h.0; fields = h.1.0; buffer = h.1.1 }
 
 pub returns-in-Accepted : goal.returns-in-Accepted

@@ -43,10 +43,10 @@ put_together a r = get_or a 0 [] ∷ get_or a 1 [] ∷ get_or r 0 [] ∷ get_or 
 
 module _ (ks : List State) (t : ℕ) (a r : State) (b : List ℕ) (er : high r ≡ b) (s : State) (z : List ℕ)
     (ez : z ≡ bytes (λ (x : ℕ). x) (get_or s 2 []) ++ bytes (λ (x : ℕ). x) (get_or s 3 [])) where
-  pub wrap-block-is : s ≡ counted t (cipher ks (put_together a r))
+  pub wrap_block_is : s ≡ counted t (cipher ks (put_together a r))
       → (high (get_or s 0 [] ∷ get_or s 1 [] ∷ []) ≡ add_count t (high (cipher ks (joined (high a) b)))) × (z ≡ low (cipher ks (joined (high a) b)))
   unfolding add_count
-  wrap-block-is es =
+  wrap_block_is es =
       let q : s ≡ counted t (cipher ks (joined (high a) b))
       = es ∙ ap (counted t) (by_bytes ks (put_together a r) ∙ ap (λ (m : List ℕ). cipher ks (joined (high a) m)) er) in
       (ap high q, ez ∙ ap low q)
@@ -65,19 +65,19 @@ module _ (E : State → State) (x0 : Registers) where
       ∙ ap (wrap_step E (c + suc i) i) p
       ∙ ap (λ (n : ℕ). wrap_pass E c n x0) (sym (add-one i))
 
-  pub passes-more : (n j c : ℕ) (x b y z : List ℕ) → c ≡ n * j → ◌≡◌ {A = Registers} (x, b) (wrap_passes E n j x0)
+  pub passes_more : (n j c : ℕ) (x b y z : List ℕ) → c ≡ n * j → ◌≡◌ {A = Registers} (x, b) (wrap_passes E n j x0)
       → y ≡ (wrap_pass E c n (x, b)).0 → z ≡ (wrap_pass E c n (x, b)).1 → ◌≡◌ {A = Registers} (y, z) (wrap_passes E n (j + 1) x0)
   unfolding wrap_passes
-  passes-more n j c x b y z e p q r =
+  passes_more n j c x b y z e p q r =
       registers≡ q r ∙ ap₂ (λ (m : ℕ) (w : Registers). wrap_pass E m n w) e p ∙ ap (λ (m : ℕ). wrap_passes E n m x0) (sym (add-one j))
 
 module _ (D : State → State) where
-  pub unpass-less : (c i at k : ℕ) (x b y z : List ℕ) → 0 < i → at ≡ (i - 1) * 8 → k ≡ 8
+  pub unpass_less : (c i at k : ℕ) (x b y z : List ℕ) → 0 < i → at ≡ (i - 1) * 8 → k ≡ 8
       → y ≡ high (D (joined (add_count (c + i) x) (mid_of at k b))) → z ≡ low (D (joined (add_count (c + i) x) (mid_of at k b)))
       → unwrap_pass D c (i - 1) (y, put_mid at k b z) ≡ unwrap_pass D c i (x, b)
   unfolding unwrap_pass unwrap_step
-  unpass-less c zero at k x b y z h ea ek q r = absurd (omega arith)
-  unpass-less c (suc i) at k x b y z h ea ek q r =
+  unpass_less c zero at k x b y z h ea ek q r = absurd (omega arith)
+  unpass_less c (suc i) at k x b y z h ea ek q r =
       let f : at ≡ i * 8 = ea ∙ ap (λ (n : ℕ). n * 8) (sub-one (suc i)) in
       let e : mid_of at k b ≡ block_at i b = ap₂ (λ (m n : ℕ). take m (drop n b)) ek f in
       ap (λ (n : ℕ). unwrap_pass D c n (y, put_mid at k b z)) (sub-one (suc i))
@@ -85,11 +85,11 @@ module _ (D : State → State) where
       (registers≡ (q ∙ ap (λ (m : List ℕ). high (D (joined (add_count (c + suc i) x) m))) e)
       (ap₂ (λ (m n : ℕ). put_mid m n b z) f ek ∙ ap (λ (s : List ℕ). with_block i s b) (r ∙ ap (λ (m : List ℕ). low (D (joined (add_count (c + suc i) x) m))) e)))
 
-  pub unpasses-less : (n j c : ℕ) (x b y z : List ℕ) → 0 < j → c ≡ n * (j - 1) → y ≡ (unwrap_pass D c n (x, b)).0 → z ≡ (unwrap_pass D c n (x, b)).1
+  pub unpasses_less : (n j c : ℕ) (x b y z : List ℕ) → 0 < j → c ≡ n * (j - 1) → y ≡ (unwrap_pass D c n (x, b)).0 → z ≡ (unwrap_pass D c n (x, b)).1
       → unwrap_passes D n (j - 1) (y, z) ≡ unwrap_passes D n j (x, b)
   unfolding unwrap_passes
-  unpasses-less n zero c x b y z h e q r = absurd (omega arith)
-  unpasses-less n (suc j) c x b y z h e q r =
+  unpasses_less n zero c x b y z h e q r = absurd (omega arith)
+  unpasses_less n (suc j) c x b y z h e q r =
       ap (λ (m : ℕ). unwrap_passes D n m (y, z)) (sub-one (suc j))
       ∙ ap (unwrap_passes D n j) (registers≡ q r ∙ ap (λ (m : ℕ). unwrap_pass D m n (x, b)) (e ∙ ap (λ (m : ℕ). n * m) (sub-one (suc j))))
 
@@ -111,10 +111,10 @@ module _ (kek : List ℕ) (st : State) (ks : List State) (est : st ≡ key_state
   unfolding round_keys
   keys-are = eks ∙ ap expand_key est
 
-  pub passes-forward : r ≡ (wrap_passes (cipher ks) (length b / 8) 6 (a, b)).0 → z ≡ (wrap_passes (cipher ks) (length b / 8) 6 (a, b)).1
+  pub passes_forward : r ≡ (wrap_passes (cipher ks) (length b / 8) 6 (a, b)).0 → z ≡ (wrap_passes (cipher ks) (length b / 8) 6 (a, b)).1
       → (back : Bool) → back ≡ false → (r ≡ (passes_of back kek (a, b)).0) × (z ≡ (passes_of back kek (a, b)).1)
-  passes-forward p q true e = let n : ◌≡◌ {A = ℕ} 0 1 = cc in absurd (omega arith)
-  passes-forward p q false e = (
+  passes_forward p q true e = let n : ◌≡◌ {A = ℕ} 0 1 = cc in absurd (omega arith)
+  passes_forward p q false e = (
     p ∙ ap (λ (k : List State). (wrap_passes (cipher k) (length b / 8) 6 (a, b)).0) keys-are,
     q ∙ ap (λ (k : List State). (wrap_passes (cipher k) (length b / 8) 6 (a, b)).1) keys-are,
   )

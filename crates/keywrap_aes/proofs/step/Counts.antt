@@ -34,9 +34,9 @@ unfolding eq_inv_cipher add_round_key
 by_bytes ks s = refl
 
 module _ (ks : List State) (t : ℕ) (h : t < 256) where
-  pub wrap-by : (s b r : State) → b ≡ cipher ks s → r ≡ count_added t b → r ≡ counted t (cipher ks s)
+  pub wrap_by : (s b r : State) → b ≡ cipher ks s → r ≡ count_added t b → r ≡ counted t (cipher ks s)
   unfolding cipher last_round add_round_key
-  wrap-by s b r eb er = er ∙ ap (count_added t) eb ∙ count-bytes t h (cipher ks s)
+  wrap_by s b r eb er = er ∙ ap (count_added t) eb ∙ count-bytes t h (cipher ks s)
 
-  pub unwrap-by : (s a r : State) → a ≡ count_added t s → r ≡ eq_inv_cipher ks a → r ≡ eq_inv_cipher ks (counted t s)
-  unwrap-by s a r ea er = er ∙ ap (eq_inv_cipher ks) ea ∙ by_bytes ks (count_added t s) ∙ ap (eq_inv_cipher ks) (count-bytes t h s)
+  pub unwrap_by : (s a r : State) → a ≡ count_added t s → r ≡ eq_inv_cipher ks a → r ≡ eq_inv_cipher ks (counted t s)
+  unwrap_by s a r ea er = er ∙ ap (eq_inv_cipher ks) ea ∙ by_bytes ks (count_added t s) ∙ ap (eq_inv_cipher ks) (count-bytes t h s)

@@ -12,7 +12,7 @@ use Rattle.refusal.specs.Answers.{buffer_after}
 use Rattle.refusal.proofs.Passing.{before-passed, last-passed, test_passed}
 use Rattle.slices.specs.Same.{same_list}
 use Rattle.slices.proofs.Copies.{copied_fits}
-use Rattle.slices.proofs.Lists.{copied-front}
+use Rattle.slices.proofs.Lists.{copied_front}
 use Rattle.rfc3394.specs.Rfc3394.{initial_value, Registers, unwrap_registers, unwrapped_iv, unwrapped_key}
 use Rattle.rfc3394.proofs.Steps.{registers≡}
 use Rattle.keywrap_aes.specs.Internal.{passes_of}
@@ -69,8 +69,8 @@ lent n bytes l e long short room = let t = length-take-le n l room in (long, ome
 
 -- the first n bytes of the scratch, which are the key z, are copied
 module _ (n : ℕ) (z d : List ℕ) (h : length z ≡ n) where
-  pub in-scratch : n ≤ length (z ++ d)
-  in-scratch = simp length-append (omega arith)
+  pub in_scratch : n ≤ length (z ++ d)
+  in_scratch = simp length-append (omega arith)
 
   pub key-counted : n ≡ length (take n (z ++ d))
   key-counted = sym (ap length (take_at z d n h) ∙ h)
@@ -79,6 +79,6 @@ module _ (n : ℕ) (z d : List ℕ) (h : length z ≡ n) where
       → f ≡ take (length out) (take n (z ++ d)) ++ drop (length (take n (z ++ d))) out → z ≡ v → n ≡ m → pass ≡ k → f ≡ buffer_after k m v out
   released m f v out k room ef q e p =
       let fits : length (take n (z ++ d)) ≤ length out = omega (arith, key-counted) in
-      copied-front (take n (z ++ d)) out (copied_fits (take n (z ++ d)) out fits ef)
+      copied_front (take n (z ++ d)) out (copied_fits (take n (z ++ d)) out fits ef)
       ∙ ap₂ (λ (l : List ℕ) (i : ℕ). l ++ drop i out) (take_at z d n h ∙ q) (sym key-counted ∙ e)
       ∙ ap (λ (x : Check). buffer_after x m v out) p

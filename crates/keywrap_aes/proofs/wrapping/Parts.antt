@@ -50,13 +50,13 @@ module _ (kek key out : List ℕ) (k : ℕ) (z : List ℕ) (room : length key + 
   key-there : mid_of 8 k (put_mid 8 k out z) ≡ key
   key-there = ap (take k) placed ∙ take_at z (drop k (drop 8 out)) k z-length ∙ ez
 
-  pub wrapped-in-place : (a r f : List ℕ) → length a ≡ 8
+  pub wrapped_in_place : (a r f : List ℕ) → length a ≡ 8
       → a ≡ (passes_of false kek (initial_value, mid_of 8 k (put_mid 8 k out z))).0
       → r ≡ (passes_of false kek (initial_value, mid_of 8 k (put_mid 8 k out z))).1
       → f ≡ take (length (put_mid 8 k (put_mid 8 k out z) r)) a ++ drop (length a) (put_mid 8 k (put_mid 8 k out z) r)
       → f ≡ wrapped kek key ++ drop (length key + 8) out
   unfolding wrapped wrap_registers
-  wrapped-in-place a r f la ea er ef =
+  wrapped_in_place a r f la ea er ef =
       let w : List ℕ = put_mid 8 k out z in
       let l : 8 ≤ length w = rw (same_len_mid 8 k out z (z-length ∙ sym (length-take-le k (drop 8 out) (simp length-drop (omega arith))))) (omega arith) in
       let e8 : 8 + k ≡ length key + 8 = omega arith in

@@ -4,7 +4,7 @@ use native.Mathlib.Omega.{arith}
 use lib.Seq.{length-take-le}
 use Rattle.offer_rules.specs.Negotiation.{negotiated, negotiated_buffer}
 use Rattle.offer_rules.proofs.Rounds.{wrote_fits}
-use Rattle.offer_exchange.proofs.Steps.{unasked, server-refused, server-wrote}
+use Rattle.offer_exchange.proofs.Steps.{unasked, server_refused, server_wrote}
 use Rattle.offer_exchange.proofs.negotiate.Goals as goal
 
 pub returns-in_default : goal.returns-in_default
@@ -28,10 +28,10 @@ slice_bounds-recheck-end-in-Accepted c =
 
 pub returns-in-Refused : goal.returns-in-Refused
 returns-in-Refused c =
-    let s = server-refused c.args.offered.now c.args.supported.now c.args.renewed.now _ _ _ (sym c.in-Ask.ensures) c.answer.ensures.buffer (sym c.in-Refused.ensures.answer) in
+    let s = server_refused c.args.offered.now c.args.supported.now c.args.renewed.now _ _ _ (sym c.in-Ask.ensures) c.answer.ensures.buffer (sym c.in-Refused.ensures.answer) in
     record { answer = s.0; buffer = s.1 }
 
 pub returns-in-Accepted : goal.returns-in-Accepted
 returns-in-Accepted c =
-    let s = server-wrote c.args.offered.now c.args.supported.now c.args.renewed.now _ _ _ (sym c.in-Ask.ensures) c.answer.ensures.buffer (sym c.in-Accepted.ensures.answer) in
+    let s = server_wrote c.args.offered.now c.args.supported.now c.args.renewed.now _ _ _ (sym c.in-Ask.ensures) c.answer.ensures.buffer (sym c.in-Accepted.ensures.answer) in
     record { answer = c.recheck.ensures ∙ s.0; buffer = s.1 }

@@ -10,36 +10,36 @@ use borrow.Author.Tests.{eq-eqb, ne_eqb}
 use lib.Dec.{eqb}
 use lib.ListN.{length, get_or, take, drop, drop_of_length-le}
 use lib.Seq.{drop-cons}
-use Rattle.slices.proofs.Lists.{rest-drop}
+use Rattle.slices.proofs.Lists.{rest_drop}
 use Rattle.refusal.specs.Checks.{Reason, Check, pass, refuse, ◌and_then◌}
 use Rattle.refusal.proofs.Passing.{within_low, before-passed, test_passed, first_refuses, second_decides, then_assoc}
 use Rattle.offer_rules.specs.Rfc5448.{stands, repeats, is_first, check10, check11}
 
 module _ (value : ℕ) (s : List ℕ) (i : ℕ) (inv : stands value s ≡ stands value (drop i s)) where
-  pub stands-hit : i < length s → get_or s i 0 ≡ value → true ≡ stands value s
+  pub stands_hit : i < length s → get_or s i 0 ≡ value → true ≡ stands value s
   unfolding stands
-  stands-hit h e = sym (inv ∙ rw (drop-cons s i 0, eq-eqb _ _ e))
+  stands_hit h e = sym (inv ∙ rw (drop-cons s i 0, eq-eqb _ _ e))
 
-  pub stands-miss : i < length s → (get_or s i 0 ≡ value → ⊥) → stands value s ≡ stands value (drop (i + 1) s)
+  pub stands_miss : i < length s → (get_or s i 0 ≡ value → ⊥) → stands value s ≡ stands value (drop (i + 1) s)
   unfolding stands
-  stands-miss h e = inv ∙ rw (add-one, drop-cons s i 0, ne_eqb _ _ e)
+  stands_miss h e = inv ∙ rw (add-one, drop-cons s i 0, ne_eqb _ _ e)
 
-  pub stands-done : length s ≤ i → false ≡ stands value s
+  pub stands_done : length s ≤ i → false ≡ stands value s
   unfolding stands
-  stands-done h = sym (inv ∙ rw drop_of_length-le)
+  stands_done h = sym (inv ∙ rw drop_of_length-le)
 
 module _ (s : List ℕ) (i : ℕ) (inv : repeats s ≡ repeats (drop i s)) where
-  pub repeats-hit : i < length s → stands (get_or s i 0) (take (length s - (i + 1)) (drop (i + 1) s)) ≡ true → true ≡ repeats s
+  pub repeats_hit : i < length s → stands (get_or s i 0) (take (length s - (i + 1)) (drop (i + 1) s)) ≡ true → true ≡ repeats s
   unfolding repeats
-  repeats-hit h e = sym (inv ∙ rw (drop-cons s i 0, rw (rest-drop, add-one) at e))
+  repeats_hit h e = sym (inv ∙ rw (drop-cons s i 0, rw (rest_drop, add-one) at e))
 
-  pub repeats-miss : i < length s → stands (get_or s i 0) (take (length s - (i + 1)) (drop (i + 1) s)) ≡ false → repeats s ≡ repeats (drop (i + 1) s)
+  pub repeats_miss : i < length s → stands (get_or s i 0) (take (length s - (i + 1)) (drop (i + 1) s)) ≡ false → repeats s ≡ repeats (drop (i + 1) s)
   unfolding repeats
-  repeats-miss h e = inv ∙ rw (add-one, drop-cons s i 0, rw (rest-drop, add-one) at e)
+  repeats_miss h e = inv ∙ rw (add-one, drop-cons s i 0, rw (rest_drop, add-one) at e)
 
-  pub repeats-done : length s ≤ i → false ≡ repeats s
+  pub repeats_done : length s ≤ i → false ≡ repeats s
   unfolding repeats
-  repeats-done h = sym (inv ∙ rw drop_of_length-le)
+  repeats_done h = sym (inv ∙ rw drop_of_length-le)
 
 -- the first element of a list that has one decides
 pub first_head : (value : ℕ) (s : List ℕ) → 1 ≤ length s → eqb (get_or s 0 0) value ≡ is_first value s

@@ -9,28 +9,28 @@ use borrow.Author.Tests.{eq-eqb, ne_eqb}
 use lib.ListN.{length, get_or, take, drop, drop_of_length-le}
 use lib.Seq.{drop-cons}
 use Rattle.slices.specs.Same.{same_list}
-use Rattle.slices.proofs.Lists.{rest-drop}
+use Rattle.slices.proofs.Lists.{rest_drop}
 use Rattle.refusal.specs.Checks.{Reason, bare, Check, pass, refuse, unless, ◌and_then◌}
 use Rattle.refusal.proofs.Passing.{first_refuses, second_decides, both_pass, test_holds}
 use Rattle.offer_rules.specs.Rfc5448.{stands, first_supported, renewed_list, check10, check11, check13, check14, check15, renewed_check}
 use Rattle.offer_rules.specs.Answers.{RenewedAnswer, accepted, renewed_to, renewed_answer}
 
 module _ (s supported : List ℕ) (i : ℕ) (inv : first_supported s supported ≡ i + first_supported (drop i s) supported) where
-  pub supported-hit : i < length s → stands (get_or s i 0) supported ≡ true → i ≡ first_supported s supported
+  pub supported_hit : i < length s → stands (get_or s i 0) supported ≡ true → i ≡ first_supported s supported
   unfolding first_supported
-  supported-hit h e =
+  supported_hit h e =
       let here : first_supported (drop i s) supported ≡ 0 = rw (drop-cons s i 0, e) in
       omega arith
 
-  pub supported-miss : i < length s → stands (get_or s i 0) supported ≡ false → first_supported s supported ≡ i + 1 + first_supported (drop (i + 1) s) supported
+  pub supported_miss : i < length s → stands (get_or s i 0) supported ≡ false → first_supported s supported ≡ i + 1 + first_supported (drop (i + 1) s) supported
   unfolding first_supported
-  supported-miss h e =
+  supported_miss h e =
       let later : first_supported (drop i s) supported ≡ suc (first_supported (drop (i + 1) s) supported) = rw (add-one, drop-cons s i 0, e) in
       omega arith
 
-  pub supported-done : length s ≤ i → i ≡ first_supported s supported
+  pub supported_done : length s ≤ i → i ≡ first_supported s supported
   unfolding first_supported
-  supported-done h =
+  supported_done h =
       let done : first_supported (drop i s) supported ≡ 0 = rw drop_of_length-le in
       omega arith
 
@@ -49,20 +49,20 @@ pub same_choice : (original : List ℕ) (choice : ℕ) (renewed : List ℕ) → 
     → same_list (take (length renewed - 1) (drop 1 renewed)) original ≡ same_list renewed (renewed_list original choice)
 unfolding same_list
 same_choice original choice [] some e = elim (some refl) [ ]
-same_choice original choice (x ∷ renewed) some e = rw (rest-drop 1 (x ∷ renewed), eq-eqb x choice e)
+same_choice original choice (x ∷ renewed) some e = rw (rest_drop 1 (x ∷ renewed), eq-eqb x choice e)
 
 -- the answer to a renewed list: by the tests of the reply, and where they pass by whether the list is the choice followed by the original
 module _ (original : List ℕ) (choice : ℕ) (renewed : List ℕ) where
   abbrev replied : Check
   replied = check10 original and_then check11 original and_then check13 original choice and_then check14 original choice
 
-  pub reply-refused : {x : Reason} → replied ≡ refuse x → RenewedAnswer.refused x ≡ renewed_answer original choice renewed
+  pub reply_refused : {x : Reason} → replied ≡ refuse x → RenewedAnswer.refused x ≡ renewed_answer original choice renewed
   unfolding renewed_answer renewed_check
-  reply-refused e = ap (λ (c : Check). renewed_to c choice) (first_refuses replied (check15 original choice renewed) e)
+  reply_refused e = ap (λ (c : Check). renewed_to c choice) (first_refuses replied (check15 original choice renewed) e)
 
-  pub renewed-so : replied ≡ pass → same_list renewed (renewed_list original choice) ≡ true → accepted choice ≡ renewed_answer original choice renewed
+  pub renewed_so : replied ≡ pass → same_list renewed (renewed_list original choice) ≡ true → accepted choice ≡ renewed_answer original choice renewed
   unfolding renewed_answer renewed_check
-  renewed-so e h = ap (λ (c : Check). renewed_to c choice) (sym (both_pass replied (check15 original choice renewed) e (test_holds _ _ h)))
+  renewed_so e h = ap (λ (c : Check). renewed_to c choice) (sym (both_pass replied (check15 original choice renewed) e (test_holds _ _ h)))
 
   pub altered : replied ≡ pass → same_list renewed (renewed_list original choice) ≡ false → RenewedAnswer.refused (bare 15) ≡ renewed_answer original choice renewed
   unfolding renewed_answer renewed_check unless

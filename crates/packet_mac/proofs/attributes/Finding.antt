@@ -117,9 +117,9 @@ module _ (type : ℕ) (p : List ℕ) (at count first : ℕ) (w : WalkedTo type p
   unfolding places_from all_whole
   walk_ends h = let none = none_left p at h in told (ap (places_from type at) none) (ap all_whole none)
 
-  pub walk-stops : at < length p → size_in (drop at p) ≡ 0 → record { whole = false; count = count; at = first } ≡ found_in type p
+  pub walk_stops : at < length p → size_in (drop at p) ≡ 0 → record { whole = false; count = count; at = first } ≡ found_in type p
   unfolding places_from of_type all_whole
-  walk-stops h e =
+  walk_stops h e =
       let d = length-drop at p in
       let c = zero_cut (drop at p) e in
       let alone = cut_alone (drop at p) (omega arith) c in

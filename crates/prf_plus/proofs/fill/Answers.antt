@@ -1,12 +1,12 @@
--- `prf_plus::fill` meets its contract: a turn writes as much of the next block as there is room for (proofs/Steps.antt, `next-out`).
+-- `prf_plus::fill` meets its contract: a turn writes as much of the next block as there is room for (proofs/Steps.antt, `next_out`).
 use Rattle.std.proofs.Common.{◌≡◌, ℕ, ◌+◌, ◌-◌, ◌*◌, ◌/◌, ◌<◌, ◌≤◌, ◌++◌, List, min, length, take, drop, ap, ◌∙◌, le_refl, arith, length-take, length-drop}
 use Rattle.std.proofs.Math.Seq.{length-paste}
 use Rattle.hmac.specs.Rfc2104.{hmac_sha256}
 use Rattle.hmac.proofs.Laws.{hmac_sha256-length}
-use Rattle.prf_plus.specs.PrfPlus.{prfPlus, block_count}
+use Rattle.prf_plus.specs.PrfPlus.{prf_plus_of, block_count}
 use Rattle.slices.proofs.Copies.{copied_part, copied_fits}
 use Rattle.prf_plus.proofs.Parts.{mac_of_input, next_under_key}
-use Rattle.prf_plus.proofs.Steps.{next-out}
+use Rattle.prf_plus.proofs.Steps.{next_out}
 use Rattle.prf_plus.proofs.fill.Goals as goal
 
 pub loop-at-preserved : goal.loop-at-preserved
@@ -35,11 +35,11 @@ loop-at-preserved c =
       done = omega arith;
       needed = omega arith;
       same = ap length copied ∙ length-paste l.out l.at (take m t) (length (take m t)) within (le_refl (length (take m t))) ∙ same;
-      written = next-out hmac_sha256 hmac_sha256-length key text s.out.now l.out _ t l.i m l.at full (omega arith) l.invariant.written b copied;
+      written = next_out hmac_sha256 hmac_sha256-length key text s.out.now l.out _ t l.i m l.at full (omega arith) l.invariant.written b copied;
     }
 
 pub returns : goal.returns
-unfolding prfPlus block_count
+unfolding prf_plus_of block_count
 returns c =
     let l = c.loop-at in
     let s = c.args in

@@ -1,7 +1,7 @@
 -- `sha1_block::compress_blocks` meets its contract: after k turns, the hash value after k blocks.
 use Rattle.std.proofs.Common.{refl}
 use Rattle.fips180.specs.Hash.{blocks_by}
-use Rattle.fips180.proofs.Blocks.{blocks-turn}
+use Rattle.fips180.proofs.Blocks.{blocks_turn}
 use Rattle.fips180.specs.Sha1.{compress}
 use Rattle.sha1_block.proofs.compress_blocks.Goals as goal
 
@@ -10,4 +10,4 @@ unfolding blocks_by
 loop-k-init c = refl
 
 pub loop-k-preserved : goal.loop-k-preserved
-loop-k-preserved c = blocks-turn compress c.loop-k.k c.args.h c.args.message.now c.loop-k.invariant c.compress-next.ensures
+loop-k-preserved c = blocks_turn compress c.loop-k.k c.args.h c.args.message.now c.loop-k.invariant c.compress-next.ensures

@@ -9,15 +9,15 @@ use Rattle.fips180.proofs.Rotations.{left_lt, left_xor, left_and}
 use Rattle.sha1_block.specs.Internal.{variables}
 
 module _ (x y z : ℕ) (hx : x < 2 ^ 32) (hy : y < 2 ^ 32) (hz : z < 2 ^ 32) where
-  pub rotated-ch : {p q : ℕ} → p ≡ ROTL 30 z → q ≡ ROTL 30 (bit_xor y z) → bit_xor p (bit_and x q) ≡ Ch x (ROTL 30 y) (ROTL 30 z)
-  rotated-ch ep eq = (λ i. bit_xor (ep i) (bit_and x ((eq ∙ left_xor y z hy hz) i))) ∙ one-and_ch x (ROTL 30 y) (ROTL 30 z) hx (left_lt y hy) (left_lt z hz)
+  pub rotated_ch : {p q : ℕ} → p ≡ ROTL 30 z → q ≡ ROTL 30 (bit_xor y z) → bit_xor p (bit_and x q) ≡ Ch x (ROTL 30 y) (ROTL 30 z)
+  rotated_ch ep eq = (λ i. bit_xor (ep i) (bit_and x ((eq ∙ left_xor y z hy hz) i))) ∙ one-and_ch x (ROTL 30 y) (ROTL 30 z) hx (left_lt y hy) (left_lt z hz)
 
-  pub rotated-parity : {q : ℕ} → q ≡ ROTL 30 (bit_xor y z) → bit_xor x q ≡ Parity x (ROTL 30 y) (ROTL 30 z)
+  pub rotated_parity : {q : ℕ} → q ≡ ROTL 30 (bit_xor y z) → bit_xor x q ≡ Parity x (ROTL 30 y) (ROTL 30 z)
   unfolding xor
-  rotated-parity eq = ap (bit_xor x) (eq ∙ left_xor y z hy hz) ∙ xor_assoc x (ROTL 30 y) (ROTL 30 z) hx (left_lt y hy) (left_lt z hz)
+  rotated_parity eq = ap (bit_xor x) (eq ∙ left_xor y z hy hz) ∙ xor_assoc x (ROTL 30 y) (ROTL 30 z) hx (left_lt y hy) (left_lt z hz)
 
-  pub rotated-maj : {p q r : ℕ} → p ≡ ROTL 30 (bit_xor y z) → q ≡ ROTL 30 (bit_and y z) → r ≡ (bit_and x p + q) % 2 ^ 32 → r ≡ Maj x (ROTL 30 y) (ROTL 30 z)
-  rotated-maj ep eq er =
+  pub rotated_maj : {p q r : ℕ} → p ≡ ROTL 30 (bit_xor y z) → q ≡ ROTL 30 (bit_and y z) → r ≡ (bit_and x p + q) % 2 ^ 32 → r ≡ Maj x (ROTL 30 y) (ROTL 30 z)
+  rotated_maj ep eq er =
       er ∙ (λ i. (bit_and x ((ep ∙ left_xor y z hy hz) i) + (eq ∙ left_and y z hy hz) i) % 2 ^ 32)
       ∙ sum_maj x (ROTL 30 y) (ROTL 30 z) hx (left_lt y hy) (left_lt z hz)
 

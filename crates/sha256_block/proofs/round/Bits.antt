@@ -3,7 +3,7 @@ use Rattle.std.proofs.Common.{◌≡◌, ℕ, ◌+◌, ◌-◌, ◌^◌, ◌<◌
 use lib.Bits.{bit_xor, xor_lt}
 use Rattle.fips180.specs.Words.{ROTR, SHR}
 use Rattle.fips180.proofs.Bits.{xor, xor_assoc}
-use Rattle.fips180.proofs.Rotations.{rot, rot-xor, rot_lt, rot_rot}
+use Rattle.fips180.proofs.Rotations.{rot, rot_xor, rot_lt, rot_rot}
 use Rattle.fips180.specs.Sha256.{Σ0, Σ1, σ0, σ1}
 
 words_lt : (x y : ℕ) → x < 2 ^ 32 → y < 2 ^ 32 → xor x y < 2 ^ 32
@@ -15,12 +15,12 @@ nested : (a b c d : ℕ) → a + (b + (c + d)) ≡ 32 → (x : ℕ) → x < 2 ^ 
     → rot a (xor x (rot b (xor x (rot c x)))) ≡ xor (xor (rot a x) (rot (a + b) x)) (rot (a + (b + c)) x)
 nested a b c d e x h =
     let inner : rot b (xor x (rot c x)) ≡ xor (rot b x) (rot (b + c) x) =
-    rot-xor b (32 - b) (omega arith) x (rot c x) h (rot_lt c x h) ∙ ap (xor (rot b x)) (rot_rot b c (a + d) (shift1 a b c d e) x h) in
+    rot_xor b (32 - b) (omega arith) x (rot c x) h (rot_lt c x h) ∙ ap (xor (rot b x)) (rot_rot b c (a + d) (shift1 a b c d e) x h) in
     let outer : rot a (xor (rot b x) (rot (b + c) x)) ≡ xor (rot (a + b) x) (rot (a + (b + c)) x) =
-    rot-xor a (32 - a) (omega arith) (rot b x) (rot (b + c) x) (rot_lt b x h) (rot_lt (b + c) x h)
+    rot_xor a (32 - a) (omega arith) (rot b x) (rot (b + c) x) (rot_lt b x h) (rot_lt (b + c) x h)
     ∙ ap₂ xor (rot_rot a b (c + d) e x h) (rot_rot a (b + c) d (shift2 a b c d e) x h) in
     ap (λ (y : ℕ). rot a (xor x y)) inner
-    ∙ rot-xor a (32 - a) (omega arith) x (xor (rot b x) (rot (b + c) x)) h (words_lt (rot b x) (rot (b + c) x) (rot_lt b x h) (rot_lt (b + c) x h))
+    ∙ rot_xor a (32 - a) (omega arith) x (xor (rot b x) (rot (b + c) x)) h (words_lt (rot b x) (rot (b + c) x) (rot_lt b x h) (rot_lt (b + c) x h))
     ∙ ap (xor (rot a x)) outer
     ∙ xor_assoc (rot a x) (rot (a + b) x) (rot (a + (b + c)) x) (rot_lt a x h) (rot_lt (a + b) x h) (rot_lt (a + (b + c)) x h)
   where
@@ -32,7 +32,7 @@ nested a b c d e x h =
 
 -- σ0 and σ1: one rotation of a rotation, and a shift
 once : (a b c : ℕ) → a + (b + c) ≡ 32 → (x : ℕ) → x < 2 ^ 32 → rot a (xor x (rot b x)) ≡ xor (rot a x) (rot (a + b) x)
-once a b c e x h = rot-xor a (32 - a) (omega arith) x (rot b x) h (rot_lt b x h) ∙ ap (xor (rot a x)) (rot_rot a b c e x h)
+once a b c e x h = rot_xor a (32 - a) (omega arith) x (rot b x) h (rot_lt b x h) ∙ ap (xor (rot a x)) (rot_rot a b c e x h)
 
 -- ---- what the code computes
 

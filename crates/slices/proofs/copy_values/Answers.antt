@@ -3,7 +3,7 @@ use Prim.Native.Nat.{◌<◌}
 use mathlib.Core.Path.{◌≡◌, refl, ◌∙◌}
 use native.Mathlib.Omega.{arith}
 use lib.ListN.{length, length-set}
-use Rattle.slices.proofs.Lists.{copy-turn, copied_all}
+use Rattle.slices.proofs.Lists.{copy_turn, copied_all}
 use Rattle.slices.proofs.copy_values.Goals as goal
 
 pub loop-j-init : goal.loop-j-init
@@ -17,7 +17,7 @@ loop-j-preserved c =
     let a = c.args in
     let hd : l.j < length a.out.now = omega arith in
     let hs : l.j < length a.s.now = omega arith in
-    (omega arith, l.invariant.1, l.invariant.2, simp length-set l.invariant.3, copy-turn a.out.now a.s.now l.j 0 l.invariant.4 hd hs)
+    (omega arith, l.invariant.1, l.invariant.2, simp length-set l.invariant.3, copy_turn a.out.now a.s.now l.j 0 l.invariant.4 hd hs)
 
 pub returns : goal.returns
 returns c =

@@ -5,7 +5,7 @@ use lib.Count.{ones}
 use Rattle.refusal.specs.Answers.{returned}
 use Rattle.slot_rules.specs.Stored.{Fits, freeing}
 use Rattle.slots.proofs.BitLaws.{length_mapped}
-use Rattle.slots.proofs.Calls.{live, drop-count, drop-none, drop-frees, drop-leaves}
+use Rattle.slots.proofs.Calls.{live, drop-count, drop-none, drop_frees, drop_leaves}
 use Rattle.slots.proofs.drop.Goals as goal
 
 pub gone-word-requires : goal.gone-word-requires
@@ -20,11 +20,11 @@ returns-then-has_bit c =
     let yes = live a.slots f a.number ∙ sym c.has_bit.ensures ∙ c.if-has_bit.true in
     let went = c.gone-word.ensures in
     let said = ap (λ (w : ℕ). returned (ones w)) went ∙ drop-count a.slots f a.number yes in
-    record { answer = said; stored = drop-frees a.slots a.number _ yes (ap (freeing a.slots) went) }
+    record { answer = said; stored = drop_frees a.slots a.number _ yes (ap (freeing a.slots) went) }
 
 pub returns-else-has_bit : goal.returns-else-has_bit
 returns-else-has_bit c =
     let f : Fits c.args.slots = search (rules, length_mapped) in
     let a = c.args in
     let dead = live a.slots f a.number ∙ sym c.has_bit.ensures ∙ c.if-has_bit.false in
-    record { answer = drop-none a.slots a.number dead; stored = drop-leaves a.slots a.number dead }
+    record { answer = drop-none a.slots a.number dead; stored = drop_leaves a.slots a.number dead }

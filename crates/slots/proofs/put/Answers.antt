@@ -10,16 +10,16 @@ use lib.Bits.{bit_or}
 use lib.ListN.{set}
 use Rattle.refusal.specs.Checks.{pass}
 use Rattle.refusal.specs.Answers.{checked_as}
-use Rattle.slot_rules.specs.Table.{lowestFree}
+use Rattle.slot_rules.specs.Table.{lowest_free}
 use Rattle.slot_rules.specs.Calls.{put_check}
 use Rattle.slot_rules.specs.Stored.{Fits, table_of}
 use Rattle.slots.proofs.BitLaws.{length_mapped}
 use Rattle.slot_rules.proofs.Stored.{room, parent-below}
-use Rattle.slots.proofs.Calls.{byte_fits, put-number, put-none, put-takes, put-leaves}
+use Rattle.slots.proofs.Calls.{byte_fits, put_number, put_none, put_takes, put_leaves}
 use Rattle.slots.proofs.put.Goals as goal
 
 -- where the tests passed, the number of the lowest free slot is below 64
-below : (s : Slots) (p : Parent) (n : ℕ) {x : Checked} → Fits s → checked_as x ≡ put_check (table_of s) p → x ≡ Passed → n ≡ lowestFree (table_of s) → n < 64
+below : (s : Slots) (p : Parent) (n : ℕ) {x : Checked} → Fits s → checked_as x ≡ put_check (table_of s) p → x ≡ Passed → n ≡ lowest_free (table_of s) → n < 64
 below s p n f e k l = rw l (room s f p (sym e ∙ ap checked_as k))
 
 pub mask-requires : goal.mask-requires
@@ -47,7 +47,7 @@ pub returns-in-Failed : goal.returns-in-Failed
 returns-in-Failed c =
     let a = c.args in
     let no = sym c.check_put-check.ensures ∙ ap checked_as c.in-Failed.is in
-    record { answer = put-none a.slots a.parent _ no; stored = put-leaves a.slots a.parent _ a.name no }
+    record { answer = put_none a.slots a.parent _ no; stored = put_leaves a.slots a.parent _ a.name no }
 
 pub returns-in-Passed : goal.returns-in-Passed
 returns-in-Passed c =
@@ -55,9 +55,9 @@ returns-in-Passed c =
     let i = c.lowest_free-number.result in
     let yes : put_check (table_of a.slots) a.parent ≡ pass = sym c.check_put-check.ensures ∙ ap checked_as c.in-Passed.is in
     record {
-      answer = put-number a.slots a.parent i c.lowest_free-number.ensures yes;
+      answer = put_number a.slots a.parent i c.lowest_free-number.ensures yes;
       stored =
-          put-takes a.slots a.parent _ i a.name c.lowest_free-number.ensures yes
+          put_takes a.slots a.parent _ i a.name c.lowest_free-number.ensures yes
           (λ j. record {
             taken = bit_or a.slots.taken (c.mask.ensures j);
             names = set a.slots.names i a.name;

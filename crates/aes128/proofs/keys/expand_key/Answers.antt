@@ -7,7 +7,7 @@ use lib.ListN.{length-set}
 use Rattle.fips197.specs.State.{State}
 use Rattle.fips197.specs.KeyExpansion.{rcon, round_key}
 use Rattle.tables.proofs.Filled.{filled}
-use Rattle.aes128.proofs.keys.Expansion.{at_zero, next-step, constant-step, expanded}
+use Rattle.aes128.proofs.keys.Expansion.{at_zero, next_step, constant_step, expanded}
 use Rattle.aes128.proofs.keys.expand_key.Goals as goal
 
 pub loop-i-init : goal.loop-i-init
@@ -20,11 +20,11 @@ loop-i-preserved c =
     let k = p.args.k in
     let i = p.loop-i.i in
     let len = p.loop-i.invariant.1 in
-    let e = next-step k i p.loop-i.c p.loop-i.x _ p.loop-i.invariant.2 p.loop-i.invariant.3 c.next_key-next.ensures in (
+    let e = next_step k i p.loop-i.c p.loop-i.x _ p.loop-i.invariant.2 p.loop-i.invariant.3 c.next_key-next.ensures in (
       omega arith,
       length-set p.loop-i.ks (i + 1) c.next_key-next.result ∙ len,
       e,
-      constant-step k i p.loop-i.c _ p.loop-i.invariant.3 c.next_constant-c.ensures,
+      constant_step k i p.loop-i.c _ p.loop-i.invariant.3 c.next_constant-c.ensures,
       filled State (λ (n : ℕ) (y : State). y ≡ round_key k n) p.loop-i.ks (i + 1) _ [] (omega (arith, len)) e p.loop-i.invariant.4,
     )
 

@@ -1,6 +1,6 @@
 -- The last word is compared first, then the first and those after it.
 use Rattle.std.proofs.Common.{refl, arith}
-use Rattle.bundle_contents.proofs.ids.Words.{words-on, words_differ, words_last, word-ends}
+use Rattle.bundle_contents.proofs.ids.Words.{words_on, words_differ, words_last, word-ends}
 use Rattle.bundle_contents.proofs.ids.same_words.Goals as goal
 
 pub returns-then-word_at : goal.returns-then-word_at
@@ -25,6 +25,6 @@ returns c =
     let t = c.word_at-7.ensures in
     let u = c.word_at-8.ensures in
     let last = word-ends a b 12 (omega arith) (omega arith) (l.word, l.bytes) (m.word, m.bytes) c.if-word_at.false in
-    let one = words-on a b 0 (omega arith) (omega arith) (p.word, p.bytes) (q.word, q.bytes) refl c.if-word_at-2.false in
-    let two = words-on a b 4 (omega arith) (omega arith) (r.word, r.bytes) (s.word, s.bytes) one c.if-word_at-3.false in
+    let one = words_on a b 0 (omega arith) (omega arith) (p.word, p.bytes) (q.word, q.bytes) refl c.if-word_at-2.false in
+    let two = words_on a b 4 (omega arith) (omega arith) (r.word, r.bytes) (s.word, s.bytes) one c.if-word_at-3.false in
     words_last a b 8 (omega arith) (omega arith) (t.word, t.bytes) (u.word, u.bytes) two last

@@ -1,5 +1,5 @@
-use Rattle.bundle_contents.proofs.Contents.{id-told}
+use Rattle.bundle_contents.proofs.Contents.{id_told}
 use Rattle.bundle_contents.proofs.lines.id_at.Goals as goal
 
 pub returns : goal.returns
-returns c = id-told _ _ c.contents_end-at.ensures
+returns c = id_told _ _ c.contents_end-at.ensures

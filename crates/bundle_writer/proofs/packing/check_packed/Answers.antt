@@ -1,14 +1,14 @@
 -- Where the count is told, all frames pass and it is their count.
 use Rattle.std.proofs.Common.{sym, ◌∙◌}
 use Rattle.refusal.proofs.Answering.{told_count, told_refusal}
-use Rattle.bundle_writer.proofs.packing.Testing.{told, refused-count, packed_frames, packed-none-lent, packed-many, packed-twice, packed-passes}
+use Rattle.bundle_writer.proofs.packing.Testing.{told, refused-count, packed_frames, packed-none_lent, packed_many, packed-twice, packed-passes}
 use Rattle.bundle_writer.proofs.packing.check_packed.Goals as goal
 
 pub returns-then-n-lt1 : goal.returns-then-n-lt1
-returns-then-n-lt1 c = let k = told_count _ _ _ c.in-Accepted.ensures in refused-count _ (packed-none-lent _ _ k.0 k.1 c.if-n-lt1.true)
+returns-then-n-lt1 c = let k = told_count _ _ _ c.in-Accepted.ensures in refused-count _ (packed-none_lent _ _ k.0 k.1 c.if-n-lt1.true)
 
 pub returns-then-n-gt64 : goal.returns-then-n-gt64
-returns-then-n-gt64 c = let k = told_count _ _ _ c.in-Accepted.ensures in refused-count _ (packed-many _ _ k.0 k.1 c.if-n-gt64.true)
+returns-then-n-gt64 c = let k = told_count _ _ _ c.in-Accepted.ensures in refused-count _ (packed_many _ _ k.0 k.1 c.if-n-gt64.true)
 
 pub id_repeats-requires : goal.id_repeats-requires
 id_repeats-requires c = (told_count _ _ _ c.in-Accepted.ensures).0

@@ -2,12 +2,12 @@
 use mathlib.Core.Path.{ap, ◌∙◌}
 use Rattle.fips180.specs.Stream.{Progress}
 use Rattle.sha256.specs.Stream.{absorbed, finished}
-use Rattle.rfc2104.specs.Keyed.{hashAfterBy}
+use Rattle.rfc2104.specs.Keyed.{hash_after_by}
 use Rattle.hmac.specs.Keyed.{hash_after}
 use Rattle.hmac.proofs.Keyed.finish.Goals as goal
 
 pub returns : goal.returns
-unfolding hashAfterBy
+unfolding hash_after_by
 returns c =
     let digest = c.finish_with-digest.result in
     c.finish.ensures

@@ -1,5 +1,5 @@
 use Rattle.rfc3394.specs.Rfc3394.{high}
-use Rattle.keywrap_aes.proofs.passes.Parts.{passes-forward, passes-back}
+use Rattle.keywrap_aes.proofs.passes.Parts.{passes_forward, passes-back}
 use Rattle.keywrap_aes.proofs.passes.passes.Goals as goal
 
 pub returns-then-back : goal.returns-then-back
@@ -12,6 +12,6 @@ returns-then-back c =
 pub returns-else-back : goal.returns-else-back
 returns-else-back c =
     let s = c.args in
-    let h = passes-forward s.kek _ _ c.key_state.ensures c.expand_key.ensures (high s.a) s.b.now _ _
+    let h = passes_forward s.kek _ _ c.key_state.ensures c.expand_key.ensures (high s.a) s.b.now _ _
     c.wrap_passes.ensures.next c.wrap_passes.ensures.part s.back c.if-back.false in
     record { next = h.0; part = h.1 }

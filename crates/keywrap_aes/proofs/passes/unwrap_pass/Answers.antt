@@ -6,7 +6,7 @@ use native.Mathlib.Omega.{arith}
 use borrow.Rule.Slice.PartMut.{same_len_mid}
 use Rattle.fips197.specs.Cipher.{eq_inv_cipher}
 use Rattle.rfc3394.specs.Rfc3394.{high, Registers, unwrap_pass}
-use Rattle.keywrap_aes.proofs.passes.Parts.{unpass-less}
+use Rattle.keywrap_aes.proofs.passes.Parts.{unpass_less}
 use Rattle.keywrap_aes.proofs.passes.unwrap_pass.Goals as goal
 
 pub loop-i-preserved : goal.loop-i-preserved
@@ -16,7 +16,7 @@ loop-i-preserved c =
     record {
       within = omega arith;
       same_length = same_len_mid {X = ℕ} ((l.i - 1) * 8) ((l.i - 1) * 8 + 8 - (l.i - 1) * 8) l.b c.unwrap_block-next.new.b c.unwrap_block-next.auto.b ∙ l.invariant.same_length;
-      left = unpass-less (eq_inv_cipher s.ks.now) s.c l.i ((l.i - 1) * 8) ((l.i - 1) * 8 + 8 - (l.i - 1) * 8) (high (l.x0 ∷ l.x1 ∷ [])) l.b _ _ (omega arith) refl (omega arith) c.unwrap_block-next.ensures.next c.unwrap_block-next.ensures.part ∙ l.invariant.left;
+      left = unpass_less (eq_inv_cipher s.ks.now) s.c l.i ((l.i - 1) * 8) ((l.i - 1) * 8 + 8 - (l.i - 1) * 8) (high (l.x0 ∷ l.x1 ∷ [])) l.b _ _ (omega arith) refl (omega arith) c.unwrap_block-next.ensures.next c.unwrap_block-next.ensures.part ∙ l.invariant.left;
     }
 
 pub returns : goal.returns

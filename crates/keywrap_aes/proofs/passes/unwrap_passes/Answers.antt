@@ -4,7 +4,7 @@ use Prim.Native.Nat.{ℕ}
 use native.Mathlib.Omega.{arith}
 use Rattle.fips197.specs.Cipher.{eq_inv_cipher}
 use Rattle.rfc3394.specs.Rfc3394.{high, Registers, unwrap_passes}
-use Rattle.keywrap_aes.proofs.passes.Parts.{unpasses-less, count_less}
+use Rattle.keywrap_aes.proofs.passes.Parts.{unpasses_less, count_less}
 use Rattle.keywrap_aes.proofs.passes.unwrap_passes.Goals as goal
 
 pub loop-j-preserved : goal.loop-j-preserved
@@ -17,7 +17,7 @@ loop-j-preserved c =
       small = omega arith;
       count = h.1;
       same_length = c.unwrap_pass-next.auto.b ∙ l.invariant.same_length;
-      left = unpasses-less (eq_inv_cipher s.ks.now) s.n l.j _ (high l.x) l.b _ _ (omega arith) h.1 c.unwrap_pass-next.ensures.next c.unwrap_pass-next.ensures.part ∙ l.invariant.left;
+      left = unpasses_less (eq_inv_cipher s.ks.now) s.n l.j _ (high l.x) l.b _ _ (omega arith) h.1 c.unwrap_pass-next.ensures.next c.unwrap_pass-next.ensures.part ∙ l.invariant.left;
     }
 
 pub returns : goal.returns

@@ -4,7 +4,7 @@ use Prim.Native.Nat.{ℕ, ◌+◌}
 use native.Mathlib.Omega.{arith}
 use Rattle.fips197.specs.Cipher.{cipher}
 use Rattle.rfc3394.specs.Rfc3394.{wrap_passes}
-use Rattle.keywrap_aes.proofs.passes.Parts.{passes-more, count-more}
+use Rattle.keywrap_aes.proofs.passes.Parts.{passes_more, count-more}
 use Rattle.keywrap_aes.proofs.passes.wrap_passes.Goals as goal
 
 pub loop-j-init : goal.loop-j-init
@@ -20,5 +20,5 @@ loop-j-preserved c =
       small = omega arith;
       count = ap (λ (m : ℕ). m + s.n) l.invariant.count ∙ sym (count-more s.n l.j);
       same_length = c.wrap_pass-next.auto.b ∙ l.invariant.same_length;
-      so_far = passes-more (cipher s.ks.now) _ s.n l.j l.c _ _ _ _ l.invariant.count l.invariant.so_far c.wrap_pass-next.ensures.next c.wrap_pass-next.ensures.part;
+      so_far = passes_more (cipher s.ks.now) _ s.n l.j l.c _ _ _ _ l.invariant.count l.invariant.so_far c.wrap_pass-next.ensures.next c.wrap_pass-next.ensures.part;
     }

@@ -6,7 +6,7 @@ use Rattle.refusal.specs.Answers.{returned, answer_to, buffer_after}
 use Rattle.refusal.specs.Checks.{Check}
 use Rattle.rfc3394.specs.Rfc3394.{unwrapped_key}
 use Rattle.keywrap.specs.Calls.{key_length}
-use Rattle.keywrap_aes.proofs.unwrapping.Parts.{unwrap_bounds, unwrap_refused, unwrap_settled, lent, in-scratch, key-counted, released}
+use Rattle.keywrap_aes.proofs.unwrapping.Parts.{unwrap_bounds, unwrap_refused, unwrap_settled, lent, in_scratch, key-counted, released}
 use Rattle.keywrap_aes.proofs.unwrapping.unwrap.Goals as goal
 
 pub slice_bounds-scratch-end : goal.slice_bounds-scratch-end
@@ -26,7 +26,7 @@ pub slice_bounds-scratch-end-in-Passed-integrity : goal.slice_bounds-scratch-end
 slice_bounds-scratch-end-in-Passed-integrity c =
     let b = unwrap_bounds _ _ c.args.wrapped.now c.key_length-n.ensures c.in-Passed.ensures in
     let counted : length c.unwrap_into-a.new.scratch ≡ c.key_length-n.result = c.unwrap_into-a.auto.scratch ∙ length-take-le _ _ b.1 in
-    in-scratch _ c.unwrap_into-a.new.scratch (drop c.key_length-n.result (replicate 192 0)) counted
+    in_scratch _ c.unwrap_into-a.new.scratch (drop c.key_length-n.result (replicate 192 0)) counted
 
 pub slice_bounds-copy-end : goal.slice_bounds-copy-end
 slice_bounds-copy-end c =

@@ -1,23 +1,23 @@
 -- `offers::checks::repeated` meets its contract: whether a value occurs twice is whether one does from index i on.
 use mathlib.Core.Path.{sym, ◌∙◌}
 use native.Mathlib.Omega.{arith}
-use Rattle.offers.proofs.checks.Lists.{repeats-hit, repeats-miss, repeats-done}
+use Rattle.offers.proofs.checks.Lists.{repeats_hit, repeats_miss, repeats_done}
 use Rattle.offers.proofs.checks.repeated.Goals as goal
 
 pub returns-then-contains : goal.returns-then-contains
 returns-then-contains c =
     let l = c.loop-i in
     let a = c.args in
-    repeats-hit a.list.now l.i l.invariant.1 (omega arith) (sym c.contains.ensures ∙ c.if-contains.true)
+    repeats_hit a.list.now l.i l.invariant.1 (omega arith) (sym c.contains.ensures ∙ c.if-contains.true)
 
 pub loop-i-preserved : goal.loop-i-preserved
 loop-i-preserved c =
     let l = c.loop-i in
     let a = c.args in
-    (omega arith, repeats-miss a.list.now l.i l.invariant.1 (omega arith) (sym c.contains.ensures ∙ c.if-contains.false))
+    (omega arith, repeats_miss a.list.now l.i l.invariant.1 (omega arith) (sym c.contains.ensures ∙ c.if-contains.false))
 
 pub returns : goal.returns
 returns c =
     let l = c.loop-i in
     let a = c.args in
-    repeats-done a.list.now l.i l.invariant.1 (omega arith)
+    repeats_done a.list.now l.i l.invariant.1 (omega arith)

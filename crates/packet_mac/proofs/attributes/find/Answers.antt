@@ -7,15 +7,15 @@ use mathlib.Core.Bool.{cond}
 use lib.Dec.{eqb}
 use native.Mathlib.Omega.{arith}
 use lib.ListN.{length, drop, take}
-use Rattle.slices.proofs.Lists.{rest-drop}
+use Rattle.slices.proofs.Lists.{rest_drop}
 use Rattle.radius_attributes.specs.Attributes.{size_in}
-use Rattle.packet_mac.proofs.attributes.Finding.{Onward, onward, walk_starts, walk_ends, walk-stops, walk-finds, walk-passes, earliest_now, earliest_then}
+use Rattle.packet_mac.proofs.attributes.Finding.{Onward, onward, walk_starts, walk_ends, walk_stops, walk-finds, walk-passes, earliest_now, earliest_then}
 use Rattle.packet_mac.proofs.attributes.find.Goals as goal
 use Rattle.packet_mac.proofs.attributes.find.Goals.{then-packet-at, then-count-eq0, else-count-eq0, else-packet-at}
 
 -- what the call found is the length of the attribute at the offset
 size : (p : List ℕ) (at : ℕ) {n : ℕ} → n ≡ size_in (take (length p - at) (drop at p)) → size_in (drop at p) ≡ n
-size p at e = sym (e ∙ ap size_in (rest-drop at p))
+size p at e = sym (e ∙ ap size_in (rest_drop at p))
 
 stepped : (p : List ℕ) (at n : ℕ) → at < length p → n ≡ size_in (take (length p - at) (drop at p)) → (n ≡ 0 → ⊥) → Onward p at n
 stepped p at n h e z = onward p at n h (size p at e) z
@@ -27,7 +27,7 @@ pub returns-then-size-eq0 : goal.returns-then-size-eq0
 returns-then-size-eq0 c =
     let l = c.loop-at in
     let a = c.args in
-    walk-stops a.attribute_type a.packet.now l.at l.count l.first l.invariant.1 c.loop-at-test.true
+    walk_stops a.attribute_type a.packet.now l.at l.count l.first l.invariant.1 c.loop-at-test.true
     (size a.packet.now l.at c.size_in-size.ensures ∙ c.if-size-eq0.true)
 
 pub overflow_add-at : goal.overflow_add-at

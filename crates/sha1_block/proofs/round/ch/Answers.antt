@@ -1,8 +1,8 @@
-use Rattle.sha1_block.proofs.round.Functions.{rotated-ch}
+use Rattle.sha1_block.proofs.round.Functions.{rotated_ch}
 use Rattle.std.proofs.Common.{rules}
 use Rattle.sha1_block.proofs.round.ch.Goals as goal
 
 pub returns : goal.returns
 returns c =
     let a = c.args in
-    rotated-ch a.x a.y a.z (search rules) (search rules) (search rules) c.rotl.ensures c.rotl-2.ensures
+    rotated_ch a.x a.y a.z (search rules) (search rules) (search rules) c.rotl.ensures c.rotl-2.ensures

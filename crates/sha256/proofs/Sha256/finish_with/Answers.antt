@@ -1,12 +1,12 @@
 -- `sha256::Sha256::finish_with` meets its contract. The loop's invariant: the first j parts are absorbed.
 use Rattle.std.proofs.Common.{◌≡◌, ℕ, ◌^◌, ◌<◌, List, [], ◌∷◌, length, take, refl, ap, ◌∙◌, arith, rules}
-use Rattle.fips180.proofs.Absorbing.{block-kept, closed-law, absorbedAll, next_part, all-six}
+use Rattle.fips180.proofs.Absorbing.{block-kept, closed-law, absorbed_all, next_part, all_six}
 use Rattle.fips180.specs.Sha256.{compress, digest}
 use Rattle.sha256.specs.Stream.{progress}
 use Rattle.sha256.proofs.Sha256.finish_with.Goals as goal
 
 pub loop-j-init : goal.loop-j-init
-unfolding absorbedAll
+unfolding absorbed_all
 loop-j-init c =
     let s = c.args.self in
     let l : length s.block ≡ 64 = search rules in
@@ -31,5 +31,5 @@ returns c =
     let k : length s.block ≡ 64 = search rules in
     let e : l.j ≡ 6 = omega arith in
     let six : List (List ℕ) = a.a.now ∷ a.b.now ∷ a.c.now ∷ a.d.now ∷ a.e.now ∷ a.f.now ∷ [] in
-    let all = l.invariant.2 ∙ ap (λ (k : ℕ). absorbedAll compress (progress s) (take k six)) e ∙ all-six compress (progress s) a.a.now a.b.now a.c.now a.d.now a.e.now a.f.now in
+    let all = l.invariant.2 ∙ ap (λ (k : ℕ). absorbed_all compress (progress s) (take k six)) e ∙ all_six compress (progress s) a.a.now a.b.now a.c.now a.d.now a.e.now a.f.now in
     closed-law compress (progress s) _ k all digest l.invariant.1 c.last_digest.ensures

@@ -4,7 +4,7 @@ use mathlib.Core.Path.{ap, ap₂, ◌∙◌}
 use Rattle.refusal.specs.Checks.{bare, unless, ◌and_then◌}
 use Rattle.slots.proofs.BitLaws.{length_mapped}
 use Rattle.slot_rules.specs.Stored.{Fits}
-use Rattle.slots.proofs.Calls.{parent-checked, root_checked}
+use Rattle.slots.proofs.Calls.{parent_checked, root_checked}
 use Rattle.slots.proofs.tree.check_parent.Goals as goal
 
 pub returns-in-Root : goal.returns-in-Root
@@ -18,4 +18,4 @@ returns-in-Below c =
     ∙ ap₂ ◌and_then◌
     (c.unless.ensures ∙ ap (λ (b : Bool). unless b (bare 48)) c.has_bit.ensures)
     (c.unless-in-Below.ensures ∙ ap (λ (b : Bool). unless b (bare 49)) c.root_within_two.ensures)
-    ∙ parent-checked c.args.slots f _)
+    ∙ parent_checked c.args.slots f _)
