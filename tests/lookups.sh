@@ -1,6 +1,6 @@
 #!/usr/bin/env bash
 # Looks at the compiled code of the functions that look tables up, AES by secret bytes among them: each look-up has to be a load. A contract
-# does not say so, since it is the compiler that makes a table of a `match`. So the code must have no jump to a computed place, no call, and
+# does not say so, since it is the compiler that makes a load of it. So the code must have no jump to a computed place, no call, and
 # no more conditional jumps than its loops and choices need. Last line: 'N passed, M failed'.
 set -u
 cd "$(dirname "$0")/.." && . tools/common.sh || exit 1
@@ -22,5 +22,5 @@ loads_only() {
 install_for objdump binutils
 check 'the archive' make_archive
 check keywrap_aes::passes::passes loads_only keywrap_aes::passes::passes 16
-check sha256_block::compress_blocks loads_only sha256_block::compress_blocks 8
+check sha256::Sha256Hash832::compress_blocks loads_only sha256::Sha256Hash832::compress_blocks 8
 tell_counts

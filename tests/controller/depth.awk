@@ -1,6 +1,7 @@
 # awk -v machine=x86|arm|riscv -f tests/controller/depth.awk FILE.su FILE.s: the deepest stack of each exported call by its call graph: 'CALL BYTES'. FILE.s is what the
 # compiler made, FILE.su has the frame of each function. Counted are the return address on x86-64, there the 128 bytes below the stack pointer that a
 # function without calls may use, and 32 bytes for memcpy, memmove and memset. Fails where a function calls itself, or an address that is computed.
+function in_quotes(text) { return substr(text, 2, index(substr(text, 2), "\"") - 1) }
 function plain(name) { gsub(/"|@PLT/, "", name); return name }
 FILENAME ~ /\.su$/ {
     n = split($0, part, "\t")
@@ -10,7 +11,7 @@ FILENAME ~ /\.su$/ {
     if (part[3] != "static") bad("the frame of " name " is " part[3])
     next
 }
-/^[^ \t.#@;][^#;]*:/ { name = $0; sub(/:[ \t]*([#@;].*)?$/, "", name); name = plain(name); if (name in frame) { here = name; opening = 1; pushed = 0 } next }
+/^"[^"]*":/ || /^[^" \t.#@;][^#;]*:/ { name = $0; if (!(name ~ /^"/)) sub(/:[ \t]*([#@;].*)?$/, "", name); else name = in_quotes(name); name = plain(name); if (name in frame) { here = name; opening = 1; pushed = 0 } next }
 # on x86-64 arguments are pushed, which no frame counts; the pushes that a function opens with are of its frame
 machine == "x86" && $1 == "pushq" { if (!opening) pushed += 8; next }
 /^[ \t]+[a-z]/ { opening = 0 }
@@ -18,9 +19,10 @@ machine == "x86" && $1 ~ /^(callq?|jmpq?)$/ || machine == "arm" && $1 ~ /^(bl|bl
     operator = $1
     to = $0
     sub(/^[ \t]*[^ \t]+[ \t]+/, "", to)
-    sub(/[ \t]*([#@;].*)?$/, "", to)
-    if (machine == "x86") to = plain($2 ~ /^"/ ? substr(to, 1, index(substr(to, 2), "\"") + 1) : $2)
-    else to = plain(to)
+    # the name of a generic function has a # in it, and stands in quotes
+    if (to ~ /^"/) to = in_quotes(to)
+    else if (machine == "x86") to = plain($2)
+    else { sub(/[ \t]*([#@;].*)?$/, "", to); to = plain(to) }
     if (to ~ /^\.L/) next
     # jumps inside a function by a table, and returns
     if (operator ~ /^(jmpq?|bx|jr)$/ && to ~ /^(\*|lr$|r[0-9]+$|[ast][0-9]+$|ra$)/) next

@@ -1,3 +1,2 @@
-mod Lookups
+pub mod Fours
 mod Rounds
-mod Square

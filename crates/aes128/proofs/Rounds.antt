@@ -1,9 +1,10 @@
 -- A round as the code takes it, a turn of each cipher's loop, and its end. Each lemma is over plain lists, and its premises are what the callees ensure.
-use mathlib.Core.Path.{◌≡◌, sym, ap, ap₂, ◌∙◌}
+use mathlib.Core.Path.{◌≡◌, ap, ap₂, ◌∙◌}
 use mathlib.Core.List.{List, []}
 use Prim.Native.Nat.{ℕ, zero, suc, ◌+◌, ◌-◌, ◌<◌}
 use native.Mathlib.Nat.{not-suc-le-zero}
-use native.Mathlib.Numerals.{add-one, sub-one}
+use native.Mathlib.Numerals.{sub-one}
+use native.Mathlib.Omega.{arith}
 use lib.ListN.{get_or}
 use Rattle.fips197.specs.State.{State, sub_bytes, inv_sub_bytes, shift_rows, inv_shift_rows, mix_columns, inv_mix_columns, add_round_key}
 use Rattle.fips197.specs.Cipher.{round, rounds, last_round, cipher, eq_inv_round, eq_inv_rounds, eq_inv_last_round, eq_inv_cipher}
@@ -41,25 +42,32 @@ module _ (k : State) (t : List ℕ) (s a : State) (e : s ≡ state_of t) where
 
 -- a turn of the cipher's loop, and its end
 module _ (ks : List State) where
-  pub round-step : (i : ℕ) (s t u : State) → t ≡ rounds ks i s → u ≡ round (get_or ks (i + 1) []) t → u ≡ rounds ks (i + 1) s
+  pub round-step : (i : ℕ) (s t u : State) → 0 < i → t ≡ rounds ks (i - 1) s → u ≡ round (get_or ks i []) t → u ≡ rounds ks (i + 1 - 1) s
   unfolding rounds
-  round-step i s t u p q = q ∙ ap (round (get_or ks (i + 1) [])) p ∙ rw add-one
+  round-step zero s t u h p q = absurd (omega arith)
+  round-step (suc i) s t u h p q =
+      let n : suc i ≡ suc i + 1 - 1 = omega arith in
+      q ∙ ap (round (get_or ks (suc i) [])) (rw sub-one at p) ∙ ap (λ (m : ℕ). rounds ks m s) n
 
-  pub cipher_end : (i : ℕ) (s t u r : State) → t ≡ add_round_key s (get_or ks 0 []) → u ≡ rounds ks i t → i ≡ 9 → r ≡ last_round (get_or ks 10 []) u
+  pub cipher_end : (i : ℕ) (s t u r : State) → t ≡ add_round_key s (get_or ks 0 []) → u ≡ rounds ks (i - 1) t → i ≡ 10 → r ≡ last_round (get_or ks 10 []) u
       → r ≡ cipher ks s
   unfolding cipher
-  cipher_end i s t u r p q e h = h ∙ ap (last_round (get_or ks 10 [])) (q ∙ ap₂ (rounds ks) e p)
+  cipher_end i s t u r p q e h = let n : i - 1 ≡ 9 = omega arith in h ∙ ap (last_round (get_or ks 10 [])) (q ∙ ap₂ (rounds ks) n p)
 
 -- ---- a turn of the loop of the equivalent inverse cipher, and its end
 
 module _ (ks : List State) where
-  pub eq-step : (i : ℕ) (t u : State) → 0 < i → u ≡ eq_inv_round (get_or ks i []) t → eq_inv_rounds ks (i - 1) u ≡ eq_inv_rounds ks i t
+  eq-step : (i : ℕ) (t u : State) → 0 < i → u ≡ eq_inv_round (get_or ks i []) t → eq_inv_rounds ks (i - 1) u ≡ eq_inv_rounds ks i t
   unfolding eq_inv_rounds
   eq-step zero t u h e = absurd (not-suc-le-zero h)
   eq-step (suc i) t u h e = rw sub-one (ap (eq_inv_rounds ks i) e)
 
-  pub eq_end : (i : ℕ) (s t u r : State) → t ≡ add_round_key s (get_or ks 10 []) → eq_inv_rounds ks i u ≡ eq_inv_rounds ks 9 t → i ≡ 0
+  pub eq_below : (i : ℕ) (t u : State) → 1 < i → u ≡ eq_inv_round (get_or ks (i - 1) []) t → eq_inv_rounds ks (i - 1 - 1) u ≡ eq_inv_rounds ks (i - 1) t
+  eq_below i t u h e = eq-step (i - 1) t u (omega arith) e
+
+  pub eq_end : (i : ℕ) (s t u r : State) → t ≡ add_round_key s (get_or ks 10 []) → eq_inv_rounds ks (i - 1) u ≡ eq_inv_rounds ks 9 t → i ≡ 1
       → r ≡ eq_inv_last_round (get_or ks 0 []) u → r ≡ eq_inv_cipher ks s
   unfolding eq_inv_cipher eq_inv_rounds
   eq_end i s t u r p w e h =
-      h ∙ ap (eq_inv_last_round (get_or ks 0 [])) (ap (λ (n : ℕ). eq_inv_rounds ks n u) (sym e) ∙ w ∙ ap (eq_inv_rounds ks 9) p)
+      let n : 0 ≡ i - 1 = omega arith in
+      h ∙ ap (eq_inv_last_round (get_or ks 0 [])) (ap (λ (m : ℕ). eq_inv_rounds ks m u) n ∙ w ∙ ap (eq_inv_rounds ks 9) p)

@@ -1,5 +1,5 @@
 -- What only the contracts of private functions need. Nothing here has to be believed.
-use Rattle.std.specs.Prelude.{◌≡◌, List, [], ◌∷◌, ℕ, ◌+◌, ◌*◌, ◌<◌, ◌/◌, ◌%◌, length, get_or}
+use Rattle.std.specs.Prelude.{List, [], ◌∷◌, ℕ, ◌+◌, ◌*◌, ◌/◌, ◌%◌, get_or}
 use Rattle.std.specs.Int.Bits.{bit_and, bit_xor}
 use Rattle.fips197.specs.State.{State, bytes, columns}
 
@@ -20,7 +20,7 @@ turned x = x / 0x100 + x % 256 * 0x1000000
 abbrev pub doubled : ℕ → ℕ
 doubled x = bit_xor (bit_and x 0x7f7f7f7f * 2) (bit_and (x / 128) 0x01010101 * 0x1b)
 
--- ---- the state as four words, and its sixteen bytes looked up in a table
+-- ---- the state as four words, and the sum of what its bytes bring to a column
 
 -- The state of four words.
 abbrev pub state_of : List ℕ → State
@@ -29,17 +29,6 @@ state_of t = column_of (get_or t 0 0) ∷ column_of (get_or t 1 0) ∷ column_of
 -- A state, written by its sixteen bytes.
 abbrev pub laid_out : State → State
 laid_out s = columns (bytes (λ x. x)) s
-
--- Byte i of a state, counted column after column.
-abbrev pub byte_of : State → ℕ → ℕ
-byte_of s i = get_or (get_or s (i / 4) []) (i % 4) 0
-
--- r has four columns of four entries, each of them the table's entry at the byte of b in its place.
-abbrev pub Square : State → Type 0
-Square r = (length r ≡ 4) × ((c : ℕ) → c < 4 → length (get_or r c []) ≡ 4)
-
-abbrev pub LookedUp : List ℕ → State → State → Type 0
-LookedUp table b r = Square r × ((i : ℕ) → i < 16 → byte_of r i ≡ get_or table (byte_of b i) 0)
 
 -- The column of the sum of four words, which the bytes in the rows 0 to 3 bring to it, each moved to its rows.
 abbrev pub sum_of : ℕ → ℕ → ℕ → ℕ → ℕ

@@ -4,27 +4,15 @@ ghost use Rattle.std.specs.Prelude.{◌≡◌};
 ghost use Rattle.aes_sbox.specs.Field.{xtime};
 ghost use Rattle.fips197.specs.State.{mix_column, inv_mix_column, inv_mix_columns};
 ghost use Rattle.fips197.specs.Cipher.{inverted_keys};
-ghost use Rattle.fips197.specs.KeyExpansion.{sub_word, key_core, next_key, expand_key};
+ghost use Rattle.fips197.specs.KeyExpansion.{key_core, next_key, expand_key};
 ghost use Rattle.aes128.specs.Internal.{doubled};
 
-use crate::columns::{add_column, column, turn, wide, word};
-use aes_lookup_key_sbox::entry;
-
-// SubWord: each of four bytes by the S-box.
-fn sub_word(w: [u8; 4]) -> [u8; 4]
-    ensures { result ≡ sub_word w }
-{
-    let mut r = [0u8; 4];
-    let mut i: usize = 0;
-    while i < 4 {
-        r[i] = entry(wide(w[i]));
-        i += 1;
-    }
-    r
-}
+use crate::columns::{Column, add_column, column, turn, word};
+use crate::lookups::sub_word;
+use crate::{RoundKeys, State};
 
 // SubWord(RotWord(w)), with the round constant c.
-fn key_core(w: [u8; 4], c: u8) -> [u8; 4]
+fn key_core(w: Column, c: u8) -> Column
     ensures { result ≡ key_core w c }
 {
     let t = sub_word([w[1], w[2], w[3], w[0]]);
@@ -32,7 +20,7 @@ fn key_core(w: [u8; 4], c: u8) -> [u8; 4]
 }
 
 // The round key after k, with the round constant c.
-fn next_key(k: [[u8; 4]; 4], c: u8) -> [[u8; 4]; 4]
+fn next_key(k: State, c: u8) -> State
     ensures { result ≡ next_key k c }
 {
     let w0 = add_column(k[0], key_core(k[3], c));
@@ -49,23 +37,6 @@ fn next_constant(c: u8) -> u8
     (c % 128 * 2) ^ (c / 128 * 0x1b)
 }
 
-// KeyExpansion: writes the eleven round keys of the key k to ks.
-pub fn expand_key(k: [[u8; 4]; 4], ks: &mut [[[u8; 4]; 4]; 11])
-    ensures { ks.new ≡ expand_key k }
-{
-    *ks = [k; 11];
-    let mut x = k;
-    let mut c: u8 = 1;
-    let mut i: u32 = 0;
-    while i < 10 {
-        let next = next_key(x, c);
-        x = next;
-        c = next_constant(c);
-        i += 1;
-        ks[i as usize] = x;
-    }
-}
-
 // Each byte of a word doubled in the field.
 fn double(x: u32) -> u32
     ensures { result ≡ doubled x }
@@ -74,7 +45,7 @@ fn double(x: u32) -> u32
 }
 
 // MixColumns of one column. Row by row, with a the byte of the row itself and b, c, d the next ones, it is {02}(a + b) + b + (c + d).
-fn mix_column(w: [u8; 4]) -> [u8; 4]
+fn mix_column(w: Column) -> Column
     ensures { result ≡ mix_column w }
 {
     let x = word(w);
@@ -85,7 +56,7 @@ fn mix_column(w: [u8; 4]) -> [u8; 4]
 
 // The column whose mixing undoes the mixing of w: {04}(a + c) is added to the bytes a and c of the rows 0 and 2, and {04}(b + d) to the
 // others.
-fn premix_column(w: [u8; 4]) -> [u8; 4]
+fn premix_column(w: Column) -> Column
     ensures { mix_column result ≡ inv_mix_column w }
 {
     let x = word(w);
@@ -93,32 +64,38 @@ fn premix_column(w: [u8; 4]) -> [u8; 4]
 }
 
 // InvMixColumns of one column.
-fn inv_mix_column(w: [u8; 4]) -> [u8; 4]
+fn inv_mix_column(w: Column) -> Column
     ensures { result ≡ inv_mix_column w }
 {
     mix_column(premix_column(w))
 }
 
 // InvMixColumns.
-fn inv_mix_columns(s: [[u8; 4]; 4]) -> [[u8; 4]; 4]
+fn inv_mix_columns(s: State) -> State
     ensures { result ≡ inv_mix_columns s }
 {
-    [
-        inv_mix_column(s[0]),
-        inv_mix_column(s[1]),
-        inv_mix_column(s[2]),
-        inv_mix_column(s[3]),
-    ]
+    s.map(inv_mix_column)
+}
+
+// KeyExpansion: writes the eleven round keys of the key k to ks.
+pub fn expand_key(k: State, ks: &mut RoundKeys)
+    ensures { ks.new ≡ expand_key k }
+{
+    *ks = [k; 11];
+    let mut constant = 1;
+    for i in 1..11 {
+        let next = next_key(ks[i - 1], constant);
+        ks[i] = next;
+        constant = next_constant(constant);
+    }
 }
 
 // Converts the round keys of the cipher to those of the equivalent inverse cipher: InvMixColumns of all but the first and the last.
-pub fn invert_keys(ks: &mut [[[u8; 4]; 4]; 11])
+pub fn invert_keys(ks: &mut RoundKeys)
     ensures { ks.new ≡ inverted_keys ks.old }
 {
-    let mut i: u32 = 1;
-    while i < 10 {
-        let k = inv_mix_columns(ks[i as usize]);
-        ks[i as usize] = k;
-        i += 1;
+    for i in 1..10 {
+        let inverted = inv_mix_columns(ks[i]);
+        ks[i] = inverted;
     }
 }

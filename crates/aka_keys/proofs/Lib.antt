@@ -1,3 +1,2 @@
-mod Joining
-mod Deriving
 pub mod Shown
+mod Deriving

@@ -10,7 +10,7 @@ use lib.ListN.{length, length-append}
 use Rattle.refusal.specs.Checks.{Check, pass, refuse, check6}
 use Rattle.area_format.specs.declared.Attribute.TheVariants.{Offer, Named, Other, Faulty}
 use Rattle.area_format.specs.declared.Name.{Name}
-use Rattle.area_format.specs.declared.Name.TheVariants.{Missing, Found}
+use Rattle.std.specs.Prelude.{Option, Some, None}
 use Rattle.area_format.specs.Area.{Reading, whole, refusal, Standing, standing, ended, read_on, guarded, agrees, judged, walked, reading, attributes}
 use Rattle.area_format.specs.declared.Way.{Way}
 use Rattle.area_format.specs.declared.Way.TheVariants.{Strict, Lenient}
@@ -24,11 +24,11 @@ few_cond : (t : Bool) (a b : Reading) → (t ≡ true → Few a) → Few b → F
 few_cond true a b ha hb = ha refl
 few_cond false a b ha hb = hb
 
-few_ended : (offers : List ℕ) (name : Name) → length offers ≤ 17 → Few (ended offers name)
-few_ended offers Missing h = tt
-few_ended offers (Found at len) h = few_cond (eqb (length offers) 0) _ _ (λ e. tt) h
+few_ended : (offers : List ℕ) (name : Option Name) → length offers ≤ 17 → Few (ended offers name)
+few_ended offers None h = tt
+few_ended offers (Some name) h = few_cond (eqb (length offers) 0) _ _ (λ e. tt) h
 
-few_on : (offers : List ℕ) (name : Name) (later : List Standing) → length offers ≤ 17 → Few (read_on offers name later)
+few_on : (offers : List ℕ) (name : Option Name) (later : List Standing) → length offers ≤ 17 → Few (read_on offers name later)
 unfolding read_on
 few_on offers name [] h = few_ended offers name h
 few_on offers name (standing at (Faulty x) ∷ later) h = tt
@@ -39,8 +39,8 @@ few_on offers name (standing at (Offer v) ∷ later) h =
     let less = ltb-true (length offers) 17 e in
     few_on (offers ++ (v ∷ [])) name later (simp length-append (omega arith)))
     tt
-few_on offers Missing (standing at (Named len) ∷ later) h = few_on offers (Found (at + 4) len) later h
-few_on offers (Found at₁ len₁) (standing at (Named len) ∷ later) h = tt
+few_on offers None (standing at (Named len) ∷ later) h = few_on offers (Some (record { at = at + 4; len = len })) later h
+few_on offers (Some met) (standing at (Named len) ∷ later) h = tt
 
 few_guarded : (c : Check) (r : Reading) → Few r → Few (guarded c r)
 few_guarded pass r h = h
@@ -53,4 +53,4 @@ few_judged Strict area own (whole offers at len) h = few_cond (agrees area own a
 
 pub few : (way : Way) (area own : List ℕ) (room : ℕ) → Few (reading way area own room)
 unfolding reading walked
-few way area own room = few_judged way area own (walked area room) (few_guarded (check6 17 room) _ (few_on [] Missing (attributes area) (omega arith)))
+few way area own room = few_judged way area own (walked area room) (few_guarded (check6 17 room) _ (few_on [] None (attributes area) (omega arith)))

@@ -1,6 +1,5 @@
-mod Answering
 pub mod Counts
-mod Keeping
 mod Names
+mod Answering
+mod Keeping
 pub mod Using
-mod Walking

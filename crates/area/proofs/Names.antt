@@ -1,6 +1,6 @@
 -- The name of an area that is read whole lies within it.
 use Prim.Native.Nat.{ℕ, zero, suc, ◌+◌, ◌-◌, ◌*◌, ◌≤◌}
-use mathlib.Core.Path.{◌≡◌, refl, ap}
+use mathlib.Core.Path.{◌≡◌, refl, sym, ap, ◌∙◌}
 use mathlib.Core.Bool.{Bool, true, false, cond}
 use mathlib.Core.List.{List, [], ◌∷◌, ◌++◌}
 use native.Mathlib.Omega.{arith}
@@ -15,8 +15,10 @@ use Rattle.area_format.specs.declared.Attribute.TheVariants.{Offer, Named, Other
 use Rattle.area_format.specs.declared.Bytes.{Bytes}
 use Rattle.area_format.specs.declared.Fault.TheVariants.{AttributeBounds, KdfLength, KdfInput, KdfInputPadding}
 use Rattle.area_format.specs.declared.Name.{Name}
-use Rattle.area_format.specs.declared.Name.TheVariants.{Missing, Found}
-use Rattle.area.proofs.reader.Bounds.{not_past}
+use Rattle.std.specs.Prelude.{Option, Some, None, Result, Ok}
+use Rattle.area.specs.Internal.{walked_as}
+use Rattle.area.specs.declared.walk.Stopped.{Stopped}
+use Rattle.area.proofs.reader.Attributes.{not_past}
 
 -- the name of an attribute that ends within the bytes stands within them, after four
 named_within : (bytes : List ℕ) (l : Bytes) → 4 * get_or bytes 1 0 ≤ length bytes → attribute bytes ≡ Named l → 4 + l.0 ≤ length bytes
@@ -39,31 +41,31 @@ named_within bytes l h e =
         omega arith
 
 -- a name that was met stands within so many bytes
-abbrev NameWithin : ℕ → Name → Type 0
-NameWithin size Missing = Unit
-NameWithin size (Found at len) = at + len.0 ≤ size
+abbrev NameWithin : ℕ → Option Name → Type 0
+NameWithin size None = Unit
+NameWithin size (Some name) = name.at + name.len.0 ≤ size
 
 -- which the number alone decides
-name_same : {m n : ℕ} (name : Name) → m ≡ n → NameWithin m name → NameWithin n name
-name_same Missing e w = tt
-name_same (Found a l) e w = omega arith
+name_same : {m n : ℕ} (name : Option Name) → m ≡ n → NameWithin m name → NameWithin n name
+name_same None e w = tt
+name_same (Some name) e w = omega arith
 
 -- at the end the answer has the name that was met
-at_the_end : (offers : List ℕ) (name : Name) (size : ℕ) {o : List ℕ} {a l : ℕ} → NameWithin size name → ended offers name ≡ whole o a l → a + l ≤ size
-at_the_end offers Missing size w e = let z : ◌≡◌ {A = ℕ} 0 1 = cc in omega arith
-at_the_end offers (Found at len) size {o} {a} {l} w e = go (eqb (length offers) 0) e
+at_the_end : (offers : List ℕ) (name : Option Name) (size : ℕ) {o : List ℕ} {a l : ℕ} → NameWithin size name → ended offers name ≡ whole o a l → a + l ≤ size
+at_the_end offers None size w e = let z : ◌≡◌ {A = ℕ} 0 1 = cc in omega arith
+at_the_end offers (Some name) size {o} {a} {l} w e = go (eqb (length offers) 0) e
   where
-    go : (t : Bool) → cond t (refusal (bare 10)) (whole offers at len.0) ≡ whole o a l → a + l ≤ size
+    go : (t : Bool) → cond t (refusal (bare 10)) (whole offers name.at name.len.0) ≡ whole o a l → a + l ≤ size
     go true e = let z : ◌≡◌ {A = ℕ} 0 1 = cc in omega arith
     go false e =
-        let p : at ≡ a = cc in
-        let q : len.0 ≡ l = cc in
+        let p : name.at ≡ a = cc in
+        let q : name.len.0 ≡ l = cc in
         omega arith
 
 -- one attribute more, where the rest of the reading keeps within the bytes
-one_more : (at : ℕ) (m : Attribute) (later : List Standing) (offers : List ℕ) (name : Name) (size : ℕ) {o : List ℕ} {a l : ℕ}
+one_more : (at : ℕ) (m : Attribute) (later : List Standing) (offers : List ℕ) (name : Option Name) (size : ℕ) {o : List ℕ} {a l : ℕ}
     → ((n : Bytes) → m ≡ Named n → at + 4 + n.0 ≤ size)
-    → ((offers : List ℕ) (name : Name) → NameWithin size name → read_on offers name later ≡ whole o a l → a + l ≤ size)
+    → ((offers : List ℕ) (name : Option Name) → NameWithin size name → read_on offers name later ≡ whole o a l → a + l ≤ size)
     → NameWithin size name → read_on offers name (standing at m ∷ later) ≡ whole o a l → a + l ≤ size
 unfolding read_on
 one_more at (Faulty x) later offers name size here rest w e = let z : ◌≡◌ {A = ℕ} 0 1 = cc in omega arith
@@ -73,11 +75,11 @@ one_more at (Offer v) later offers name size {o} {a} {l} here rest w e = go (ltb
     go : (t : Bool) → cond t (read_on (offers ++ (v ∷ [])) name later) (refusal (bare 10)) ≡ whole o a l → a + l ≤ size
     go true e = rest (offers ++ (v ∷ [])) name w e
     go false e = let z : ◌≡◌ {A = ℕ} 0 1 = cc in omega arith
-one_more at (Named n) later offers Missing size here rest w e = rest offers (Found (at + 4) n) (here n refl) e
-one_more at (Named n) later offers (Found i₁ n₁) size here rest w e = let z : ◌≡◌ {A = ℕ} 0 1 = cc in omega arith
+one_more at (Named n) later offers None size here rest w e = rest offers (Some (record { at = at + 4; len = n })) (here n refl) e
+one_more at (Named n) later offers (Some met) size here rest w e = let z : ◌≡◌ {A = ℕ} 0 1 = cc in omega arith
 
 -- by induction on the bytes
-found_within : (left at : ℕ) (bytes offers : List ℕ) (name : Name) {o : List ℕ} {a l : ℕ} → NameWithin (at + length bytes) name
+found_within : (left at : ℕ) (bytes offers : List ℕ) (name : Option Name) {o : List ℕ} {a l : ℕ} → NameWithin (at + length bytes) name
     → read_on offers name (attributes_from left at bytes) ≡ whole o a l → a + l ≤ at + length bytes
 unfolding attributes_from read_on
 found_within left at [] offers name w e = at_the_end offers name (at + 0) w e
@@ -89,7 +91,7 @@ found_within zero at (x ∷ rest) offers name {o} {a} {l} w e =
     go (in_bounds (x ∷ rest)) refl (λ p n v f. found_within (4 * get_or (x ∷ rest) 1 0 - 1) (suc at) rest p n v f) e
   where
     go : (t : Bool) → in_bounds (x ∷ rest) ≡ t
-        → ((p : List ℕ) (n : Name) → NameWithin (suc at + length rest) n → read_on p n (attributes_from (4 * get_or (x ∷ rest) 1 0 - 1) (suc at) rest) ≡ whole o a l → a + l ≤ suc at + length rest)
+        → ((p : List ℕ) (n : Option Name) → NameWithin (suc at + length rest) n → read_on p n (attributes_from (4 * get_or (x ∷ rest) 1 0 - 1) (suc at) rest) ≡ whole o a l → a + l ≤ suc at + length rest)
         → read_on offers name (cond t (standing at (attribute (x ∷ rest)) ∷ attributes_from (4 * get_or (x ∷ rest) 1 0 - 1) (suc at) rest) (standing at (Faulty AttributeBounds) ∷ [])) ≡ whole o a l
         → a + l ≤ at + suc (length rest)
     go true h ih e =
@@ -99,8 +101,12 @@ found_within zero at (x ∷ rest) offers name {o} {a} {l} w e =
     go false h ih e = let z : ◌≡◌ {A = ℕ} 0 1 = cc in omega arith
 
 -- the name of an area that is read whole stands within it
-pub name-within : (area : List ℕ) {o : List ℕ} {a l : ℕ} → read_on [] Missing (attributes area) ≡ whole o a l → a + l ≤ length area
+pub name-within : (area : List ℕ) {o : List ℕ} {a l : ℕ} → read_on [] None (attributes area) ≡ whole o a l → a + l ≤ length area
 unfolding attributes
 name-within area {o} {a} {l} e =
-    let r : a + l ≤ 0 + length area = found_within 0 0 area [] Missing tt e in
+    let r : a + l ≤ 0 + length area = found_within 0 0 area [] None tt e in
     omega arith
+
+-- the name that a walk found
+pub name_of : (area offers : List ℕ) {result : Result Name Stopped} {name : Name} → walked_as result offers ≡ read_on [] None (attributes area) → result ≡ Ok name → name.at + name.len.0 ≤ length area
+name_of area offers e is = name-within area (sym e ∙ ap (λ (r : Result Name Stopped). walked_as r offers) is)

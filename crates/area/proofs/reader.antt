@@ -1,4 +1,2 @@
-mod Attributes
-pub mod Bounds
-pub mod Onward
-mod Padding
+pub mod Attributes
+mod Onward

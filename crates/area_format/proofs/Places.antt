@@ -11,7 +11,7 @@ use Rattle.area_format.specs.declared.Attribute.{Attribute}
 use Rattle.area_format.specs.declared.Attribute.TheVariants.{Offer, Named, Other, Faulty}
 use Rattle.area_format.specs.declared.Fault.TheVariants.{AttributeBounds, KdfLength, KdfInput, KdfInputPadding, NetworkName, OfferCount}
 use Rattle.area_format.specs.declared.Name.{Name}
-use Rattle.area_format.specs.declared.Name.TheVariants.{Missing, Found}
+use Rattle.std.specs.Prelude.{Option, Some, None}
 use Rattle.area_format.specs.Area.{words_of, number_of, type_of, words_for, padding, zeros, in_bounds, kdf, kdf_input, attribute, Standing, standing, attributes_from}
 use Rattle.area_format.specs.Area.{attributes, Reading, whole, refusal, read_on, guarded, agrees, judged, walked, reading, refused, area_answer_to, area_answer}
 use Rattle.area_format.specs.declared.Way.{Way}
@@ -37,8 +37,8 @@ never bytes =
     (λ e. let z : ◌≡◌ {A = ℕ} 0 1 = cc in omega arith))
 
 -- past an attribute that is none such, 16 is met later
-later_16 : (at : ℕ) (m : Attribute) (later : List Standing) (offers : List ℕ) (name : Name) {i : ℕ} → (m ≡ Faulty AttributeBounds → ⊥)
-    → read_on offers name (standing at m ∷ later) ≡ refusal (located 16 i) → (o : List ℕ) × (n : Name) × (read_on o n later ≡ refusal (located 16 i))
+later_16 : (at : ℕ) (m : Attribute) (later : List Standing) (offers : List ℕ) (name : Option Name) {i : ℕ} → (m ≡ Faulty AttributeBounds → ⊥)
+    → read_on offers name (standing at m ∷ later) ≡ refusal (located 16 i) → (o : List ℕ) × (n : Option Name) × (read_on o n later ≡ refusal (located 16 i))
 unfolding read_on
 later_16 at (Faulty AttributeBounds) later offers name not e = elim (not refl) [ ]
 later_16 at (Faulty KdfLength) later offers name not e = let z : ◌≡◌ {A = ℕ} 0 1 = cc in let none : ⊥ = omega arith in elim none [ ]
@@ -49,11 +49,11 @@ later_16 at (Faulty OfferCount) later offers name not e = let z : ◌≡◌ {A =
 later_16 at Other later offers name not e = (offers, name, e)
 later_16 at (Offer v) later offers name {i} not e = go (ltb (length offers) 17) _ e
   where
-    go : (t : Bool) (o : List ℕ) → cond t (read_on o name later) (refusal (bare 10)) ≡ refusal (located 16 i) → (o : List ℕ) × (n : Name) × (read_on o n later ≡ refusal (located 16 i))
+    go : (t : Bool) (o : List ℕ) → cond t (read_on o name later) (refusal (bare 10)) ≡ refusal (located 16 i) → (o : List ℕ) × (n : Option Name) × (read_on o n later ≡ refusal (located 16 i))
     go true o e = (o, name, e)
     go false o e = let z : ◌≡◌ {A = ℕ} 0 1 = cc in let none : ⊥ = omega arith in elim none [ ]
-later_16 at (Named len) later offers Missing not e = (offers, Found (at + 4) len, e)
-later_16 at (Named len) later offers (Found i₁ n₁) not e = let z : ◌≡◌ {A = ℕ} 0 1 = cc in let none : ⊥ = omega arith in elim none [ ]
+later_16 at (Named len) later offers None not e = (offers, Some (record { at = at + 4; len = len }), e)
+later_16 at (Named len) later offers (Some met) not e = let z : ◌≡◌ {A = ℕ} 0 1 = cc in let none : ⊥ = omega arith in elim none [ ]
 
 -- the bytes that stand at an offset, and their attributes, of which the last is outside the area, at the offset i
 record Outside (at i : ℕ) (bytes : List ℕ) (all : List Standing) : Type 0 where
@@ -64,7 +64,7 @@ record Outside (at i : ℕ) (bytes : List ℕ) (all : List Standing) : Type 0 wh
   before : List Standing
   last : all ≡ before ++ (standing i (Faulty AttributeBounds) ∷ [])
 
-met_16 : (left at : ℕ) (bytes offers : List ℕ) (name : Name) {i : ℕ} → read_on offers name (attributes_from left at bytes) ≡ refusal (located 16 i) → Outside at i bytes (attributes_from left at bytes)
+met_16 : (left at : ℕ) (bytes offers : List ℕ) (name : Option Name) {i : ℕ} → read_on offers name (attributes_from left at bytes) ≡ refusal (located 16 i) → Outside at i bytes (attributes_from left at bytes)
 unfolding attributes_from read_on
 met_16 left at [] offers name e =
     elim (not-ended offers name (λ f. let z : ◌≡◌ {A = ℕ} 19 16 = cc in omega arith) (λ f. let z : ◌≡◌ {A = ℕ} 10 16 = cc in omega arith) e) [ ]
@@ -76,7 +76,7 @@ met_16 (suc left) at (x ∷ rest) offers name {i} e =
 met_16 zero at (x ∷ rest) offers name {i} e = go (in_bounds (x ∷ rest)) refl (λ o n f. met_16 (4 * get_or (x ∷ rest) 1 0 - 1) (suc at) rest o n f) e
   where
     go : (t : Bool) → in_bounds (x ∷ rest) ≡ t
-        → ((o : List ℕ) (n : Name) → read_on o n (attributes_from (4 * get_or (x ∷ rest) 1 0 - 1) (suc at) rest) ≡ refusal (located 16 i) → Outside (suc at) i rest (attributes_from (4 * get_or (x ∷ rest) 1 0 - 1) (suc at) rest))
+        → ((o : List ℕ) (n : Option Name) → read_on o n (attributes_from (4 * get_or (x ∷ rest) 1 0 - 1) (suc at) rest) ≡ refusal (located 16 i) → Outside (suc at) i rest (attributes_from (4 * get_or (x ∷ rest) 1 0 - 1) (suc at) rest))
         → read_on offers name (cond t (standing at (attribute (x ∷ rest)) ∷ attributes_from (4 * get_or (x ∷ rest) 1 0 - 1) (suc at) rest) (standing at (Faulty AttributeBounds) ∷ [])) ≡ refusal (located 16 i)
         → Outside at i (x ∷ rest) (cond t (standing at (attribute (x ∷ rest)) ∷ attributes_from (4 * get_or (x ∷ rest) 1 0 - 1) (suc at) rest) (standing at (Faulty AttributeBounds) ∷ []))
     go true h ih e =
@@ -90,9 +90,9 @@ met_16 zero at (x ∷ rest) offers name {i} e = go (in_bounds (x ∷ rest)) refl
         record { past = 0; place = omega arith; within = omega arith; out = h; before = []; last = ap (λ (k : ℕ). standing k (Faulty AttributeBounds) ∷ []) p }
 
 -- an answer of 16 is a reading of 16 by the walk, past the test of the room and before the name is judged
-read_16 : (way : Way) (area own : List ℕ) (room i : ℕ) → area_answer way area own room ≡ refused (located 16 i) → read_on [] Missing (attributes area) ≡ refusal (located 16 i)
+read_16 : (way : Way) (area own : List ℕ) (room i : ℕ) → area_answer way area own room ≡ refused (located 16 i) → read_on [] None (attributes area) ≡ refusal (located 16 i)
 unfolding area_answer reading walked unless
-read_16 way area own room i e = go (leb 17 room) (read_on [] Missing (attributes area)) way e
+read_16 way area own room i e = go (leb 17 room) (read_on [] None (attributes area)) way e
   where
     judge : (t : Bool) (offers : List ℕ) (at len : ℕ) → area_answer_to area own (cond t (whole offers at len) (refusal (bare 30))) ≡ refused (located 16 i) → ⊥
     judge true offers at len e = let z : ◌≡◌ {A = ℕ} 0 1 = cc in omega arith
@@ -109,7 +109,7 @@ read_16 way area own room i e = go (leb 17 room) (read_on [] Missing (attributes
 pub bounds_place : BoundsPlace
 unfolding attributes
 bounds_place way area own room i e =
-    let o = met_16 0 0 area [] Missing (read_16 way area own room i e) in
+    let o = met_16 0 0 area [] None (read_16 way area own room i e) in
     let q : i ≡ 0 + o.past = o.place in
     let p : i ≡ o.past = omega arith in
     let w : o.past < length area = o.within in

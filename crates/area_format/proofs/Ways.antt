@@ -11,7 +11,7 @@ use Rattle.area_format.specs.declared.Attribute.TheVariants.{Offer, Named, Other
 use Rattle.area_format.specs.declared.Fault.{Fault}
 use Rattle.area_format.specs.declared.Fault.TheVariants.{AttributeBounds, KdfLength, KdfInput, KdfInputPadding, NetworkName, OfferCount}
 use Rattle.area_format.specs.declared.Name.{Name}
-use Rattle.area_format.specs.declared.Name.TheVariants.{Missing, Found}
+use Rattle.std.specs.Prelude.{Option, Some, None}
 use Rattle.area_format.specs.declared.Way.TheVariants.{Strict}
 use Rattle.area_format.specs.Area.{Standing, standing, attributes, Reading, whole, refusal, fault_at, read_on, guarded}
 use Rattle.area_format.specs.Area.{agrees, judged, walked, reading, answered, refused, area_answer_to, area_answer, area_buffer}
@@ -27,7 +27,7 @@ not_fault at KdfInputPadding e = let z : ◌≡◌ {A = ℕ} 29 30 = cc in omega
 not_fault at NetworkName e = let z : ◌≡◌ {A = ℕ} 19 30 = cc in omega arith
 not_fault at OfferCount e = let z : ◌≡◌ {A = ℕ} 10 30 = cc in omega arith
 
-not_read : (offers : List ℕ) (name : Name) (later : List Standing) → read_on offers name later ≡ refusal (bare 30) → ⊥
+not_read : (offers : List ℕ) (name : Option Name) (later : List Standing) → read_on offers name later ≡ refusal (bare 30) → ⊥
 unfolding read_on
 not_read offers name [] e =
     not-ended offers name (λ f. let z : ◌≡◌ {A = ℕ} 19 30 = cc in omega arith) (λ f. let z : ◌≡◌ {A = ℕ} 10 30 = cc in omega arith) e
@@ -38,15 +38,15 @@ not_read offers name (standing at (Offer v) ∷ later) e = go (ltb (length offer
     go : (t : Bool) (r : Reading) → (r ≡ refusal (bare 30) → ⊥) → cond t r (refusal (bare 10)) ≡ refusal (bare 30) → ⊥
     go true r never e = never e
     go false r never e = let z : ◌≡◌ {A = ℕ} 10 30 = cc in omega arith
-not_read offers Missing (standing at (Named len) ∷ later) e = not_read offers (Found (at + 4) len) later e
-not_read offers (Found at₁ len₁) (standing at (Named len) ∷ later) e = let z : ◌≡◌ {A = ℕ} 19 30 = cc in omega arith
+not_read offers None (standing at (Named len) ∷ later) e = not_read offers (Some (record { at = at + 4; len = len })) later e
+not_read offers (Some met) (standing at (Named len) ∷ later) e = let z : ◌≡◌ {A = ℕ} 19 30 = cc in omega arith
 
 not-walked : (area : List ℕ) (room : ℕ) → walked area room ≡ refusal (bare 30) → ⊥
 unfolding walked unless
 not-walked area room e = go (leb 17 room) e
   where
-    go : (t : Bool) → guarded (unless t (bare 6)) (read_on [] Missing (attributes area)) ≡ refusal (bare 30) → ⊥
-    go true e = not_read [] Missing (attributes area) e
+    go : (t : Bool) → guarded (unless t (bare 6)) (read_on [] None (attributes area)) ≡ refusal (bare 30) → ⊥
+    go true e = not_read [] None (attributes area) e
     go false e = let z : ◌≡◌ {A = ℕ} 6 30 = cc in omega arith
 
 pub lenient_as_before : LenientAsBefore

@@ -1,6 +1,6 @@
 -- The attribute area that carries the offers (document 01, "Attribute area"; RFC 5448 sections 3.1 and 3.2): the attributes that stand
 -- in it, and what reading it answers and leaves in the buffer that is lent for the offers.
-use Rattle.std.specs.Prelude.{ℕ, zero, suc, ◌+◌, ◌-◌, ◌*◌, ◌/◌, Bool, true, cond, ◌&&◌, List, [], ◌∷◌, ◌++◌, length, get_or, take, drop, leb, ltb, eqb}
+use Rattle.std.specs.Prelude.{ℕ, zero, suc, ◌+◌, ◌-◌, ◌*◌, ◌/◌, Bool, true, cond, ◌&&◌, Option, Some, None, List, [], ◌∷◌, ◌++◌, length, get_or, take, drop, leb, ltb, eqb}
 use Rattle.refusal.specs.Checks.{Reason, bare, located, Check, pass, refuse, check6}
 use Rattle.slices.specs.Numbers.{be16_at}
 use Rattle.area_format.specs.declared.Attribute.{Attribute}
@@ -10,7 +10,6 @@ use Rattle.area_format.specs.declared.Fault.TheVariants.{AttributeBounds, KdfLen
 use Rattle.area_format.specs.declared.Words.{Words}
 use Rattle.area_format.specs.declared.Bytes.{Bytes}
 use Rattle.area_format.specs.declared.Name.{Name}
-use Rattle.area_format.specs.declared.Name.TheVariants.{Missing, Found}
 use Rattle.area_format.specs.declared.Way.{Way}
 use Rattle.area_format.specs.declared.Way.TheVariants.{Strict, Lenient}
 use Rattle.area_format.specs.Names.{same_fields}
@@ -86,9 +85,9 @@ pub data Reading : Type 0 where
   refusal : Reason → Reading
 
 -- at the end: 19 if no name, then 10 if no offer
-abbrev pub ended : List ℕ → Name → Reading
-ended offers Missing = refusal (bare 19)
-ended offers (Found at len) = cond (eqb (length offers) 0) (refusal (bare 10)) (whole offers at len.0)
+abbrev pub ended : List ℕ → Option Name → Reading
+ended offers None = refusal (bare 19)
+ended offers (Some name) = cond (eqb (length offers) 0) (refusal (bare 10)) (whole offers name.at name.len.0)
 
 -- the number of what is wrong with an attribute; 16 carries the attribute's offset (document 02, request 1)
 abbrev pub fault_at : ℕ → Fault → Reason
@@ -101,13 +100,13 @@ fault_at at OfferCount = bare 10
 
 -- reading on, past the offers and the name met so far: a fault of the attribute first, then a repeated name (19) or the eighteenth AT_KDF (10). A
 -- name stands four bytes after its attribute's first.
-unfoldable pub read_on : List ℕ → Name → List Standing → Reading
+unfoldable pub read_on : List ℕ → Option Name → List Standing → Reading
 read_on offers name [] = ended offers name
 read_on offers name (standing at (Faulty x) ∷ later) = refusal (fault_at at x)
 read_on offers name (standing at Other ∷ later) = read_on offers name later
 read_on offers name (standing at (Offer v) ∷ later) = cond (ltb (length offers) 17) (read_on (offers ++ (v ∷ [])) name later) (refusal (bare 10))
-read_on offers Missing (standing at (Named len) ∷ later) = read_on offers (Found (at + 4) len) later
-read_on offers (Found at₁ len₁) (standing at (Named len) ∷ later) = refusal (bare 19)
+read_on offers None (standing at (Named len) ∷ later) = read_on offers (Some (record { at = at + 4; len = len })) later
+read_on offers (Some met) (standing at (Named len) ∷ later) = refusal (bare 19)
 
 -- where the tests before it pass, the reading
 abbrev pub guarded : Check → Reading → Reading
@@ -126,7 +125,7 @@ judged Strict area own (whole offers at len) = cond (agrees area own at len) (wh
 
 -- the walk through an area, with room for so many offers: room for 17 is checked first (6)
 unfoldable pub walked : List ℕ → ℕ → Reading
-walked area room = guarded (check6 17 room) (read_on [] Missing (attributes area))
+walked area room = guarded (check6 17 room) (read_on [] None (attributes area))
 
 -- reading an area by the chosen way, the peer's own name being lent
 unfoldable pub reading : Way → List ℕ → List ℕ → ℕ → Reading

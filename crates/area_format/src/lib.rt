@@ -1,13 +1,26 @@
 // The attribute area that carries the offers (document 01, "Attribute area"; RFC 5448 sections 3.1 and 3.2): the attributes that stand in it, and the
-// definition of what reading it answers. There is no code here.
+// definition of what reading it answers. The one function here makes bytes of words.
 #![tactic(auto)]
 
-// Attribute Length counts four-byte words, the name length counts bytes: a type for each, so that neither is taken for the other.
+ghost use Rattle.std.specs.Prelude.{◌≡◌};
+ghost use Rattle.area_format.specs.Area.{in_bytes};
+
+// Attribute Length counts four-byte words, the name length counts bytes: a type for each, so that neither is taken for the other. The length of an
+// attribute has one byte.
 #[derive(Clone, Copy)]
-pub struct Words(pub usize);
+pub struct Words(pub u8);
 
 #[derive(Clone, Copy)]
 pub struct Bytes(pub usize);
+
+// The one conversion between the two counts.
+impl From<Words> for Bytes {
+    ghost from_gives = { λ words bytes. bytes ≡ in_bytes words };
+
+    fn from(words: Words) -> Bytes {
+        Bytes(4 * usize::from(words.0))
+    }
+}
 
 // What stands in the area: an AT_KDF with its value; an AT_KDF_INPUT with its name's length; any other attribute; or one that is refused.
 #[derive(Drop)]
@@ -43,9 +56,9 @@ pub enum Way {
     Lenient,
 }
 
-// The name, once it has been met: its offset from the area's first byte, and its length.
+// The name that an area holds: its offset from the area's first byte, and its length.
 #[derive(Clone, Copy)]
-pub enum Name {
-    Missing,
-    Found { at: usize, len: Bytes },
+pub struct Name {
+    pub at: usize,
+    pub len: Bytes,
 }

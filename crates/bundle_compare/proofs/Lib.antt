@@ -1,6 +1,4 @@
-mod Accepted
-mod Places
-mod Entries
-mod Tallying
+mod Finding
 mod Listing
+mod Filling
 mod Comparing

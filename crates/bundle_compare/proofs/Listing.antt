@@ -1,68 +1,92 @@
--- The entries by the kinds of the lines are those of the definitions, for accepted files.
-use Prim.Native.Nat.{ℕ, zero, suc, ◌+◌, ◌-◌, ◌≤◌, ◌<◌}
+-- Entries written one after the other.
+use Prim.Native.Nat.{ℕ, ◌+◌, ◌≤◌, ◌<◌}
 use mathlib.Core.Path.{◌≡◌, refl, sym, ap, ◌∙◌}
-use mathlib.Core.Bool.{Bool, true, false, cond}
-use mathlib.Core.List.{List, [], ◌∷◌, ◌++◌, append-nil, append_assoc, map}
-use native.Mathlib.Nat.{sub-zero}
-use native.Mathlib.Numerals.{add-one}
+use mathlib.Core.List.{List, [], ◌∷◌, ◌++◌, append-nil, append_assoc}
 use native.Mathlib.Omega.{arith}
-use lib.Dec.{eqb}
-use lib.ListN.{get_or}
-use Rattle.refusal.specs.Checks.{pass}
-use Rattle.bundle_rules.specs.Bundle.{line_at, lines_from, count_in, body_of, bodies_of, bundle_check}
-use Rattle.bundle_contents.proofs.Contents.{lines_done}
-use Rattle.compare_rules.specs.Compare.{Entry, listed, first_entries, second_entries}
-use Rattle.bundle_compare.specs.Internal.{kind_at, kinds_to, entries_to}
-use Rattle.bundle_compare.proofs.Places.{first_next, second_next, kind_told}
+use lib.ListN.{length, take, drop, get_or, length-append, length-drop, take-append-drop}
+use lib.Seq.{drop-cons, length-take-le, take_at, drop_at, drop-drop}
+use native.Mathlib.Numerals.{add-one}
+use Rattle.std.specs.Prelude.{Option, Some, None}
+use Rattle.bundle_rules.specs.Bundle.{key_id_in}
+use Rattle.compare_rules.specs.Compare.{Entry, listed, written}
+use Rattle.bundle_compare.specs.declared.changes.Change.{Change}
+use Rattle.bundle_compare.specs.declared.changes.Change.TheVariants.{OnlyFirst, Changed, OnlySecond}
+use Rattle.bundle_compare.specs.Changes.{number_of, listed_by}
 
--- ---- the entries of the first lines, and of those after them
+pub written_append : (a b : List Entry) → written (a ++ b) ≡ written a ++ written b
+unfolding written
+written_append [] b = refl
+written_append (e ∷ a) b = ap (λ (l : List ℕ). (e.kind ∷ e.id) ++ l) (written_append a b) ∙ sym (append_assoc (e.kind ∷ e.id) (written a) (written b))
 
-listed_append : (kind : ℕ) (id : List ℕ) (more : List Entry) → listed kind id [] ++ more ≡ listed kind id more
-unfolding listed
-listed_append kind id more = go (eqb kind 0)
+-- the bytes of an entry before others
+one_written : (change : Change) (id : List ℕ) (more : List Entry) → written (listed (number_of (Some change)) id more) ≡ (number_of (Some change) ∷ id) ++ written more
+unfolding written listed
+one_written OnlyFirst id more = refl
+one_written Changed id more = refl
+one_written OnlySecond id more = refl
+
+-- `all` are all the bytes, and `left` those that are still to be written
+pub record Listed (all l₀ l left : List ℕ) (from at : ℕ) : Type 0 where
+  pub sum : at + length left ≡ from + length all
+  pub size : length l ≡ length l₀
+  pub whole : take from l₀ ++ all ≡ take at l ++ left
+  pub rest : drop at l ≡ drop at l₀
+
+-- one more of them
+module _ (part left : List ℕ) {all l₀ l old : List ℕ} {from at : ℕ} (o : old ≡ part ++ left) (s : Listed all l₀ l old from at) (h : from + length all ≤ length l₀) where
+  pub part_room : at + length part ≤ length l
+  part_room = omega (arith, s.sum, s.size, ap length o, length-append part left)
+
+  pub part_on : {next m : ℕ} {l' : List ℕ} → next ≡ at + length part → m ≡ at + length part → l' ≡ take at l ++ (part ++ drop m l) → Listed all l₀ l' left from next
+  part_on {l' = l'} q r e₀ =
+      let e = rw r at e₀ in
+      let n : ℕ = length part in
+      let t : length (take at l) ≡ at = length-take-le at l (omega (arith, part_room)) in
+      let tn : length (take at l ++ part) ≡ at + n = simp length-append (omega arith) in
+      let e' : l' ≡ (take at l ++ part) ++ drop (at + n) l = e ∙ sym (append_assoc (take at l) part (drop (at + n) l)) in
+      let done : take (at + n) l' ≡ take at l ++ part = ap (take (at + n)) e' ∙ take_at (take at l ++ part) (drop (at + n) l) (at + n) tn in
+      let after : drop (at + n) l' ≡ drop (at + n) l = ap (drop (at + n)) e' ∙ drop_at (take at l ++ part) (drop (at + n) l) (at + n) tn in
+      let same : drop (at + n) l ≡ drop (at + n) l₀ = sym (drop-drop n at l) ∙ ap (drop n) s.rest ∙ drop-drop n at l₀ in
+      let fits = part_room in
+      let dl = length-drop (at + n) l in
+      let long : length (take at l ++ part) + length (drop (at + n) l) ≡ length l = omega arith in
+      rw q
+      record {
+        sum = omega (arith, s.sum, ap length o, length-append part left);
+        size = ap length e' ∙ length-append (take at l ++ part) (drop (at + n) l) ∙ long ∙ s.size;
+        whole = s.whole ∙ rw o (sym (append_assoc (take at l) part left)) ∙ ap (λ (x : List ℕ). x ++ left) (sym done);
+        rest = after ∙ same;
+      }
+
+pub listed_start : (all l : List ℕ) (from : ℕ) → Listed all l l all from from
+listed_start all l from = record { sum = refl; size = refl; whole = refl; rest = refl }
+
+pub listed_end : {all l₀ l left : List ℕ} {from at : ℕ} → left ≡ [] → Listed all l₀ l left from at
+    → (at ≡ from + length all) × (l ≡ take from l₀ ++ (all ++ drop at l₀))
+listed_end {all} {l₀} {l} {from = from} {at = at} e s =
+    let n = ap length e in
+    let w : take from l₀ ++ all ≡ take at l = s.whole ∙ rw e (append-nil (take at l)) in
+    (omega (arith, s.sum), sym (take-append-drop at l) ∙ (λ i. sym w i ++ s.rest i) ∙ append_assoc (take from l₀) all (drop at l₀))
+
+-- ---- the entries of attributes, by what changed for each
+
+module _ {changes more : List (Option Change)} {bodies rest : List (List ℕ)} {change : Option Change} {b : List ℕ} (e : changes ≡ change ∷ more) (o : bodies ≡ b ∷ rest) where
+  pub none-listed : change ≡ None → written (listed_by changes bodies) ≡ written (listed_by more rest)
+  unfolding listed_by listed
+  none-listed p = rw (e, o, p)
+
+  pub one_listed : (c : Change) → change ≡ Some c → written (listed_by changes bodies) ≡ (number_of (Some c) ∷ key_id_in b) ++ written (listed_by more rest)
+  unfolding listed_by
+  one_listed c p = rw (e, o, p) (one_written c (key_id_in b) (listed_by more rest))
+
+pub no_bodies : (changes : List (Option Change)) {bodies : List (List ℕ)} → bodies ≡ [] → written (listed_by changes bodies) ≡ []
+unfolding listed_by written
+no_bodies changes e = rw e (go changes)
   where
-    go : (t : Bool) → cond t [] (record { kind = kind; id = id } ∷ []) ++ more ≡ cond t more (record { kind = kind; id = id } ∷ more)
-    go true = refl
-    go false = refl
+    go : (l : List (Option Change)) → written (listed_by l []) ≡ []
+    go [] = refl
+    go (x ∷ l) = refl
 
--- where each step of a walk lists the kind that stands in the list, what the walk has listed and what it has to list are all
-module _ (kinds f : List ℕ) (n : ℕ) (rest : ℕ → List Entry)
-    (next : (i : ℕ) → i < n → rest i ≡ listed (get_or kinds i 0) (line_at f i).id (rest (i + 1))) where
-  walked : (i : ℕ) → i ≤ n → entries_to kinds f i ++ rest i ≡ rest 0
-  unfolding entries_to
-  walked zero h = refl
-  walked (suc i) h =
-      let here = rw (add-one i) at (next i (omega arith)) in
-      append_assoc (entries_to kinds f i) (listed (get_or kinds i 0) (line_at f i).id []) (rest (suc i))
-      ∙ ap (λ (l : List Entry). entries_to kinds f i ++ l) (listed_append (get_or kinds i 0) (line_at f i).id (rest (suc i)) ∙ sym here)
-      ∙ walked i (omega arith)
-
-  all-walked : rest n ≡ [] → entries_to kinds f n ≡ rest 0
-  all-walked e = sym (append-nil (entries_to kinds f n)) ∙ ap (λ (l : List Entry). entries_to kinds f n ++ l) (sym e) ∙ walked n (omega arith)
-
--- ---- the two lists
-
-no_lines : (f : List ℕ) → map (body_of f) (lines_from f (count_in f) (count_in f - count_in f)) ≡ []
-no_lines f = ap (map (body_of f)) (lines_done f (count_in f) (count_in f) (omega arith))
-
--- the entries of a file's lines by their kinds are a list of its bodies that grows by one entry a line
-list_of :
-    (f kinds : List ℕ) (kind : ℕ → ℕ) (of : List (List ℕ) → List Entry)
-    → ((i : ℕ) → i < count_in f → of (map (body_of f) (lines_from f i (count_in f - i))) ≡ listed (kind i) (line_at f i).id (of (map (body_of f) (lines_from f (i + 1) (count_in f - (i + 1))))))
-    → of [] ≡ []
-    → (rest : List ℕ) → kinds ≡ kinds_to kind (count_in f) ++ rest
-    → entries_to kinds f (count_in f) ≡ of (bodies_of f)
-list_of f kinds kind of next none rest e =
-    all-walked kinds f (count_in f) (λ i. of (map (body_of f) (lines_from f i (count_in f - i))))
-    (λ i h. next i h ∙ ap (λ (k : ℕ). listed k (line_at f i).id (of (map (body_of f) (lines_from f (i + 1) (count_in f - (i + 1)))))) (sym (kind_told kind (count_in f) i rest e h)))
-    (ap of (no_lines f) ∙ none)
-    ∙ rw (sub-zero (count_in f))
-
-module _ (f s : List ℕ) (p : bundle_check f ≡ pass) (q : bundle_check s ≡ pass) (kinds : List ℕ) where
-  pub first_list : (rest : List ℕ) → kinds ≡ kinds_to (kind_at 1 2 f s) (count_in f) ++ rest → entries_to kinds f (count_in f) ≡ first_entries (bodies_of s) (bodies_of f)
-  unfolding first_entries
-  first_list = list_of f kinds (kind_at 1 2 f s) (first_entries (bodies_of s)) (λ i h. first_next f s i p q h) refl
-
-  pub second_list : (rest : List ℕ) → kinds ≡ kinds_to (kind_at 3 0 s f) (count_in s) ++ rest → entries_to kinds s (count_in s) ≡ second_entries (bodies_of f) (bodies_of s)
-  unfolding second_entries
-  second_list = list_of s kinds (kind_at 3 0 s f) (second_entries (bodies_of f)) (λ i h. second_next f s i p q h) refl
+-- what an array has from a place on
+pub from_here : (changes : List (Option Change)) {i n : ℕ} (k : ℕ) → i ≡ k → n ≡ k + 1 → k < length changes → drop k changes ≡ get_or changes i None ∷ drop n changes
+from_here changes k p q h = rw (p, q, add-one k) (drop-cons changes k None h)

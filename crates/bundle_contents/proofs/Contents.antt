@@ -7,7 +7,7 @@ use native.Mathlib.Omega.{arith}
 use lib.ListN.{length, take, drop, length-drop}
 use lib.Seq.{length-take-le}
 use Rattle.slices.specs.Numbers.{be16_at}
-use Rattle.bundle_rules.specs.Bundle.{contents_end, line_at, lines_from, body_of}
+use Rattle.bundle_rules.specs.Bundle.{contents_end, line_at, lines_from}
 
 -- ---- a line that begins at a place
 
@@ -36,13 +36,6 @@ id_long f i e h =
     let d = length-drop (2 + 20 * i) f in
     ap length e ∙ length-take-le 16 (drop (2 + 20 * i) f) (omega arith)
 
--- the part of the file that its numbers name is its body
-pub body_told : (f : List ℕ) (i offset size : ℕ) → offset ≡ (line_at f i).offset → size ≡ (line_at f i).size → take (offset + size - offset) (drop offset f) ≡ body_of f (line_at f i)
-unfolding body_of
-body_told f i offset size o s =
-    let m : offset + size - offset ≡ size = omega arith in
-    rw (m, o, s)
-
 -- ---- the lines from one on
 
 pub lines_next : (f : List ℕ) (i n : ℕ) → i < n → lines_from f i (n - i) ≡ line_at f i ∷ lines_from f (i + 1) (n - (i + 1))
@@ -56,3 +49,9 @@ unfolding lines_from
 lines_done f i n h =
     let m : n - i ≡ 0 = omega arith in
     rw m
+
+-- the next of them, by its parts as they were read
+pub lines_read : (f : List ℕ) (i n : ℕ) {id : List ℕ} {offset size : ℕ} → i < n → id ≡ (line_at f i).id → offset ≡ (line_at f i).offset → size ≡ (line_at f i).size
+    → lines_from f i (n - i) ≡ record { id = id; offset = offset; size = size } ∷ lines_from f (i + 1) (n - (i + 1))
+unfolding line_at
+lines_read f i n h p o s = rw (p, o, s) (lines_next f i n h)

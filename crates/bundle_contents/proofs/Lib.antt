@@ -1,4 +1,6 @@
 pub mod Contents
+mod Attributes
+mod Accepted
 mod Walking
-mod Bodies
+mod Inside
 mod Tests

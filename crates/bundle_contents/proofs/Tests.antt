@@ -1,73 +1,50 @@
 -- The tests of a file in their order: what they come to where the first that does not hold is known, and where all before the bodies hold.
-use Prim.Native.Nat.{ℕ, ◌≤◌, ◌<◌}
+use Prim.Native.Nat.{ℕ}
 use mathlib.Core.Path.{◌≡◌, ◌∙◌}
-use mathlib.Core.Bool.{true, false, not, ◌&&◌, and-false}
+use mathlib.Core.Bool.{Bool, true, false, not}
 use mathlib.Core.List.{List}
-use borrow.Author.Tests.{le-leb, lt-leb, eq-eqb, ne_eqb}
-use lib.Dec.{leb}
+use lib.Dec.{eqb, leb}
 use lib.ListN.{length}
-use Rattle.refusal.proofs.Passing.{within_holds}
-use Rattle.refusal.specs.Checks.{Check, refuse, bare, unless, ◌and_then◌, within}
-use Rattle.bundle_rules.specs.Bundle.{contents_end, id_repeats, lines_from, count_in, follow, last_end, ids_of, bodies_check, contents_check, bundle_check}
+use Rattle.refusal.specs.Checks.{Reason, Check, refuse, bare, unless, within}
+use Rattle.bundle_rules.specs.Bundle.{contents_end, id_repeats, Line, lines_from, count_in, follow, last_end, ids_of, bodies_check, contents_check, bundle_check}
 
-pub bundle_short : (f : List ℕ) → length f < 2 → refuse (bare 39) ≡ bundle_check f
-unfolding bundle_check contents_check unless ◌and_then◌
-bundle_short f h = rw (lt-leb 2 (length f) h)
+-- a test that refuses does not hold, and its refusal is its own
+pub stopped : (t : Bool) (x : Reason) {y : Reason} {out : Check} → refuse y ≡ unless t x → out ≡ refuse y → (t ≡ false) × (out ≡ refuse x)
+unfolding unless
+stopped true x e o = (cc, cc)
+stopped false x e o = (cc, o ∙ e)
 
-pub bundle_none : (f : List ℕ) (n : ℕ) → n ≡ count_in f → n < 1 → refuse (bare 39) ≡ bundle_check f
-unfolding bundle_check contents_check unless ◌and_then◌ within
-bundle_none f n q h = rw (← q, lt-leb 1 n h, and-false)
+module _ (f : List ℕ) where
+  pub bundle_short : leb 2 (length f) ≡ false → bundle_check f ≡ refuse (bare 39)
+  unfolding bundle_check contents_check unless
+  bundle_short t = rw t
 
-pub bundle_many : (f : List ℕ) (n : ℕ) → n ≡ count_in f → 64 < n → refuse (bare 39) ≡ bundle_check f
-unfolding bundle_check contents_check unless ◌and_then◌ within
-bundle_many f n q h = rw (← q, lt-leb n 64 h, and-false, and-false)
+  module _ (n : ℕ) (count : n ≡ count_in f) (two : leb 2 (length f) ≡ true) where
+    pub bundle_miscounted : within 1 64 n ≡ false → bundle_check f ≡ refuse (bare 39)
+    unfolding bundle_check contents_check unless
+    bundle_miscounted t = rw (← count, two, t)
 
--- 39 passes: n is the count, and is within its bounds
-pub record Counted (f : List ℕ) (n : ℕ) : Type 0 where
-  pub count : n ≡ count_in f
-  pub two : 2 ≤ length f
-  pub low : 1 ≤ n
-  pub high : n ≤ 64
+    module _ (range : within 1 64 n ≡ true) where
+      pub bundle_cut : leb (contents_end n) (length f) ≡ false → bundle_check f ≡ refuse (bare 40)
+      unfolding bundle_check contents_check unless
+      bundle_cut t = rw (← count, two, range, t)
 
--- and 40
-pub record Followed (f : List ℕ) (n : ℕ) : Type 0 where
-  pub counted : Counted f n
-  pub inside : contents_end n ≤ length f
-  pub following : follow (contents_end n) (lines_from f 0 n) ≡ true
+      module _ (inside : leb (contents_end n) (length f) ≡ true) {lines : List Line} (all : lines ≡ lines_from f 0 n) where
+        pub bundle_gap : follow (contents_end n) lines ≡ false → bundle_check f ≡ refuse (bare 40)
+        unfolding bundle_check contents_check unless
+        bundle_gap t = rw (← count, ← all, two, range, inside, t)
 
--- and 41
-pub record Ended (f : List ℕ) (n : ℕ) : Type 0 where
-  pub followed : Followed f n
-  pub ending : last_end (contents_end n) (lines_from f 0 n) ≡ length f
+        module _ (following : follow (contents_end n) lines ≡ true) {end : ℕ} (last : end ≡ last_end (contents_end n) lines) where
+          pub bundle_end : eqb end (length f) ≡ false → bundle_check f ≡ refuse (bare 41)
+          unfolding bundle_check contents_check unless
+          bundle_end t = rw (← count, ← all, two, range, inside, following, ← last, t)
 
-module _ (f : List ℕ) (n : ℕ) where
-  counts : Counted f n → (leb 2 (length f) && within 1 64 n) ≡ true
-  counts k = rw (le-leb 2 (length f) k.two, within_holds 1 64 n k.low k.high)
+          module _ (ending : eqb end (length f) ≡ true) {r : Bool} (twice : r ≡ id_repeats (ids_of lines)) where
+            pub bundle_twice : not r ≡ false → bundle_check f ≡ refuse (bare 42)
+            unfolding bundle_check contents_check unless
+            bundle_twice t = rw (← count, ← all, two, range, inside, following, ← last, ending, ← twice, t)
 
-  pub bundle_cut : Counted f n → length f < contents_end n → refuse (bare 40) ≡ bundle_check f
-  unfolding bundle_check contents_check unless ◌and_then◌
-  bundle_cut k h = rw (← k.count, counts k, lt-leb (contents_end n) (length f) h)
-
-  pub bundle_gap : Counted f n → contents_end n ≤ length f → follow (contents_end n) (lines_from f 0 n) ≡ false → refuse (bare 40) ≡ bundle_check f
-  unfolding bundle_check contents_check unless ◌and_then◌
-  bundle_gap k h g = rw (← k.count, counts k, le-leb (contents_end n) (length f) h, g)
-
-  pub bundle_end : Followed f n → (last_end (contents_end n) (lines_from f 0 n) ≡ length f → ⊥) → refuse (bare 41) ≡ bundle_check f
-  unfolding bundle_check contents_check unless ◌and_then◌
-  bundle_end l e =
-      rw (← l.counted.count, counts l.counted, le-leb (contents_end n) (length f) l.inside, l.following, ne_eqb (last_end (contents_end n) (lines_from f 0 n)) (length f) e)
-
-  -- what is left once 39, 40 and 41 pass
-  pub bundle_rest : Ended f n → (unless (not (id_repeats (ids_of (lines_from f 0 n)))) (bare 42) and_then bodies_check f (lines_from f 0 n)) ≡ bundle_check f
-  unfolding bundle_check contents_check unless ◌and_then◌
-  bundle_rest d =
-      let l = d.followed in
-      rw (← l.counted.count, counts l.counted, le-leb (contents_end n) (length f) l.inside, l.following, eq-eqb (last_end (contents_end n) (lines_from f 0 n)) (length f) d.ending)
-
-  pub bundle_twice : Ended f n → id_repeats (ids_of (lines_from f 0 n)) ≡ true → refuse (bare 42) ≡ bundle_check f
-  unfolding unless ◌and_then◌
-  bundle_twice d t = rw t at (bundle_rest d)
-
-  pub bundle_bodies : {c : Check} → Ended f n → id_repeats (ids_of (lines_from f 0 n)) ≡ false → c ≡ bodies_check f (lines_from f 0 n) → c ≡ bundle_check f
-  unfolding unless ◌and_then◌
-  bundle_bodies d t b = b ∙ rw t at (bundle_rest d)
+            -- what is left once 39, 40, 41 and 42 pass
+            pub bundle_bodies : not r ≡ true → bundle_check f ≡ bodies_check f lines
+            unfolding bundle_check contents_check unless
+            bundle_bodies t = rw (← count, ← all, two, range, inside, following, ← last, ending, ← twice, t)

@@ -1,64 +1,80 @@
--- The lines of a file walked from the first on: one law for each way on in the loops.
-use Prim.Native.Nat.{ℕ, zero, suc, ◌+◌, ◌-◌, ◌≤◌, ◌<◌}
-use mathlib.Core.Path.{◌≡◌, sym, ◌∙◌}
+-- Lines and Key IDs walked from the first on: one law for each way on in the loops. `old` are those that are left before a turn, and `rest` those after it.
+use Prim.Native.Nat.{ℕ, ◌+◌, ◌-◌}
+use mathlib.Core.Path.{◌≡◌, sym, ap, ◌∙◌}
 use mathlib.Core.Bool.{Bool, true, false, ◌||◌}
-use mathlib.Core.List.{List}
-use native.Mathlib.Nat.{add-zero, zero-add, sub-zero}
+use mathlib.Core.List.{List, [], ◌∷◌}
 use native.Mathlib.Omega.{arith}
 use borrow.Author.Tests.{eq-eqb, ne_eqb}
+use lib.ListN.{take, drop}
+use Rattle.refusal.specs.Checks.{Reason, Check, pass, refuse, bare, unless, ◌and_then◌}
+use Rattle.refusal.proofs.Passing.{first_refuses, second_decides}
 use Rattle.slices.specs.Same.{same_list}
-use Rattle.bundle_rules.specs.Bundle.{contents_end, id_stands, id_repeats, line_at, lines_from, follow, last_end, ids_of}
-use Rattle.bundle_contents.proofs.Contents.{lines_next, lines_done}
+use Rattle.key_frame.specs.KeyFrame.{frame_check}
+use Rattle.bundle_rules.specs.Bundle.{key_id_in, id_stands, id_repeats, Line, follow, last_end, body_of, bodies_check}
 
--- ---- each offset is the previous end
+-- ---- a line more
 
-pub follow_start : (f : List ℕ) (n : ℕ) {end : ℕ} → end ≡ contents_end n → follow (contents_end n) (lines_from f 0 n) ≡ follow end (lines_from f 0 (n - 0))
-follow_start f n e = rw (e, sub-zero n)
+module _ {old rest : List Line} {l : Line} {offset size : ℕ} (e : old ≡ l ∷ rest) (o : offset ≡ l.offset) (s : size ≡ l.size) where
+  pub follow-on : (end : ℕ) {whole : Bool} → offset ≡ end → whole ≡ follow end old → whole ≡ follow (offset + size) rest
+  unfolding follow
+  follow-on end p inv = inv ∙ rw (e, ← o, ← s, eq-eqb offset end p)
 
-pub follow-on : (f : List ℕ) (i n end offset size : ℕ) {whole : Bool} → i < n → offset ≡ (line_at f i).offset → size ≡ (line_at f i).size → offset ≡ end
-    → whole ≡ follow end (lines_from f i (n - i)) → whole ≡ follow (offset + size) (lines_from f (i + 1) (n - (i + 1)))
+  pub end-on : (end : ℕ) {whole : ℕ} → whole ≡ last_end end old → whole ≡ last_end (offset + size) rest
+  unfolding last_end
+  end-on end inv = inv ∙ rw (e, ← o, ← s)
+
+  -- the part of the file that its numbers name is its body
+  pub body_told : (f : List ℕ) → take (offset + size - offset) (drop offset f) ≡ body_of f l
+  unfolding body_of
+  body_told f =
+      let m : offset + size - offset ≡ size = omega arith in
+      rw (m, o, s)
+
+pub follow-not : {old rest : List Line} {l : Line} {offset end : ℕ} {whole : Bool} → old ≡ l ∷ rest → offset ≡ l.offset → (offset ≡ end → ⊥) → whole ≡ follow end old → whole ≡ false
 unfolding follow
-follow-on f i n end offset size h o s e inv = inv ∙ rw (lines_next f i n h, ← o, ← s, eq-eqb offset end e)
+follow-not {offset = offset} {end = end} e o n inv = inv ∙ rw (e, ← o, ne_eqb offset end n)
 
-pub follow-not : (f : List ℕ) (i n end offset : ℕ) {whole : Bool} → i < n → offset ≡ (line_at f i).offset → (offset ≡ end → ⊥)
-    → whole ≡ follow end (lines_from f i (n - i)) → false ≡ whole
+pub follow_all : (end : ℕ) {old : List Line} {whole : Bool} → old ≡ [] → whole ≡ follow end old → whole ≡ true
 unfolding follow
-follow-not f i n end offset h o e inv = sym (inv ∙ rw (lines_next f i n h, ← o, ne_eqb offset end e))
+follow_all end e inv = inv ∙ ap (follow end) e
 
-pub follow_all : (f : List ℕ) (i n end : ℕ) {whole : Bool} → n ≤ i → whole ≡ follow end (lines_from f i (n - i)) → true ≡ whole
-unfolding follow
-follow_all f i n end h inv = sym (inv ∙ rw (lines_done f i n h))
+pub end_all : (end : ℕ) {old : List Line} {whole : ℕ} → old ≡ [] → whole ≡ last_end end old → end ≡ whole
+unfolding last_end
+end_all end e inv = sym (inv ∙ ap (last_end end) e)
 
--- ---- the last end
+-- ---- a body more, whose tests came to c
 
-last_of : (f : List ℕ) (i n end : ℕ) → last_end end (lines_from f i (suc n)) ≡ (line_at f (i + n)).offset + (line_at f (i + n)).size
-unfolding lines_from last_end
-last_of f i zero end = rw add-zero
-last_of f i (suc n) end =
-    let s : suc i + n ≡ i + suc n = omega arith in
-    rw s at (last_of f (suc i) n ((line_at f i).offset + (line_at f i).size))
+module _ (f : List ℕ) {body : List ℕ} {old rest : List Line} {l : Line} {whole c : Check} (e : old ≡ l ∷ rest) (q : body ≡ body_of f l)
+    (t : c ≡ (frame_check body and_then unless (same_list (key_id_in body) l.id) (bare 50))) (inv : whole ≡ bodies_check f old) where
+  one_more : whole ≡ (c and_then bodies_check f rest)
+  unfolding bodies_check
+  one_more = inv ∙ rw (e, t, q)
 
-pub last_is : (f : List ℕ) (n end offset size : ℕ) → 1 ≤ n → offset ≡ (line_at f (n - 1)).offset → size ≡ (line_at f (n - 1)).size → offset + size ≡ last_end end (lines_from f 0 n)
-last_is f n end offset size h o s =
-    let m : suc (n - 1) ≡ n = omega arith in
-    sym (rw (m, zero-add (n - 1), ← o, ← s) at (last_of f 0 (n - 1) end))
+  pub bodies_stop : {x : Reason} → c ≡ refuse x → refuse x ≡ whole
+  bodies_stop p = first_refuses _ _ p ∙ sym one_more
 
--- ---- a Key ID among those of the lines, and one twice; a test of line j that came to b: the loop has found it, or goes on
+  pub bodies_on : c ≡ pass → whole ≡ bodies_check f rest
+  bodies_on p = one_more ∙ sym (second_decides _ _ p)
 
-pub stands_on : (f id own : List ℕ) (j n : ℕ) {whole r b : Bool} → j < n → own ≡ (line_at f j).id → r ≡ same_list own id → r ≡ b
-    → whole ≡ id_stands id (ids_of (lines_from f j (n - j))) → whole ≡ (b || id_stands id (ids_of (lines_from f (j + 1) (n - (j + 1)))))
+pub bodies_done : (f : List ℕ) {old : List Line} {whole : Check} → old ≡ [] → whole ≡ bodies_check f old → pass ≡ whole
+unfolding bodies_check
+bodies_done f e inv = sym (inv ∙ ap (bodies_check f) e)
+
+-- ---- a Key ID more, `own`, whose test came to b: it was found, or the loop goes on
+
+module _ {own : List ℕ} {old rest : List (List ℕ)} {r b : Bool} (e : old ≡ own ∷ rest) where
+  pub stands_on : (id : List ℕ) {whole : Bool} → r ≡ same_list own id → r ≡ b → whole ≡ id_stands id old → whole ≡ (b || id_stands id rest)
+  unfolding id_stands
+  stands_on id t p inv = inv ∙ rw (e, ← t, p)
+
+  pub repeats-on : {whole : Bool} → r ≡ id_stands own rest → r ≡ b → whole ≡ id_repeats old → whole ≡ (b || id_repeats rest)
+  unfolding id_repeats
+  repeats-on t p inv = inv ∙ rw (e, ← t, p)
+
+pub stands-not : (id : List ℕ) {old : List (List ℕ)} {whole : Bool} → old ≡ [] → whole ≡ id_stands id old → false ≡ whole
 unfolding id_stands
-stands_on f id own j n h p t e inv = inv ∙ rw (lines_next f j n h, ← p, ← t, e)
+stands-not id e inv = sym (inv ∙ ap (id_stands id) e)
 
-pub stands-not : (f id : List ℕ) (j n : ℕ) {whole : Bool} → n ≤ j → whole ≡ id_stands id (ids_of (lines_from f j (n - j))) → false ≡ whole
-unfolding id_stands
-stands-not f id j n h inv = sym (inv ∙ rw (lines_done f j n h))
-
-pub repeats-on : (f own : List ℕ) (i n : ℕ) {whole r b : Bool} → i < n → own ≡ (line_at f i).id → r ≡ id_stands own (ids_of (lines_from f (i + 1) (n - (i + 1)))) → r ≡ b
-    → whole ≡ id_repeats (ids_of (lines_from f i (n - i))) → whole ≡ (b || id_repeats (ids_of (lines_from f (i + 1) (n - (i + 1)))))
+pub repeats-not : {old : List (List ℕ)} {whole : Bool} → old ≡ [] → whole ≡ id_repeats old → false ≡ whole
 unfolding id_repeats
-repeats-on f own i n h p t e inv = inv ∙ rw (lines_next f i n h, ← p, ← t, e)
-
-pub repeats-not : (f : List ℕ) (i n : ℕ) {whole : Bool} → n ≤ i → whole ≡ id_repeats (ids_of (lines_from f i (n - i))) → false ≡ whole
-unfolding id_repeats
-repeats-not f i n h inv = sym (inv ∙ rw (lines_done f i n h))
+repeats-not e inv = sym (inv ∙ ap id_repeats e)

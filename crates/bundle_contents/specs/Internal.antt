@@ -1,7 +1,7 @@
 -- What only the contracts of private functions need. Nothing here has to be believed.
 use Rattle.std.specs.Prelude.{ℕ, ◌+◌, ◌≤◌, ◌<◌, List, [], ◌∷◌, length, get_or}
 use Rattle.slices.specs.Numbers.{from_be32}
-use Rattle.bundle_rules.specs.Bundle.{contents_end, Line}
+use Rattle.bundle_rules.specs.Bundle.{Line}
 
 -- four bytes from index i on, as one number
 abbrev pub word_at : List ℕ → ℕ → ℕ
@@ -10,13 +10,6 @@ word_at s i = from_be32 (get_or s (i + 3) 0) (get_or s (i + 2) 0) (get_or s (i +
 -- they are bytes
 abbrev pub BytesAt : List ℕ → ℕ → Type 0
 BytesAt s i = (get_or s i 0 < 256) × (get_or s (i + 1) 0 < 256) × (get_or s (i + 2) 0 < 256) × (get_or s (i + 3) 0 < 256)
-
--- a file is long enough for n lines, of which there are at most 64, and for line i
-abbrev pub HasLines : List ℕ → ℕ → Type 0
-HasLines f n = (n ≤ 64) × (contents_end n ≤ length f)
-
-abbrev pub HasLine : List ℕ → ℕ → Type 0
-HasLine f i = HasLines f (i + 1)
 
 -- each body ends within the file, as the tests 40 and 41 show
 pub data Inside (f : List ℕ) : List Line → Type 0 where

@@ -1,9 +1,19 @@
 // Key IDs compared (document 02, request 9). Every pair of Key IDs of a bundle is compared, up to 2,016 of them, so it is done by words of four bytes.
-ghost use Rattle.std.specs.Prelude.{◌≡◌, ◌+◌, ◌≤◌, length};
+ghost use Rattle.std.specs.Prelude.{◌≡◌, ◌+◌, ◌≤◌, List, ◌∷◌, [], ℕ, MatchOption, length};
 ghost use Rattle.slices.specs.Same.{same_list};
+ghost use Rattle.bundle_rules.specs.Bundle.{id_stands, id_repeats};
 ghost use Rattle.bundle_contents.specs.Internal.{word_at, BytesAt};
 
 use slices::{from_be32, same_bytes};
+
+// Key IDs, of 16 bytes each, that come one after the other.
+pub trait KeyIds<'a>: Copy {
+    ghost ids: { Self → List (List ℕ) };
+
+    // The next of them.
+    fn next_id(&mut self) -> Option<&'a [u8]>
+        ensures { MatchOption result (ids self.old ≡ []) (λ id. (length id.now ≡ 16) × (ids self.old ≡ id.now ∷ ids self.new)) };
+}
 
 // The four bytes from index `at` on, as one number. Which of them is the highest does not matter here: a little-endian core loads them at once in this order.
 fn word_at(s: &[u8], at: usize) -> u32
@@ -36,11 +46,36 @@ pub(crate) fn same_words(a: &[u8], b: &[u8]) -> bool
 pub fn same_id(a: &[u8], b: &[u8]) -> bool
     ensures { result ≡ same_list a.now b.now }
 {
-    if a.len() != 16 {
-        return same_bytes(a, b);
+    if a.len() == 16 && b.len() == 16 {
+        same_words(a, b)
+    } else {
+        same_bytes(a, b)
     }
-    if b.len() != 16 {
-        return same_bytes(a, b);
+}
+
+// Whether a Key ID stands among others.
+fn id_stands<'a, I: KeyIds<'a>>(id: &[u8], ids: I) -> bool
+    requires { length id.now ≡ 16 }
+    ensures { result ≡ id_stands id.now (I.ids ids) }
+{
+    let mut left = ids;
+    while let Some(other) = left.next_id() {
+        if same_words(other, id) {
+            return true;
+        }
     }
-    same_words(a, b)
+    false
+}
+
+// Whether a Key ID stands twice.
+pub fn id_repeats<'a, I: KeyIds<'a>>(ids: I) -> bool
+    ensures { result ≡ id_repeats (I.ids ids) }
+{
+    let mut left = ids;
+    while let Some(id) = left.next_id() {
+        if id_stands(id, left) {
+            return true;
+        }
+    }
+    false
 }

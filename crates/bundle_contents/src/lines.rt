@@ -1,18 +1,36 @@
-// A line of a bundle's table of contents (document 02, request 9): where it begins, its Key ID, and the body that it names.
+// The lines of a bundle's table of contents (document 02, request 9): a Key ID, and where in the file the body of it stands.
 ghost use Rattle.std.specs.Prelude.{◌≡◌, ◌+◌, ◌*◌, ◌%◌, ◌≤◌, ◌<◌, length};
 ghost use Rattle.slices.specs.Numbers.{be16_at};
-ghost use Rattle.bundle_rules.specs.Bundle.{contents_end, line_at, body_of};
-ghost use Rattle.bundle_contents.specs.Internal.{HasLine};
+ghost use Rattle.bundle_rules.specs.Bundle.{contents_end, line_at};
 
+use crate::ids::KeyIds;
 use slices::from_be16;
 
+// A line: a Key ID, the offset of its body from the file's first byte, and the body's length.
+#[derive(Clone, Copy)]
+pub(crate) struct Line<'a> {
+    pub id: &'a [u8],
+    pub offset: u16,
+    pub size: u16,
+    ghost long: { length id.now ≡ 16 },
+}
+
+// The lines that are left of those of a file, from line `at` on.
+#[derive(Clone, Copy)]
+pub(crate) struct Lines<'a> {
+    pub file: &'a [u8],
+    pub at: usize,
+    pub count: usize,
+    ghost few: { count ≤ 64 },
+    ghost inside: { contents_end count ≤ length file.now },
+}
+
 // The number in two bytes of a file, high byte first.
-pub(crate) fn number_at(file: &[u8], at: usize) -> usize
+pub(crate) fn number_at(file: &[u8], at: usize) -> u16
     requires { at + 2 ≤ length file.now }
-    ensures number { result ≡ be16_at file.now at }
-    ensures small { result < 65536 }
+    ensures { result ≡ be16_at file.now at }
 {
-    from_be16(file[at], file[at + 1]) as usize
+    from_be16(file[at], file[at + 1])
 }
 
 // The bytes of the lines that a count of n in a bundle stands for. A count has two bytes, so n is taken modulo 65,536, as it is written there. The product is
@@ -33,41 +51,51 @@ pub(crate) fn contents_end(n: usize) -> usize
     2 + (20 * lines) as usize
 }
 
-// The Key ID of line i.
-pub(crate) fn id_at(file: &[u8], i: usize) -> &[u8]
-    requires { HasLine file.now i }
-    ensures { result.now ≡ (line_at file.now i).id }
+// Line i of a file.
+fn line_at(file: &[u8], i: usize) -> Line<'_>
+    requires few { i < 64 }
+    requires inside { contents_end (i + 1) ≤ length file.now }
+    ensures id { result.id.now ≡ (line_at file.now i).id }
+    ensures offset { result.offset ≡ (line_at file.now i).offset }
+    ensures size { result.size ≡ (line_at file.now i).size }
 {
     let at = contents_end(i);
-    let end = at + 16;
-    &file[at..end]
+    Line {
+        id: &file[at..at + 16],
+        offset: number_at(file, at + 16),
+        size: number_at(file, at + 18),
+    }
 }
 
-// The offset of line i's body.
-pub(crate) fn offset_at(file: &[u8], i: usize) -> usize
-    requires { HasLine file.now i }
-    ensures offset { result ≡ (line_at file.now i).offset }
-    ensures small { result < 65536 }
-{
-    number_at(file, contents_end(i) + 16)
+impl<'a> Iterator for Lines<'a> {
+    ghost use Rattle.std.specs.Iterator.{YieldsFirstBy, item_count};
+    ghost use Rattle.bundle_contents.specs.Walks.{line_of, lines_left};
+
+    type Item = Line<'a>;
+
+    ghost next_gives = { YieldsFirstBy line_of lines_left };
+
+    ghost remaining = { item_count lines_left };
+
+    fn next(&mut self) -> Option<Line<'a>> {
+        if self.at < self.count {
+            let line = line_at(self.file, self.at);
+            self.at += 1;
+            Some(line)
+        } else {
+            None
+        }
+    }
 }
 
-// Its length.
-pub(crate) fn size_at(file: &[u8], i: usize) -> usize
-    requires { HasLine file.now i }
-    ensures size { result ≡ (line_at file.now i).size }
-    ensures small { result < 65536 }
-{
-    number_at(file, contents_end(i) + 18)
-}
+impl<'a> KeyIds<'a> for Lines<'a> {
+    ghost use Rattle.bundle_rules.specs.Bundle.{ids_of};
+    ghost use Rattle.bundle_contents.specs.Walks.{lines_left};
 
-// The body itself.
-pub(crate) fn body_at(file: &[u8], i: usize) -> &[u8]
-    requires has_line { HasLine file.now i }
-    requires i_in_bounds { (line_at file.now i).offset + (line_at file.now i).size ≤ length file.now }
-    ensures { result.now ≡ body_of file.now (line_at file.now i) }
-{
-    let offset = offset_at(file, i);
-    let end = offset + size_at(file, i);
-    &file[offset..end]
+    ghost ids = { λ lines. ids_of (lines_left lines) };
+
+    fn next_id(&mut self) -> Option<&'a [u8]> {
+        let line = self.next()?;
+        Some(line.id)
+    }
 }

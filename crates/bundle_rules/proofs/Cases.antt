@@ -1,7 +1,7 @@
 -- The checked cases of request 9, computed from the definitions.
 use mathlib.Core.Path.{refl}
 use mathlib.Core.List.{flatten}
-use Rattle.refusal.specs.Checks.{unless, ◌and_then◌, within}
+use Rattle.refusal.specs.Checks.{unless, within}
 use Rattle.slices.specs.Same.{same_list}
 use Rattle.keywrap.specs.Calls.{wrappable}
 use Rattle.key_frame.specs.KeyFrame.{fields_in, length_holds, frame_check}
@@ -31,9 +31,9 @@ use Rattle.bundle_rules.specs.Bundle.{
 use Rattle.bundle_rules.specs.Cases.{ReadCases, WriteCases}
 
 pub read_cases : ReadCases
-unfolding read_answer read_check bundle_check contents_check bodies_check body_of last_end follow lines_from line_at file_of lines_of line_of id_repeats id_stands flatten key_id_in fields_in frame_check length_holds wrappable same_list unless ◌and_then◌ within
+unfolding read_answer read_check bundle_check contents_check bodies_check body_of last_end follow lines_from line_at file_of lines_of line_of id_repeats id_stands flatten key_id_in fields_in frame_check length_holds wrappable same_list unless within
 read_cases = (refl, refl, refl, refl, refl, refl, refl, refl, refl, refl, refl, refl, refl, refl, refl, refl, refl, refl, refl, refl)
 
 pub write_cases : WriteCases
-unfolding write_answer write_check packed_check frames_check split split_from attribute_length whole id_repeats id_stands key_id_in fields_in frame_check length_holds wrappable same_list unless ◌and_then◌ within
+unfolding write_answer write_check packed_check frames_check split split_from attribute_length whole id_repeats id_stands key_id_in fields_in frame_check length_holds wrappable same_list unless within
 write_cases = (refl, refl, refl, refl, refl, refl, refl, refl, refl, refl)

@@ -5,7 +5,7 @@ use mathlib.Core.Bool.{false}
 use mathlib.Core.List.{List, [], ◌∷◌, map, flatten}
 use native.Mathlib.Omega.{arith}
 use lib.ListN.{length}
-use Rattle.refusal.specs.Checks.{pass, unless, ◌and_then◌, within}
+use Rattle.refusal.specs.Checks.{pass, unless, within}
 use Rattle.slices.specs.Same.{same_list}
 use Rattle.keywrap.specs.Calls.{wrappable}
 use Rattle.key_frame.specs.KeyFrame.{fields_in, length_holds, frame_check}
@@ -23,7 +23,7 @@ unfolding samples
 many = refl
 
 frames : frames_check (samples 64) ≡ pass
-unfolding samples frames_check frame_check length_holds wrappable same_list unless ◌and_then◌ within
+unfolding samples frames_check frame_check length_holds wrappable same_list unless within
 frames = refl
 
 once : id_repeats (map key_id_in (samples 64)) ≡ false

@@ -1,16 +1,16 @@
 -- Attributes packed end to end, and taken apart again by their length bytes.
 use Prim.Native.Nat.{ℕ, ◌≤◌}
-use mathlib.Core.Path.{◌≡◌, refl, sym, ap, ◌∙◌}
+use mathlib.Core.Path.{◌≡◌, refl, ap, ◌∙◌}
 use mathlib.Core.Bool.{Bool, true, false}
 use mathlib.Core.List.{List, [], ◌∷◌, flatten}
 use native.Mathlib.Omega.{arith}
 use borrow.Author.Tests.{le-leb}
 use lib.Dec.{leb}
 use lib.ListN.{length, get_or}
-use Rattle.refusal.specs.Checks.{bare, pass, refuse}
+use Rattle.refusal.specs.Checks.{bare, pass, refuse, unless}
 use Rattle.refusal.proofs.Passing.{before-passed, last-passed}
 use Rattle.key_frame.specs.KeyFrame.{length_holds, frame_check}
-use Rattle.key_frame.proofs.Frames.{attribute-length, framed, frame_refused}
+use Rattle.key_frame.proofs.Frames.{attribute-length, framed}
 use Rattle.radius_attributes.specs.Attributes.{whole}
 use Rattle.radius_attributes.proofs.Splitting.{split-none, all_split, first-split}
 use Rattle.bundle_rules.specs.Bundle.{frames_check}
@@ -49,7 +49,7 @@ pub all_packed : AllPacked
 all_packed = all_split
 
 pub cut_refused : CutRefused
-unfolding whole
+unfolding whole frame_check unless
 cut_refused bytes e = go (length_holds bytes) refl
   where
     go : (t : Bool) → length_holds bytes ≡ t → frame_check bytes ≡ refuse (bare 24)
@@ -60,4 +60,4 @@ cut_refused bytes e = go (length_holds bytes) refl
         let fits : leb (get_or bytes 1 0) (length bytes) ≡ true = le-leb (get_or bytes 1 0) (length bytes) (omega arith) in
         let z : true ≡ false = rw (two, fits) at e in
         cc
-    go false q = sym (frame_refused bytes q)
+    go false q = rw q

@@ -8,12 +8,12 @@ use borrow.Author.Tests.{leb-true, eqb-true, not-true}
 use lib.Dec.{leb, eqb}
 use lib.ListN.{length, drop, length-drop, take-append-drop, drop_of_length-le}
 use lib.Seq.{length-take-le, drop-drop}
-use Rattle.refusal.specs.Checks.{pass, within}
+use Rattle.refusal.specs.Checks.{Check, pass, within, ◌and_then◌}
 use Rattle.slices.proofs.Truth.{and_left, and_right}
 use Rattle.refusal.proofs.Passing.{within_low, within-high, before-passed, last-passed, test_passed, both_pass}
 use Rattle.slices.proofs.Same.{same_equal}
 use Rattle.key_frame.specs.KeyFrame.{frame_check}
-use Rattle.bundle_rules.specs.Bundle.{contents_end, key_id_in, id_repeats, frames_check, Line, count_in, lines_in, follow, last_end, body_of, ids_of, bodies_check, contents_check, bundle_check}
+use Rattle.bundle_rules.specs.Bundle.{contents_end, key_id_in, id_repeats, frames_check, Line, count_in, lines_in, follow, last_end, body_of, ids_of, check50, bodies_check, contents_check, bundle_check}
 use Rattle.bundle_rules.proofs.Packing.{sized}
 
 -- the table of contents
@@ -80,11 +80,17 @@ laid_from f at (l ∷ lines) e h c =
         let d = length-drop l.offset f in
         omega arith
 
+    frame : Check
+    frame = frame_check (body_of f l)
+
+    own : (frame and_then check50 l.id (body_of f l)) ≡ pass
+    own = before-passed (frame and_then check50 l.id (body_of f l)) (bodies_check f lines) c
+
     whole : Whole f l
     whole =
         record {
-          frame = before-passed _ _ (before-passed _ _ c);
-          id_same = same_equal _ _ (test_passed _ _ (last-passed _ _ (before-passed _ _ c)));
+          frame = before-passed frame (check50 l.id (body_of f l)) own;
+          id_same = same_equal _ _ (test_passed _ _ (last-passed frame (check50 l.id (body_of f l)) own));
           size_same = size;
         }
       where

@@ -8,7 +8,7 @@ use borrow.Author.Tests.{le-leb, eq-eqb}
 use lib.Dec.{leb}
 use lib.ListN.{length, take, drop, length-append, length-drop}
 use lib.Seq.{length-take-le, take_at, drop_at, drop-drop}
-use Rattle.refusal.specs.Checks.{pass, bare, unless, ◌and_then◌, within}
+use Rattle.refusal.specs.Checks.{pass, bare, unless, within}
 use Rattle.refusal.proofs.Passing.{test_holds, both_pass, within_holds}
 use Rattle.slices.proofs.Same.{equal_same}
 use Rattle.slices.specs.Numbers.{be16, be16_at}
@@ -180,7 +180,7 @@ module _ (bodies : List (List ℕ)) (c : frames_check bodies ≡ pass) (low : 1 
       rw count_read (lines_read (file_of bodies) 0 (contents_end (length bodies)) bodies (flatten bodies) c (omega arith) after-count)
 
   pub file_passes : bundle_check (file_of bodies) ≡ pass
-  unfolding bundle_check contents_check unless ◌and_then◌
+  unfolding bundle_check contents_check unless
   file_passes =
       let size = file_size in
       let f = file_of bodies in

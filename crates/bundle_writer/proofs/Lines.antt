@@ -1,92 +1,74 @@
 -- The lines written one after the other, from index 2 of the buffer on.
 use Prim.Native.Nat.{ℕ, ◌+◌, ◌*◌, ◌≤◌}
-use mathlib.Core.Path.{◌≡◌, refl, sym, ap, ◌∙◌}
-use mathlib.Core.List.{List, ◌++◌, append-nil, append_assoc}
-use native.Mathlib.Nat.{add-zero}
+use mathlib.Core.Path.{◌≡◌, sym, ap, ◌∙◌}
+use mathlib.Core.List.{List, [], ◌∷◌, ◌++◌, append-nil, append_assoc, flatten}
 use native.Mathlib.Omega.{arith}
 use lib.ListN.{length, take, drop, length-append, length-drop, take-append-drop}
 use lib.Seq.{length-take-le, take_at, drop_at, drop-drop}
 use Rattle.refusal.specs.Checks.{pass}
-use Rattle.slices.specs.Numbers.{be16}
-use Rattle.bundle_rules.specs.Bundle.{contents_end, key_id_in, line_of, lines_of, packed, frames_check}
+use Rattle.key_frame.specs.KeyFrame.{frame_check}
+use Rattle.bundle_rules.specs.Bundle.{contents_end, line_of, lines_of, packed}
+use Rattle.bundle_rules.proofs.Packing.{sized, all_packed}
 use Rattle.bundle_rules.proofs.Written.{id-size}
-use Rattle.radius_attributes.proofs.Walking.{Step, none_left}
-use Rattle.bundle_writer.proofs.packing.Walking.{first_sized, later_pass}
 
-pub record Lined (a : List ℕ) (n : ℕ) (out₀ out : List ℕ) (at place : ℕ) : Type 0 where
-  pub inside : at ≤ length a
-  pub frames : frames_check (packed (drop at a)) ≡ pass
-  pub room : place + 20 * length (packed (drop at a)) ≡ contents_end n
+pub line_size : (offset : ℕ) (b : List ℕ) → frame_check b ≡ pass → length (line_of offset b) ≡ 20
+unfolding line_of
+line_size offset b p = let n = id-size b (sized b p) in simp length-append (omega arith)
+
+-- `bodies` are all of them, and `left` those whose lines are still to be written, the first of which begins at `offset` of the file
+pub record Lined (bodies : List (List ℕ)) (out₀ out : List ℕ) (left : List (List ℕ)) (offset at : ℕ) : Type 0 where
+  pub room : at + 20 * length left ≡ contents_end (length bodies)
+  pub sum : offset + length (flatten left) ≡ contents_end (length bodies) + length (flatten bodies)
   pub size : length out ≡ length out₀
-  pub whole : take 2 out₀ ++ lines_of (contents_end n) (packed a) ≡ take place out ++ lines_of (contents_end n + at) (packed (drop at a))
-  pub rest : drop place out ≡ drop place out₀
+  pub whole : take 2 out₀ ++ lines_of (contents_end (length bodies)) bodies ≡ take at out ++ lines_of offset left
+  pub rest : drop at out ≡ drop at out₀
 
-pub lined_start : (a : List ℕ) (n : ℕ) (out : List ℕ) → frames_check (packed a) ≡ pass → length (packed a) ≡ n → Lined a n out out 0 2
-lined_start a n out c e =
-    record {
-      inside = omega arith;
-      frames = c;
-      room = omega arith;
-      size = refl;
-      whole = rw (add-zero (contents_end n));
-      rest = refl;
-    }
+module _ {bodies : List (List ℕ)} {out₀ out b : List ℕ} {old left : List (List ℕ)} {offset at : ℕ} (e : old ≡ b ∷ left) (l : Lined bodies out₀ out old offset at) where
+  -- there is room for the next line, and its body is within the file
+  pub lined_room : (at + 20 ≤ contents_end (length bodies)) × (offset + length b ≤ contents_end (length bodies) + length (flatten bodies))
+  unfolding flatten
+  lined_room =
+      let many = ap length e in
+      let long : length (flatten old) ≡ length b + length (flatten left) = rw e (length-append b (flatten left)) in
+      (omega (arith, l.room), omega (arith, l.sum))
 
--- the length of a body that passes
-body_size : (a : List ℕ) (at m : ℕ) → Step a at m → length (take m (drop at a)) ≡ m
-body_size a at m s = length-take-le m (drop at a) (simp length-drop (omega (arith, s.inside)))
+  pub lined_on : {out' : List ℕ} → contents_end (length bodies) ≤ length out₀ → frame_check b ≡ pass
+      → out' ≡ take at out ++ (line_of offset b ++ drop (at + 20) out)
+      → Lined bodies out₀ out' left (offset + length b) (at + 20)
+  unfolding lines_of flatten
+  lined_on {out'} h p written =
+      let many = ap length e in
+      let long : length (flatten old) ≡ length b + length (flatten left) = rw e (length-append b (flatten left)) in
+      let line : List ℕ = line_of offset b in
+      let n20 = line_size offset b p in
+      let t : length (take at out) ≡ at = length-take-le at out (omega (arith, l.room, l.size)) in
+      let t20 : length (take at out ++ line) ≡ at + 20 = simp length-append (omega arith) in
+      let e' : out' ≡ (take at out ++ line) ++ drop (at + 20) out = written ∙ sym (append_assoc (take at out) line (drop (at + 20) out)) in
+      let done : take (at + 20) out' ≡ take at out ++ line = ap (take (at + 20)) e' ∙ take_at (take at out ++ line) (drop (at + 20) out) (at + 20) t20 in
+      let after : drop (at + 20) out' ≡ drop (at + 20) out = ap (drop (at + 20)) e' ∙ drop_at (take at out ++ line) (drop (at + 20) out) (at + 20) t20 in
+      let same : drop (at + 20) out ≡ drop (at + 20) out₀ = sym (drop-drop 20 at out) ∙ ap (drop 20) l.rest ∙ drop-drop 20 at out₀ in
+      let w : take 2 out₀ ++ lines_of (contents_end (length bodies)) bodies ≡ take at out ++ (line ++ lines_of (offset + length b) left) = rw e at l.whole in
+      let dl = length-drop (at + 20) out in
+      let fits : at + 20 ≤ length out = omega (arith, l.room, l.size) in
+      let all : length (take at out ++ line) + length (drop (at + 20) out) ≡ length out = omega arith in
+      let ol : length out' ≡ length out = ap length e' ∙ length-append (take at out ++ line) (drop (at + 20) out) ∙ all in
+      record {
+        room = omega (arith, l.room);
+        sum = omega (arith, l.sum);
+        size = ol ∙ l.size;
+        whole = w ∙ sym (append_assoc (take at out) line (lines_of (offset + length b) left)) ∙ ap (λ (x : List ℕ). x ++ lines_of (offset + length b) left) (sym done);
+        rest = after ∙ same;
+      }
 
-pub lined_on : (a : List ℕ) (n : ℕ) (out₀ out out' id : List ℕ) (at place m offset : ℕ) → Step a at m → Lined a n out₀ out at place → contents_end n ≤ length out₀
-    → id ≡ key_id_in (take m (drop at a)) → offset ≡ contents_end n + at
-    → out' ≡ take place out ++ ((id ++ (be16 offset ++ be16 m)) ++ drop (place + 20) out)
-    → Lined a n out₀ out' (at + m) (place + 20)
-unfolding lines_of line_of
-lined_on a n out₀ out out' id at place m offset s l h i o written =
-    let e = rw o at written in
-    let b : List ℕ = take m (drop at a) in
-    let bs : List (List ℕ) = packed (drop (at + m) a) in
-    let line : List ℕ = id ++ (be16 (contents_end n + at) ++ be16 m) in
-    let many = ap length s.next in
-    let long : length id ≡ 16 = ap length i ∙ id-size b (first_sized a at m s l.frames) in
-    let n20 : length line ≡ 20 = simp length-append (omega arith) in
-    let p : length (take place out) ≡ place = length-take-le place out (omega (arith, l.room, l.size)) in
-    let p20 : length (take place out ++ line) ≡ place + 20 = simp length-append (omega arith) in
-    let e' : out' ≡ (take place out ++ line) ++ drop (place + 20) out = e ∙ sym (append_assoc (take place out) line (drop (place + 20) out)) in
-    let done : take (place + 20) out' ≡ take place out ++ line = ap (take (place + 20)) e' ∙ take_at (take place out ++ line) (drop (place + 20) out) (place + 20) p20 in
-    let left : drop (place + 20) out' ≡ drop (place + 20) out = ap (drop (place + 20)) e' ∙ drop_at (take place out ++ line) (drop (place + 20) out) (place + 20) p20 in
-    let same : drop (place + 20) out ≡ drop (place + 20) out₀ = sym (drop-drop 20 place out) ∙ ap (drop 20) l.rest ∙ drop-drop 20 place out₀ in
-    let bm = body_size a at m s in
-    let sum : contents_end n + at + m ≡ contents_end n + (at + m) = omega arith in
-    let w : take 2 out₀ ++ lines_of (contents_end n) (packed a) ≡ take place out ++ (line ++ lines_of (contents_end n + (at + m)) bs)
-    = rw (s.next, bm, ← i, sum) at l.whole in
-    let dl = length-drop (place + 20) out in
-    let fits : place + 20 ≤ length out = omega (arith, l.room, l.size) in
-    let all : length (take place out ++ line) + length (drop (place + 20) out) ≡ length out = omega arith in
-    let ol : length out' ≡ length out = ap length e' ∙ length-append (take place out ++ line) (drop (place + 20) out) ∙ all in
-    record {
-      inside = s.inside;
-      frames = later_pass a at m s l.frames;
-      room = omega (arith, l.room);
-      size = ol ∙ l.size;
-      whole = w ∙ sym (append_assoc (take place out) line (lines_of (contents_end n + (at + m)) bs)) ∙ ap (λ (x : List ℕ). x ++ lines_of (contents_end n + (at + m)) bs) (sym done);
-      rest = left ∙ same;
-    }
-
-pub lined_end : (a : List ℕ) (n : ℕ) (out₀ out : List ℕ) (at place : ℕ) → Lined a n out₀ out at place → length a ≤ at
-    → out ≡ take 2 out₀ ++ (lines_of (contents_end n) (packed a) ++ drop (contents_end n) out₀)
+pub lined_end : {bodies : List (List ℕ)} {out₀ out : List ℕ} {old : List (List ℕ)} {offset at : ℕ} → old ≡ [] → Lined bodies out₀ out old offset at
+    → out ≡ take 2 out₀ ++ (lines_of (contents_end (length bodies)) bodies ++ drop (contents_end (length bodies)) out₀)
 unfolding lines_of
-lined_end a n out₀ out at place l h =
-    let none = none_left a at h in
-    let m = ap length none in
-    let p : place ≡ contents_end n = omega (arith, l.room) in
-    let w : take 2 out₀ ++ lines_of (contents_end n) (packed a) ≡ take place out = rw none at l.whole ∙ append-nil (take place out) in
-    sym (take-append-drop place out) ∙ (λ i. sym w i ++ l.rest i) ∙ rw p (append_assoc (take 2 out₀) (lines_of (contents_end n) (packed a)) (drop (contents_end n) out₀))
+lined_end {bodies} {out₀} {out} {at = at} e l =
+    let m = ap length e in
+    let p : at ≡ contents_end (length bodies) = omega (arith, l.room) in
+    let w : take 2 out₀ ++ lines_of (contents_end (length bodies)) bodies ≡ take at out = rw e at l.whole ∙ append-nil (take at out) in
+    sym (take-append-drop at out) ∙ (λ i. sym w i ++ l.rest i) ∙ rw p (append_assoc (take 2 out₀) (lines_of (contents_end (length bodies)) bodies) (drop (contents_end (length bodies)) out₀))
 
-pub lined_room : (a : List ℕ) (n : ℕ) (out₀ out : List ℕ) (at place m : ℕ) → Step a at m → Lined a n out₀ out at place → contents_end n ≤ length out₀ → place + 20 ≤ length out
-lined_room a n out₀ out at place m s l h =
-    let many = ap length s.next in
-    omega (arith, l.room, l.size)
-
--- the part of the attributes that is a body's Key ID has 16 bytes
-pub id_long : (a : List ℕ) (at m : ℕ) (id : List ℕ) → Step a at m → frames_check (packed (drop at a)) ≡ pass → id ≡ key_id_in (take m (drop at a)) → length id ≡ 16
-id_long a at m id s c e = ap length e ∙ id-size (take m (drop at a)) (first_sized a at m s c)
+-- the bytes of packed attributes
+pub packed_size : (bytes : List ℕ) → length (flatten (packed bytes)) ≡ length bytes
+packed_size bytes = ap length (all_packed bytes)

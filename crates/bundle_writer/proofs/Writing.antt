@@ -1,9 +1,11 @@
 -- What the writer answers and leaves, by its tests in their order.
-use Prim.Native.Nat.{ℕ, ◌+◌, ◌≤◌, ◌<◌}
+use Prim.Native.Nat.{ℕ, ◌+◌, ◌≤◌}
 use mathlib.Core.Path.{◌≡◌, refl, sym, ap, ◌∙◌}
 use mathlib.Core.List.{List, ◌++◌}
 use native.Mathlib.Omega.{arith}
-use borrow.Author.Tests.{le-leb, lt-leb}
+use mathlib.Core.Bool.{true, false}
+use borrow.Author.Tests.{leb-true}
+use lib.Dec.{leb}
 use lib.ListN.{length, take, drop}
 use Rattle.refusal.specs.Checks.{Reason, pass, refuse, bare, unless}
 use Rattle.refusal.specs.Answers.{returned, refused}
@@ -12,7 +14,7 @@ use Rattle.slices.specs.Numbers.{be16}
 use Rattle.bundle_rules.specs.Bundle.{contents_end, lines_of, file_of, packed, frames_check, packed_check, write_check, write_answer, write_buffer}
 use Rattle.bundle_rules.proofs.Packing.{all_packed}
 use Rattle.bundle_rules.proofs.Written.{flatten_size}
-use Rattle.bundle_writer.proofs.Parts.{written_file}
+use Rattle.bundle_writer.proofs.Parts.{written_file, count-length, lines-length}
 
 -- ---- attributes that pass the tests before the room's
 
@@ -39,13 +41,13 @@ unfolding write_check
 write_early a room e = first_refuses _ _ e
 
 module _ (a : List ℕ) (n room : ℕ) (c : packed_check a ≡ pass) (q : n ≡ length (packed a)) where
-  pub write_room : room < contents_end n + length a → refuse (bare 6) ≡ write_check a room
+  pub write_room : leb (contents_end n + length a) room ≡ false → refuse (bare 6) ≡ write_check a room
   unfolding write_check unless
-  write_room h = sym (sym (second_decides _ _ c) ∙ rw (← q, lt-leb (contents_end n + length a) room h))
+  write_room h = sym (sym (second_decides _ _ c) ∙ rw (← q, h))
 
-  write-passes : contents_end n + length a ≤ room → pass ≡ write_check a room
+  write-passes : leb (contents_end n + length a) room ≡ true → pass ≡ write_check a room
   unfolding write_check unless
-  write-passes h = sym (sym (second_decides _ _ c) ∙ rw (← q, le-leb (contents_end n + length a) room h))
+  write-passes h = sym (sym (second_decides _ _ c) ∙ rw (← q, h))
 
 -- ---- the answer
 
@@ -59,13 +61,17 @@ unfolding write_answer write_buffer
 write_done a out after n q e l = rw (← e, ← q) (refl, l)
 
 -- the file in its three parts, where `contents` is the end of its contents
-pub write_all : (a out₀ out₁ out₂ out₃ two : List ℕ) (n contents : ℕ) → contents ≡ contents_end n → packed_check a ≡ pass → n ≡ length (packed a)
-    → contents + length a ≤ length out₀
+pub write_all : (a out₀ : List ℕ) {out₁ out₂ out₃ two : List ℕ} {n contents : ℕ} → contents ≡ contents_end n → packed_check a ≡ pass → n ≡ length (packed a)
+    → leb (contents + length a) (length out₀) ≡ true
     → two ≡ be16 n
-    → out₁ ≡ take 0 out₀ ++ (two ++ drop (0 + length two) out₀)
+    → (0 + length two ≤ length out₀ → out₁ ≡ take 0 out₀ ++ (two ++ drop (0 + length two) out₀))
     → out₂ ≡ take 2 out₁ ++ (lines_of contents (packed a) ++ drop contents out₁)
-    → out₃ ≡ take contents out₂ ++ (a ++ drop (contents + length a) out₂)
+    → (contents + length a ≤ length out₂ → out₃ ≡ take contents out₂ ++ (a ++ drop (contents + length a) out₂))
     → (returned (contents + length a) ≡ write_answer a (length out₀)) × (out₃ ≡ write_buffer a out₀)
-write_all a out₀ out₁ out₂ out₃ two n contents q c k h t e₁ e₂ e₃ =
-    let file = written_file a out₀ out₁ out₂ out₃ two n (frames_of a c) (sym k) t e₁ (rw q at e₂) (rw q at e₃) in
+write_all a out₀ {out₁} {out₂} {out₃} {two} {n} {contents} q c k h t e₁ e₂ e₃ =
+    let fits : contents + length a ≤ length out₀ = leb-true _ _ h in
+    let count : out₁ ≡ take 0 out₀ ++ (two ++ drop (0 + length two) out₀) = e₁ (omega (arith, ap length t)) in
+    let s₁ = count-length out₀ out₁ two n t (omega arith) count in
+    let s₂ : length out₂ ≡ length out₀ = lines-length a out₁ out₂ (frames_of a c) (q ∙ ap contents_end k) (omega arith) e₂ ∙ s₁ in
+    let file = written_file a out₀ out₁ out₂ out₃ two n (frames_of a c) (sym k) t count (rw q at e₂) (rw q at (e₃ (omega arith))) in
     rw q (write_done a out₀ out₃ n k (write-passes a n (length out₀) c k (rw q at h)) file)

@@ -1,2 +1,1 @@
-pub mod Walking
-mod Testing
+pub mod Testing

@@ -2,74 +2,52 @@
 #![tactic(auto)]
 
 ghost use Rattle.std.specs.Prelude.{◌≡◌, ◌++◌, ◌+◌, ◌≤◌, length, take, drop};
-ghost use Rattle.refusal.specs.Checks.{pass};
 ghost use Rattle.refusal.specs.Answers.{answer_of};
-ghost use Rattle.slices.specs.Numbers as Numbers;
-ghost use Rattle.bundle_rules.specs.Bundle.{contents_end, lines_of, packed, frames_check, write_answer, write_buffer};
+ghost use Rattle.bundle_rules.specs.Bundle.{contents_end, line_of, lines_of, packed, write_answer, write_buffer};
 
-mod packing; // attributes packed end to end, taken apart and tested
+mod packing; // the tests of attributes packed end to end
 
-use crate::packing::{check_packed, length_at};
-use bundle_contents::lines_length;
-use refusal::{Answered, Refusal};
-use slices::be16;
+use crate::packing::check_packed;
+use bundle_contents::{Bodies, Body, lines_length};
+use refusal::{Refusal, check_room};
+use slices::{be16, copy_at};
 
-// Copies bytes to out, from index `at` on.
-fn put_at(bytes: &[u8], at: usize, out: &mut [u8])
-    requires { at + length bytes.now ≤ length out.old }
-    ensures { out.new ≡ take at out.old ++ (bytes.now ++ drop (at + length bytes.now) out.old) }
+// Writes the line of a body to out, from index `at` on: its Key ID, its offset and its length.
+fn put_line(body: Body, offset: usize, at: usize, out: &mut [u8])
+    requires { at + 20 ≤ length out.old }
+    ensures { out.new ≡ take at out.old ++ (line_of offset body.entry.bytes.now ++ drop (at + 20) out.old) }
 {
-    slices::copy(bytes, &mut out[at..]);
+    copy_at(body.id(), at, out);
+    copy_at(&be16(offset), at + 16, out);
+    copy_at(&be16(body.bytes.len()), at + 18, out);
 }
 
-// Writes the line of a body to out, from index `at` on.
-fn put_line(id: &[u8], offset: usize, size: usize, at: usize, out: &mut [u8])
-    requires id_len { length id.now ≡ 16 }
-    requires at_in_bounds { at + 20 ≤ length out.old }
-    ensures { out.new ≡ take at out.old ++ ((id.now ++ (Numbers.be16 offset ++ Numbers.be16 size)) ++ drop (at + 20) out.old) }
+// Writes the lines of bodies to out, from index 2 on. The bodies will begin at `contents`.
+fn put_lines(bodies: Bodies, contents: usize, out: &mut [u8])
+    requires contents_value { contents ≡ contents_end (length (packed bodies.bytes.now)) }
+    requires in_bounds { contents + length bodies.bytes.now ≤ length out.old }
+    ensures { out.new ≡ take 2 out.old ++ (lines_of contents (packed bodies.entry.bytes.now) ++ drop contents out.old) }
 {
-    put_at(id, at, out);
-    put_at(&be16(offset), at + 16, out);
-    put_at(&be16(size), at + 18, out);
-}
-
-// Writes the lines of attributes to out, from index 2 on. The attributes will begin at `contents`.
-fn put_lines(attributes: &[u8], contents: usize, out: &mut [u8])
-    requires attributes_value { frames_check (packed attributes.now) ≡ pass }
-    requires contents_value { contents ≡ contents_end (length (packed attributes.now)) }
-    requires attributes_in_bounds { contents + length attributes.now ≤ length out.old }
-    ensures { out.new ≡ take 2 out.old ++ (lines_of contents (packed attributes.now) ++ drop contents out.old) }
-{
-    let mut at = 0;
-    let mut place: usize = 2;
-    while at < attributes.len() {
-        let length = length_at(attributes, at);
-        let start = at + 24;
-        let end = at + 40;
-        let offset = contents + at;
-        put_line(&attributes[start..end], offset, length, place, out);
-        at += length;
-        place += 20;
+    let mut offset = contents;
+    let mut at = 2;
+    for body in bodies {
+        put_line(body, offset, at, out);
+        offset += body.bytes.len();
+        at += 20;
     }
 }
 
 // Writes the bundle of attributes that are packed end to end, and answers its length.
-pub fn write(attributes: &[u8], out: &mut [u8]) -> Answered
+pub fn write(attributes: &[u8], out: &mut [u8]) -> Result<usize, Refusal>
     ensures answer { answer_of result ≡ write_answer attributes.now (length out.old) }
     ensures buffer { out.new ≡ write_buffer attributes.now out.old }
 {
-    match check_packed(attributes) {
-        Answered::Refused(why) => Answered::Refused(why),
-        Answered::Accepted(n) => {
-            let contents = 2 + lines_length(n);
-            let size = contents + attributes.len();
-            if out.len() < size {
-                return Answered::Refused(Refusal::Room);
-            }
-            put_at(&be16(n), 0, out);
-            put_lines(attributes, contents, out);
-            put_at(attributes, contents, out);
-            Answered::Accepted(size)
-        }
-    }
+    let n = check_packed(attributes)?;
+    let contents = 2 + lines_length(n);
+    let size = contents + attributes.len();
+    check_room(size, out.len())?;
+    copy_at(&be16(n), 0, out);
+    put_lines(Bodies { bytes: attributes }, contents, out);
+    copy_at(attributes, contents, out);
+    Ok(size)
 }

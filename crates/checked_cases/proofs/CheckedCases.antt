@@ -15,7 +15,7 @@ use Rattle.key_writer.specs.KeyWriter.{attribute, write_check, write_answer, wri
 use Rattle.checked_cases.specs.CheckedCases.{CheckedCases}
 
 pub checked_cases : CheckedCases
-unfolding text_of input_of usage_text block_input block input_after first_round server_answer server_buffer renewed_answer choose_check answer_check renewed_check stands repeats first_supported is_first same_list write_answer write_buffer write_check attribute header wrappable unless ◌and_then◌ within
+unfolding text_of input_of usage_text block_input block input_after first_round server_answer server_buffer renewed_answer choose_check answer_check renewed_check stands repeats first_supported is_first same_list write_answer write_buffer write_check attribute header wrappable unless within
 checked_cases =
     record {
       p1 = λ room. refl;

@@ -3,9 +3,9 @@
 // comparing, as a file that cannot be read, goes to standard error, with status 0 too. The status is another only where writing fails.
 #![tactic(auto)]
 
-use bundle_compare::{Compared, Counts};
+use bundle_compare::{Counts, compare_bundles};
 use bundle_contents::check_bundle;
-use refusal::{Checked, Refusal};
+use refusal::Refusal;
 use std::env::FillError;
 use std::fs::File;
 use std::io;
@@ -14,13 +14,6 @@ use std::rt::{Env, Files};
 
 // The most bytes that a bundle has.
 const LARGEST: usize = 17410;
-
-// What there is of a file: its bytes, or nothing, where it was told why.
-#[derive(Drop)]
-enum Got {
-    Bytes(Vec<u8>),
-    Nothing,
-}
 
 // Writes a line to standard error: what failed, and the system's words for why.
 fn fail(rt: &(impl Eprint + AllocGlobal), what: &str, why: io::Error) -> io::Result<()> {
@@ -31,38 +24,41 @@ fn fail(rt: &(impl Eprint + AllocGlobal), what: &str, why: io::Error) -> io::Res
     eprintln!(rt; "{what}: {words}")
 }
 
-// Reads the open file to its end, or until there is more than a bundle has.
+// Reads the open file to its end, or until there is more than a bundle has. Where it cannot be read it tells why, and answers nothing.
 fn read_open(
     rt: &(impl Eprint + AllocGlobal),
     file: impl Read + Drop,
     path: &str,
-) -> io::Result<Got> {
+) -> io::Result<Option<Vec<u8>>> {
     let mut bytes = Vec::new(rt.alloc());
     match file.take(LARGEST as u64 + 1).read_to_end(&mut bytes) {
-        Ok(_) => Ok(Got::Bytes(bytes)),
+        Ok(_) => Ok(Some(bytes)),
         Err(why) => {
             fail(rt, path, why)?;
-            Ok(Got::Nothing)
+            Ok(None)
         }
     }
 }
 
-// Reads the file that argument i names.
-fn read_argument(rt: &(impl Env + Files + Eprint + AllocGlobal), i: usize) -> io::Result<Got> {
+// Reads the file that argument i names, in the same way.
+fn read_argument(
+    rt: &(impl Env + Files + Eprint + AllocGlobal),
+    i: usize,
+) -> io::Result<Option<Vec<u8>>> {
     let mut name = [0u8; 4096];
     let Ok(length) = rt.arg(i, &mut name) else {
         eprintln!(rt; "file name: File name too long")?;
-        return Ok(Got::Nothing);
+        return Ok(None);
     };
     let Ok(path) = str::from_utf8(&name[..length]) else {
         eprintln!(rt; "file name: not UTF-8")?;
-        return Ok(Got::Nothing);
+        return Ok(None);
     };
     match File::open(rt, path) {
         Ok(file) => read_open(rt, file, path),
         Err(why) => {
             fail(rt, path, why)?;
-            Ok(Got::Nothing)
+            Ok(None)
         }
     }
 }
@@ -110,17 +106,17 @@ fn write_counts(rt: &impl Print, counts: Counts) -> io::Result<()> {
 fn write_refusal(rt: &impl Print, first: &[u8], why: Refusal) -> io::Result<()> {
     print!(rt; "refused ")?;
     match check_bundle(first) {
-        Checked::Failed(_) => write_count(rt, refusal::number(why), ": the first file\n"),
-        Checked::Passed => write_count(rt, refusal::number(why), ": the second file\n"),
+        Err(_) => write_count(rt, why.number(), ": the first file\n"),
+        Ok(()) => write_count(rt, why.number(), ": the second file\n"),
     }
 }
 
 // Writes what changed between two files.
 fn compare(rt: &impl Print, first: &[u8], second: &[u8]) -> io::Result<()> {
     let mut out = [0u8; 2176];
-    match bundle_compare::compare_bundles(first, second, &mut out) {
-        Compared::Refused(why) => write_refusal(rt, first, why),
-        Compared::Listed(counts) => {
+    match compare_bundles(first, second, &mut out) {
+        Err(why) => write_refusal(rt, first, why),
+        Ok(counts) => {
             let entries = (counts.only_first + counts.changed + counts.only_second) as usize;
             let end = 17 * entries;
             write_entries(rt, &out[..end])?;
@@ -139,10 +135,10 @@ fn main(rt: HostRuntime) -> io::Result<()> {
     if !has_argument(&rt, 2) || has_argument(&rt, 3) {
         return eprintln!(rt; "usage: compare_bundles FIRST SECOND");
     }
-    let Got::Bytes(first) = read_argument(&rt, 1)? else {
+    let Some(first) = read_argument(&rt, 1)? else {
         return Ok(());
     };
-    let Got::Bytes(second) = read_argument(&rt, 2)? else {
+    let Some(second) = read_argument(&rt, 2)? else {
         return Ok(());
     };
     if first.len() > LARGEST {

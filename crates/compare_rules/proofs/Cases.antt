@@ -25,5 +25,5 @@ use Rattle.compare_rules.specs.Compare.{lookup, listed, first_entries, second_en
 use Rattle.compare_rules.specs.Cases.{CompareCases}
 
 pub compare_cases : CompareCases
-unfolding compare_answer compare_buffer compare_counts compare_check entries_in entries first_entries second_entries listed lookup written count_kind bundle_check contents_check bodies_check body_of last_end follow lines_from line_at file_of lines_of line_of id_repeats id_stands flatten key_id_in fields_in frame_check length_holds wrappable same_list unless ◌and_then◌ within
+unfolding compare_answer compare_buffer compare_counts compare_check entries_in entries first_entries second_entries listed lookup written count_kind bundle_check contents_check bodies_check body_of last_end follow lines_from line_at file_of lines_of line_of id_repeats id_stands flatten key_id_in fields_in frame_check length_holds wrappable same_list unless within
 compare_cases = (refl, refl, refl, refl, refl, refl, refl, refl)

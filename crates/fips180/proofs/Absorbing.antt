@@ -2,66 +2,70 @@
 -- message hashed at once.
 use mathlib.Core.Path.{◌≡◌, refl, sym, ap, ◌∙◌}
 use mathlib.Core.Bool.{Bool, true, false, cond}
-use mathlib.Core.List.{List, [], ◌∷◌, ◌++◌}
-use Prim.Native.Nat.{ℕ, zero, suc, ◌+◌, ◌-◌, ◌*◌, ◌/◌, ◌%◌, ◌^◌, ◌<◌, ◌≤◌}
-use native.Mathlib.Nat.{le_refl}
-use native.Mathlib.Numerals.{add-one}
+use mathlib.Core.List.{List, [], ◌∷◌, ◌++◌, append-nil, append_assoc}
+use Prim.Native.Nat.{ℕ, ◌+◌, ◌-◌, ◌*◌, ◌/◌, ◌%◌, ◌^◌, ◌<◌, ◌≤◌}
+use native.Mathlib.Nat.{zero-add}
 use native.Mathlib.Omega.{arith}
 use lib.Dec.{eqb, lit<}
-use lib.ListN.{length, get_or, take, drop, set, length-drop, length-set}
-use lib.Seq.{sets, sets-eq, paste, length-paste, take-length, length-take-le}
+use lib.ListN.{length, get_or, take, drop, set, length-append, length-drop, length-set}
+use lib.Seq.{sets, sets-eq, take_all, length-take-le}
+use denote.Ref.{Bor}
+use Rattle.std.proofs.lemmas.List.{take_more}
+use Rattle.std.proofs.lemmas.List.Concat.{flat_map-append}
+use Rattle.slices.specs.Parts.{joined}
 use Rattle.slices.proofs.Lists.{rest_drop}
 use Rattle.fips180.specs.Hash.{blocks_by, hash_by}
 use Rattle.fips180.specs.Stream.{Progress, started, absorb_byte, absorbed_by, finished_by}
 use Rattle.fips180.specs.Internal.{closing_by, begun_block}
 use Rattle.fips180.proofs.Stream.{empty, absorbed_append, part, starting, across, finished-closing, stream_is_hash}
 
-paste_sets : (d s : List ℕ) (a : ℕ) → a + length s ≤ length d → paste d a s (length s) ≡ sets d a s
-paste_sets d s a h = ap (λ (l : List ℕ). take a d ++ l ++ drop (a + length s) d) (take-length s) ∙ sym (sets-eq s d a h)
+-- what a copy of s to the place a leaves of d
+abbrev pub copied_at : List ℕ → ℕ → List ℕ → List ℕ
+copied_at d a s = take a d ++ (s ++ drop (a + length s) d)
 
--- `begin`: the bytes of xs from j on, where j is the length of its whole blocks, are put into an empty block
-module _ (xs : List ℕ) {d : List ℕ}
-    (ed : d ≡ paste empty 0 (take (length xs - (length xs - length xs % 64)) (drop (length xs - length xs % 64) xs)) (length (take (length xs - (length xs - length xs % 64)) (drop (length xs - length xs % 64) xs)))) where
-  rest : List ℕ
-  rest = drop (length xs / 64 * 64) xs
+copied_sets : (d s : List ℕ) (a : ℕ) → a + length s ≤ length d → copied_at d a s ≡ sets d a s
+copied_sets d s a h = sym (sets-eq s d a h ∙ append_assoc (take a d) s (drop (a + length s) d))
 
-  rest-fits : 0 + length rest ≤ 64
-  unfolding rest
-  rest-fits = simp length-drop (few (length xs))
-    where
-      few : (x : ℕ) → 0 + (x - x / 64 * 64) ≤ 64
-      few x = omega arith
+rest-fits : (xs : List ℕ) → 0 + length (drop (length xs / 64 * 64) xs) ≤ 64
+rest-fits xs = simp length-drop (few (length xs))
+  where
+    few : (x : ℕ) → 0 + (x - x / 64 * 64) ≤ 64
+    few x = omega arith
 
-  pub begun : d ≡ begun_block xs
-  unfolding begun_block rest
-  begun =
-      ed ∙ ap (λ (t : List ℕ). paste empty 0 t (length t)) (rest_drop (length xs - length xs % 64) xs ∙ ap (λ (i : ℕ). drop i xs) (cuts (length xs)))
-      ∙ paste_sets empty rest 0 rest-fits
-    where
-      cuts : (x : ℕ) → x - x % 64 ≡ x / 64 * 64
-      cuts x = omega arith
+-- `begin`: the bytes of xs from j on, where j is the length of its whole blocks, are copied to an empty block
+pub begun : (xs : List ℕ) {d : List ℕ}
+    → (let x : List ℕ = take (length xs - (length xs - length xs % 64)) (drop (length xs - length xs % 64) xs) in d ≡ take 64 x ++ drop (length x) empty) → d ≡ begun_block xs
+unfolding begun_block
+begun xs e =
+    let rest : List ℕ = drop (length xs / 64 * 64) xs in
+    let few : length rest ≤ 64 = omega (arith, rest-fits xs) in
+    e ∙ ap (λ (x : List ℕ). take 64 x ++ drop (length x) empty) (rest_drop (length xs - length xs % 64) xs ∙ ap (λ (i : ℕ). drop i xs) (cuts (length xs)))
+    ∙ (λ i. take_all 64 rest few i ++ drop (sym (zero-add (length rest)) i) empty) ∙ copied_sets empty rest 0 (rest-fits xs)
+  where
+    cuts : (x : ℕ) → x - x % 64 ≡ x / 64 * 64
+    cuts x = omega arith
 
 pub begun_length : (xs : List ℕ) → length (begun_block xs) ≡ 64
 unfolding begun_block
 begun_length xs =
     let t : List ℕ = drop (length xs / 64 * 64) xs in
-    let l : 0 + length t ≤ 64 = simp length-drop (few (length xs)) in
-    ap length (sym (paste_sets empty t 0 l)) ∙ length-paste empty 0 t (length t) l (le_refl (length t))
+    let l : 0 + length t ≤ 64 = rest-fits xs in
+    ap length (sym (copied_sets empty t 0 l)) ∙ length-append t (drop (0 + length t) empty) ∙ ap (λ (n : ℕ). length t + n) (length-drop (0 + length t) empty) ∙ whole (length t) l
   where
-    few : (x : ℕ) → 0 + (x - x / 64 * 64) ≤ 64
-    few x = omega arith
+    whole : (n : ℕ) → 0 + n ≤ 64 → n + (64 - (0 + n)) ≡ 64
+    whole n h = omega arith
 
 module _ (compress : List ℕ → List ℕ → List ℕ) where
   -- `absorb_into`, where the block stays short of full
   pub part_law : (s : Progress) (xs : List ℕ) → s.count < 2 ^ 64 → length s.block ≡ 64 → length xs < 64 - s.count % 64 → {b : List ℕ} {n : ℕ}
-      → b ≡ paste s.block (s.count % 64) xs (length xs) → n ≡ (s.count + length xs) % 2 ^ 64 → record { value = s.value; block = b; count = n } ≡ absorbed_by compress s xs
+      → b ≡ copied_at s.block (s.count % 64) xs → n ≡ (s.count + length xs) % 2 ^ 64 → record { value = s.value; block = b; count = n } ≡ absorbed_by compress s xs
   part_law s xs f l h eb en =
-      (λ i. record { value = s.value; block = (eb ∙ paste_sets s.block xs (s.count % 64) (omega arith)) i; count = en i }) ∙ sym (part compress s xs f (omega arith))
+      (λ i. record { value = s.value; block = (eb ∙ copied_sets s.block xs (s.count % 64) (omega arith)) i; count = en i }) ∙ sym (part compress s xs f (omega arith))
 
   -- `absorb_into`, where the first k bytes fill the block, and r are the others
   pub over_law : (s : Progress) (xs : List ℕ) (k : ℕ) → s.count < 2 ^ 64 → length s.block ≡ 64 → s.count % 64 + k ≡ 64 → k ≤ length xs
       → {b r e d : List ℕ} {n : ℕ}
-      → b ≡ paste s.block (s.count % 64) (take k xs) (length (take k xs))
+      → b ≡ copied_at s.block (s.count % 64) (take k xs)
       → r ≡ drop k xs
       → e ≡ blocks_by compress (length r / 64) (compress s.value b) r
       → d ≡ begun_block r
@@ -71,21 +75,13 @@ module _ (compress : List ℕ → List ℕ → List ℕ) where
   over_law s xs k f l ek hk {b} eb er ee ed en =
       let lk : length (take k xs) ≡ k = length-take-le k xs hk in
       let room : s.count % 64 + length (take k xs) ≤ length s.block = omega arith in
-      let sb : b ≡ sets s.block (s.count % 64) (take k xs) = eb ∙ paste_sets s.block (take k xs) (s.count % 64) room in
+      let sb : b ≡ sets s.block (s.count % 64) (take k xs) = eb ∙ copied_sets s.block (take k xs) (s.count % 64) room in
       (λ i. record {
         value = (ee ∙ (λ j. blocks_by compress (length (er j) / 64) (compress s.value (sb j)) (er j))) i;
         block = (ed ∙ (λ j. sets empty 0 (drop (length (er j) / 64 * 64) (er j)))) i;
         count = en i;
       })
       ∙ sym (across compress s xs k f ek hk)
-
-  -- the block that is put together is full
-  pub filled_length : (s : Progress) (xs : List ℕ) (k : ℕ) {b : List ℕ} → length s.block ≡ 64 → s.count % 64 + k ≡ 64 → k ≤ length xs
-      → b ≡ paste s.block (s.count % 64) (take k xs) (length (take k xs)) → length b ≡ 64
-  filled_length s xs k l ek hk eb =
-      let lk : length (take k xs) ≡ k = length-take-le k xs hk in
-      let room : s.count % 64 + length (take k xs) ≤ length s.block = omega arith in
-      ap length eb ∙ length-paste s.block (s.count % 64) (take k xs) (length (take k xs)) room (le_refl (length (take k xs))) ∙ l
 
   -- `digest`: the whole blocks, and the bytes after them in a block of their own
   pub at_once : (m : List ℕ) (first : List ℕ) (written : List ℕ → List ℕ) → length m < 2 ^ 64 → {b h r : List ℕ} → b ≡ begun_block m
@@ -117,24 +113,11 @@ module _ (compress : List ℕ → List ℕ → List ℕ) where
     pub closed-law : (written : List ℕ → List ℕ) {r : List ℕ} → n < 2 ^ 64 → r ≡ written (closing_by compress h (take (n % 64) b) n) → r ≡ finished_by compress written (absorbed_by compress s xs)
     closed-law written f er = er ∙ sym (finished-closing compress written (record { value = h; block = b; count = n }) f block-kept) ∙ ap (finished_by compress written) e
 
-  -- parts in a list, absorbed in turn
-  unfoldable pub absorbed_all : Progress → List (List ℕ) → Progress
-  absorbed_all s [] = s
-  absorbed_all s (x ∷ xs) = absorbed_all (absorbed_by compress s x) xs
-
-  one_more : (s : Progress) (l : List (List ℕ)) (j : ℕ) (z : List ℕ) → j < length l → absorbed_by compress (absorbed_all s (take j l)) (get_or l j z) ≡ absorbed_all s (take (suc j) l)
-  unfolding absorbed_all
-  one_more s [] j z h = absurd (omega arith)
-  one_more s (x ∷ l) zero z h = refl
-  one_more s (x ∷ l) (suc j) z h = one_more (absorbed_by compress s x) l j z (omega arith)
-
-  -- a turn of a loop over parts
-  pub next_part : (s : Progress) (l : List (List ℕ)) (j : ℕ) {t u : Progress} {x : List ℕ} (z : List ℕ) → j < length l → t ≡ absorbed_all s (take j l)
-      → x ≡ get_or l j z → u ≡ absorbed_by compress t x → u ≡ absorbed_all s (take (j + 1) l)
-  next_part s l j z h et ex eu =
-      eu ∙ (λ i. absorbed_by compress (et i) (ex i)) ∙ one_more s l j z h ∙ ap (λ (k : ℕ). absorbed_all s (take k l)) (sym (add-one j))
-
-  pub all_six : (s : Progress) (a b c d e f : List ℕ)
-      → absorbed_all s (a ∷ b ∷ c ∷ d ∷ e ∷ f ∷ []) ≡ absorbed_by compress s (a ++ (b ++ (c ++ (d ++ (e ++ f)))))
-  unfolding absorbed_all
-  all_six s a b c d e f = simp (absorbed_append compress)
+  -- a turn of a loop over the parts of a text
+  pub next_part : (s : Progress) (l : List (Bor (List ℕ))) (j : ℕ) (d : Bor (List ℕ)) {t u : Progress} → j < length l
+      → t ≡ absorbed_by compress s (joined (take j l)) → u ≡ absorbed_by compress t (get_or l j d).now → u ≡ absorbed_by compress s (joined (take (j + 1) l))
+  next_part s l j d h et eu =
+      let x : List ℕ = (get_or l j d).now in
+      let one : joined (take (j + 1) l) ≡ joined (take j l) ++ (x ++ []) = ap joined (take_more l j d h) ∙ flat_map-append _ (take j l) (get_or l j d ∷ []) in
+      eu ∙ ap (λ (v : Progress). absorbed_by compress v x) et ∙ sym (absorbed_append compress s (joined (take j l)) x)
+      ∙ ap (absorbed_by compress s) (ap (λ (y : List ℕ). joined (take j l) ++ y) (sym (append-nil x)) ∙ sym one)

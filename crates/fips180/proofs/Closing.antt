@@ -3,7 +3,7 @@ use mathlib.Core.Path.{◌≡◌, refl, sym, ap, ◌∙◌}
 use mathlib.Core.List.{List, [], ◌∷◌, ◌++◌, append_assoc, append-nil}
 use Prim.Native.Nat.{ℕ, zero, suc, ◌+◌, ◌-◌, ◌*◌, ◌/◌, ◌%◌, ◌^◌, ◌<◌, ◌≤◌}
 use native.Mathlib.Omega.{arith}
-use lib.ListN.{length, take, replicate, set, length-append, length-replicate, get_or-replicate, replicate-append-replicate, drop_of_length-le}
+use lib.ListN.{drop, length, take, replicate, set, length-append, length-replicate, get_or-replicate, replicate-append-replicate, drop_of_length-le}
 use lib.Seq.{sets-eq, paste, paste-suc, take-append-add, take_at, drop_at, take_all, length-take-le}
 use Rattle.slices.specs.Numbers.{be64}
 use Rattle.fips180.specs.Hash.{padding, blocks_by}
@@ -69,6 +69,15 @@ length_put b n l =
     room : (k : ℕ) → k ≡ 64 → 64 ≤ k
     room k e = omega arith
 
+    end : (k : ℕ) → k ≡ 64 → k ≤ 64
+    end k e = omega arith
+
+-- the message's length, copied to the block's last eight bytes
+pub length_copied : (b : List ℕ) (n : ℕ) {c : List ℕ} → length b ≡ 64 → c ≡ take 56 b ++ (be64 (n * 8 % 2 ^ 64) ++ drop 64 b) → c ≡ take 56 b ++ be64 (8 * n % 2 ^ 64)
+length_copied b n l e =
+    let same : n * 8 % 2 ^ 64 ≡ 8 * n % 2 ^ 64 = omega arith in
+    e ∙ ap (λ (k : ℕ). take 56 b ++ (be64 k ++ drop 64 b)) same ∙ ap (λ (x : List ℕ). take 56 b ++ (be64 (8 * n % 2 ^ 64) ++ x)) (drop_of_length-le b {i = 64} (end (length b) l)) ∙ ap (λ (x : List ℕ). take 56 b ++ x) (append-nil (be64 (8 * n % 2 ^ 64)))
+  where
     end : (k : ℕ) → k ≡ 64 → k ≤ 64
     end k e = omega arith
 

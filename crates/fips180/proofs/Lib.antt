@@ -6,8 +6,8 @@ mod Schedule
 pub mod Sha1Schedule
 pub mod Sha1Rounds
 pub mod Sha256Schedule
-pub mod Window
 pub mod Stream
 pub mod Absorbing
 pub mod Closing
 pub mod Marked
+pub mod Digests

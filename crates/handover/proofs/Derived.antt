@@ -15,7 +15,7 @@ use Rattle.handover_rules.specs.Kdf.{kdf_input}
 use Rattle.handover_rules.specs.Handover.{r0_input, r1_input, r0_key, r1_key}
 use Rattle.handover_rules.proofs.Keys.{r0_of_blocks, r1_of_blocks}
 use Rattle.handover.specs.Internal.{two_macs}
-use Rattle.handover.proofs.Answers.{front_of}
+use Rattle.handover.proofs.Front.{front_of}
 
 -- two lists of 20 copied to a buffer one after the other, the second cut to 12: z is what its copy leaves of the part that begins at 20
 two-parts : (f s out : List ℕ) {one z : List ℕ} → length f ≡ 20 → length s ≡ 20 → one ≡ take (length f) f ++ drop (length f) out

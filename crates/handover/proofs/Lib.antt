@@ -1,3 +1,4 @@
-mod Answers
+mod Front
 mod Derived
 mod Names
+mod Parts

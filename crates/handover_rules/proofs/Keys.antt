@@ -5,7 +5,7 @@ use mathlib.Core.List.{List, ◌++◌}
 use native.Mathlib.Omega.{arith}
 use lib.ListN.{length, take, length-append}
 use lib.Seq.{length-take-le}
-use Rattle.refusal.specs.Checks.{unless, ◌and_then◌}
+use Rattle.refusal.specs.Checks.{unless}
 use Rattle.hmac_sha1.specs.Rfc2104.{hmac_sha1}
 use Rattle.hmac_sha1.proofs.Laws.{hmac_sha1-length}
 use Rattle.handover_rules.specs.Kdf.{kdf_input, iterations, result_after, kdf}
@@ -41,5 +41,5 @@ key_of_blocks = (
 )
 
 pub some_accepted : SomeAccepted
-unfolding r0_check r1_check r0_name_check ◌and_then◌ unless
+unfolding r0_check r1_check r0_name_check unless
 some_accepted = (refl, refl, refl, refl, refl, refl, refl)

@@ -12,7 +12,7 @@ fn read(area: &[u8], own_name: &[u8], way: Way, out: &mut [u16]) -> AreaOutcome
     ensures answer { result ≡ area_outcome (area_answer way area.now own_name.now (length out.old)) }
     ensures buffer { out.new ≡ area_buffer way area.now own_name.now out.old }
 {
-    outcome::areas::returned(area::read_area(area, own_name, way, out))
+    area::read_area(area, own_name, way, out).into()
 }
 
 // RFC 5448, sections 3.1 and 3.2: the offers and the name of an attribute area. A name that differs from the peer's own is refused.

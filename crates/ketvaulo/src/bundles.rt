@@ -14,7 +14,7 @@ pub extern "C" fn kv_write_bundle(attributes: &[u8], out: &mut [u8]) -> Outcome
     ensures answer { result ≡ outcome_of (Bundle.write_answer attributes.now (length out.old)) }
     ensures buffer { out.new ≡ Bundle.write_buffer attributes.now out.old }
 {
-    outcome::returned(bundle_writer::write(attributes, out))
+    bundle_writer::write(attributes, out).into()
 }
 
 // Document 02, request 9: the Key attributes of a file, packed end to end.
@@ -23,7 +23,7 @@ pub extern "C" fn kv_read_bundle(file: &[u8], out: &mut [u8]) -> Outcome
     ensures answer { result ≡ outcome_of (Bundle.read_answer file.now (length out.old)) }
     ensures buffer { out.new ≡ Bundle.read_buffer file.now out.old }
 {
-    outcome::returned(bundle_reader::read(file, out))
+    bundle_reader::read(file, out).into()
 }
 
 // Document 02, request 10: what changed between two bundles.
@@ -32,5 +32,5 @@ pub extern "C" fn kv_compare_bundles(first: &[u8], second: &[u8], out: &mut [u8]
     ensures answer { result ≡ compared first.now second.now (length out.old) }
     ensures buffer { out.new ≡ compare_buffer first.now second.now out.old }
 {
-    outcome::comparisons::returned(bundle_compare::compare_bundles(first, second, out))
+    bundle_compare::compare_bundles(first, second, out).into()
 }

@@ -11,7 +11,7 @@ pub extern "C" fn kv_r0_key(rrk: &[u8], ad_id: &[u8], spa: &[u8], out: &mut [u8]
     ensures answer { result ≡ outcome_of (r0_answer rrk.now ad_id.now spa.now (length out.old)) }
     ensures buffer { out.new ≡ r0_buffer rrk.now ad_id.now spa.now out.old }
 {
-    outcome::returned(handover::r0_key(rrk, ad_id, spa, out))
+    handover::r0_key(rrk, ad_id, spa, out).into()
 }
 
 // Source document 003: the R1-Key of an access node and a supplicant under an R0-Key, 32 bytes.
@@ -26,7 +26,7 @@ pub extern "C" fn kv_r1_key(
     ensures answer { result ≡ outcome_of (r1_answer r0_key.now ad_id.now an_id.now spa.now (length out.old)) }
     ensures buffer { out.new ≡ r1_buffer r0_key.now ad_id.now an_id.now spa.now out.old }
 {
-    outcome::returned(handover::r1_key(r0_key, ad_id, an_id, spa, out))
+    handover::r1_key(r0_key, ad_id, an_id, spa, out).into()
 }
 
 // Source document 003: the R0Name of an R0-Key, 16 bytes.
@@ -40,5 +40,5 @@ pub extern "C" fn kv_r0_name<'a>(
     ensures answer { result ≡ outcome_of (r0_name_answer r0_key.now ad_id.now spa.now (length out.old)) }
     ensures buffer { out.new ≡ r0_name_buffer r0_key.now ad_id.now spa.now out.old }
 {
-    outcome::returned(handover::r0_name(r0_key, ad_id, spa, out))
+    handover::r0_name(r0_key, ad_id, spa, out).into()
 }

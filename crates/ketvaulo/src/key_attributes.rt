@@ -22,7 +22,7 @@ pub extern "C" fn kv_write_key_attribute(
     ensures answer { result ≡ key_written attribute_type app_id kek_id.now key_id.now lifetime kek.now key.now (length out.old) }
     ensures buffer { out.new ≡ key_buffer attribute_type app_id kek_id.now key_id.now lifetime kek.now key.now out.old }
 {
-    outcome::returned(key_writer::write(
+    key_writer::write(
         attribute_type,
         app_id,
         kek_id,
@@ -31,7 +31,8 @@ pub extern "C" fn kv_write_key_attribute(
         kek,
         key,
         out,
-    ))
+    )
+    .into()
 }
 
 // Source document 004, section 3.1: the fields and the key of a Key attribute.
@@ -44,5 +45,5 @@ pub extern "C" fn kv_read_key_attribute(
     ensures answer { result ≡ key_outcome (reading kek.now attribute.now (length out.old)) }
     ensures buffer { out.new ≡ read_buffer kek.now attribute.now out.old }
 {
-    outcome::key_attributes::returned(key_reader::read(kek, attribute, out))
+    key_reader::read(kek, attribute, out).into()
 }

@@ -21,7 +21,7 @@ pub extern "C" fn kv_usage_key<'a>(
     ensures answer { result ≡ outcome_of (request_answer emsk.now (for_usage label.now «data».now n (length out.old))) }
     ensures buffer { out.new ≡ request_buffer emsk.now (for_usage label.now «data».now n (length out.old)) out.old }
 {
-    outcome::returned(usage::usage_key(emsk, label, data, n as usize, out))
+    usage::usage_key(emsk, label, data, n as usize, out).into()
 }
 
 // Source document 001: the VRK under an EMSK, 64 bytes.
@@ -30,7 +30,7 @@ pub extern "C" fn kv_visited_root_key(emsk: &[u8], out: &mut [u8]) -> Outcome
     ensures answer { result ≡ outcome_of (request_answer emsk.now (for_vrk (length out.old))) }
     ensures buffer { out.new ≡ request_buffer emsk.now (for_vrk (length out.old)) out.old }
 {
-    outcome::returned(visited::visited_root_key(emsk, out))
+    visited::visited_root_key(emsk, out).into()
 }
 
 // Source document 001: the VMSK of a server and a domain under a VRK, 64 bytes.
@@ -44,7 +44,7 @@ pub extern "C" fn kv_visited_master_key<'a>(
     ensures answer { result ≡ outcome_of (vmsk_answer vrk.now server_id.now domain.now (length out.old)) }
     ensures buffer { out.new ≡ vmsk_buffer vrk.now server_id.now domain.now out.old }
 {
-    outcome::returned(visited::visited_master_key(vrk, server_id, domain, out))
+    visited::visited_master_key(vrk, server_id, domain, out).into()
 }
 
 // Source document 001: the V-rRK under a VMSK, 64 bytes.
@@ -53,7 +53,7 @@ pub extern "C" fn kv_visited_reauth_key(vmsk: &[u8], out: &mut [u8]) -> Outcome
     ensures answer { result ≡ outcome_of (reauth_answer vmsk.now (length out.old)) }
     ensures buffer { out.new ≡ reauth_buffer vmsk.now out.old }
 {
-    outcome::returned(visited::visited_reauth_key(vmsk, out))
+    visited::visited_reauth_key(vmsk, out).into()
 }
 
 // RFC 5295: the root key of a domain under an EMSK, 64 bytes.
@@ -62,7 +62,7 @@ pub extern "C" fn kv_domain_root_key<'a>(emsk: &[u8], domain: &'a [u8], out: &mu
     ensures answer { result ≡ outcome_of (request_answer emsk.now (for_domain domain.now (length out.old))) }
     ensures buffer { out.new ≡ request_buffer emsk.now (for_domain domain.now (length out.old)) out.old }
 {
-    outcome::returned(domain_keys::domain_root_key(emsk, domain, out))
+    domain_keys::domain_root_key(emsk, domain, out).into()
 }
 
 // RFC 5296: the re-authentication root key under the root key of a domain, 64 bytes.
@@ -71,7 +71,7 @@ pub extern "C" fn kv_domain_reauth_key(dsrk: &[u8], out: &mut [u8]) -> Outcome
     ensures answer { result ≡ outcome_of (rrk_answer dsrk.now (length out.old)) }
     ensures buffer { out.new ≡ rrk_buffer dsrk.now out.old }
 {
-    outcome::returned(domain_keys::domain_reauth_key(dsrk, out))
+    domain_keys::domain_reauth_key(dsrk, out).into()
 }
 
 // RFC 5448: K_encr, K_aut, K_re, MSK and EMSK of EAP-AKA' from CK and IK, 208 bytes.
@@ -87,7 +87,7 @@ pub extern "C" fn kv_aka_keys<'a>(
     ensures answer { result ≡ outcome_of (aka_answer ck.now ik.now name.now sqn_xor_ak.now identity.now (length out.old)) }
     ensures buffer { out.new ≡ aka_buffer ck.now ik.now name.now sqn_xor_ak.now identity.now out.old }
 {
-    outcome::returned(aka_keys::aka_keys(ck, ik, name, sqn_xor_ak, identity, out))
+    aka_keys::aka_keys(ck, ik, name, sqn_xor_ak, identity, out).into()
 }
 
 // Source document 001: the name of a Session-ID and a label, 8 bytes.
@@ -96,5 +96,5 @@ pub extern "C" fn kv_key_name(session_id: &[u8], label: &[u8], out: &mut [u8]) -
     ensures answer { result ≡ outcome_of (name_answer session_id.now label.now (length out.old)) }
     ensures buffer { out.new ≡ name_buffer session_id.now label.now out.old }
 {
-    outcome::returned(key_name::key_name(session_id, label, out))
+    key_name::key_name(session_id, label, out).into()
 }

@@ -12,7 +12,7 @@ use outcome::negotiations::FirstRoundOutcome;
 pub extern "C" fn kv_choose_offer(offers: &[u16], supported: &[u16]) -> FirstRoundOutcome
     ensures { result ≡ first_round_outcome (first_round offers.now supported.now) }
 {
-    outcome::negotiations::first_round(offers::choose(offers, supported))
+    offers::choose(offers, supported).into()
 }
 
 // RFC 5448, section 3.2: the server, on the peer's reply.
@@ -21,7 +21,7 @@ pub extern "C" fn kv_answer_offer(offers: &[u16], reply: u16, out: &mut [u16]) -
     ensures answer { result ≡ outcome_of (server_answer offers.now reply out.old) }
     ensures buffer { out.new ≡ server_buffer offers.now reply out.old }
 {
-    outcome::returned(offers::answer(offers, reply, out))
+    offers::answer(offers, reply, out).into()
 }
 
 // RFC 5448, section 3.2: the peer, on the renewed list.
@@ -29,5 +29,5 @@ pub extern "C" fn kv_answer_offer(offers: &[u16], reply: u16, out: &mut [u16]) -
 pub extern "C" fn kv_check_renewed(original: &[u16], choice: u16, renewed: &[u16]) -> Outcome
     ensures { result ≡ renewed_outcome (renewed_answer original.now choice renewed.now) }
 {
-    outcome::negotiations::renewed(offers::recheck(original, choice, renewed))
+    offers::recheck(original, choice, renewed).into()
 }

@@ -12,7 +12,7 @@ pub extern "C" fn kv_sign_packet(mac_key: &[u8], attribute_type: u8, packet: &mu
     ensures answer { result ≡ outcome_of (sign_answer mac_key.now attribute_type packet.old) }
     ensures buffer { packet.new ≡ sign_buffer hmac_sha256 mac_key.now attribute_type packet.old }
 {
-    outcome::returned(packet_mac::sign(mac_key, attribute_type, packet))
+    packet_mac::sign(mac_key, attribute_type, packet).into()
 }
 
 // Source document 004, section 3.3: the MAC in a packet's attribute of the type is checked; 0.
@@ -20,5 +20,5 @@ pub extern "C" fn kv_sign_packet(mac_key: &[u8], attribute_type: u8, packet: &mu
 pub extern "C" fn kv_check_packet(mac_key: &[u8], attribute_type: u8, packet: &[u8]) -> Outcome
     ensures { result ≡ check_outcome (check_check hmac_sha256 mac_key.now attribute_type packet.now) }
 {
-    outcome::checked(packet_mac::check(mac_key, attribute_type, packet))
+    packet_mac::check(mac_key, attribute_type, packet).into()
 }

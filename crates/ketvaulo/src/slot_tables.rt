@@ -1,4 +1,4 @@
-// The exported functions: slots.
+// The exported functions: slots. Each call takes the answer and the slots apart by itself: a function for both costs two copies of the slots on the stack.
 ghost use Rattle.std.specs.Prelude.{◌≡◌};
 ghost use Rattle.outcome.specs.Outcomes.{outcome_of};
 ghost use Rattle.slot_rules.specs.Table.{live_slot_count};
@@ -6,6 +6,7 @@ ghost use Rattle.slot_rules.specs.Calls.{put_answer, drop_answer};
 ghost use Rattle.slot_rules.specs.Stored.{table_of, put_stored, drop_stored};
 ghost use Rattle.outcome.specs.SlotTables.{parent_for, slots_outcome};
 
+use outcome::Outcome;
 use outcome::slot_tables::SlotsOutcome;
 use slot_rules::{Name, Slots};
 
@@ -15,13 +16,11 @@ pub extern "C" fn kv_put_slot(slots: Slots, name: Name, parent: u64) -> SlotsOut
     ensures { result ≡ slots_outcome (outcome_of (put_answer (table_of slots) (parent_for parent))) (put_stored slots name (parent_for parent)) }
 {
     let put = slots::put(slots, name, outcome::slot_tables::parent_for(parent));
-    let next = put.slots;
-    let said = put.answer;
-    let answer = outcome::returned(said);
+    let Outcome { refusal, value } = put.answer.into();
     SlotsOutcome {
-        refusal: answer.refusal,
-        value: answer.value,
-        slots: next,
+        refusal,
+        value,
+        slots: put.slots,
     }
 }
 
@@ -31,13 +30,11 @@ pub extern "C" fn kv_drop_slot(slots: Slots, number: u64) -> SlotsOutcome
     ensures { result ≡ slots_outcome (outcome_of (drop_answer (table_of slots) number)) (drop_stored slots number) }
 {
     let dropped = slots::drop(slots, number);
-    let left = dropped.slots;
-    let said = dropped.answer;
-    let answer = outcome::returned(said);
+    let Outcome { refusal, value } = dropped.answer.into();
     SlotsOutcome {
-        refusal: answer.refusal,
-        value: answer.value,
-        slots: left,
+        refusal,
+        value,
+        slots: dropped.slots,
     }
 }
 

@@ -7,13 +7,13 @@ use native.Mathlib.Omega.{arith}
 use borrow.Author.Tests.{eqb-true, eqb-false, le-leb, lt-leb, not-true}
 use lib.Dec.{leb, eqb}
 use lib.ListN.{length, get_or}
-use Rattle.refusal.specs.Checks.{Check, pass, refuse, bare, unless, ◌and_then◌, within, check20}
+use Rattle.refusal.specs.Checks.{pass, within}
 use Rattle.refusal.proofs.Passing.{within_low, within-high, before-passed, last-passed, test_passed}
 use Rattle.slices.proofs.Truth.{and_left, and_right}
 use Rattle.slices.proofs.Same.{same_equal}
 use Rattle.rfc3394.specs.Rfc3394.{initial_value}
 use Rattle.keywrap.specs.Calls.{wrappable}
-use Rattle.key_frame.specs.KeyFrame.{iv_in, length_holds, check25, check26, check27, frame_check}
+use Rattle.key_frame.specs.KeyFrame.{iv_in, length_holds, frame_check}
 
 -- a length that a key to wrap may have
 pub record KeyLength (n : ℕ) : Type 0 where
@@ -66,15 +66,6 @@ unfolding length_holds
 length_of a x b h e f =
     let two : 2 ≤ length a = omega arith in
     rw (e, f, le-leb 2 (length a) two)
-
--- the tests of the frame, by the length
-pub frame_of : (a : List ℕ) {c : Check} → length_holds a ≡ true → c ≡ (check20 (get_or a 0 0) and_then check25 a and_then check26 a and_then check27 a) → c ≡ frame_check a
-unfolding frame_check unless ◌and_then◌
-frame_of a h e = rw h e
-
-pub frame_refused : (a : List ℕ) → length_holds a ≡ false → refuse (bare 24) ≡ frame_check a
-unfolding frame_check unless ◌and_then◌
-frame_refused a h = rw h
 
 -- an attribute whose frame passes
 pub record Framed (a : List ℕ) : Type 0 where

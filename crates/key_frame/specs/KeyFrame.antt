@@ -68,6 +68,6 @@ check27 a = unless (same_list (iv_in a) initial_value) (bare 27)
 unfoldable pub frame_check : List ℕ → Check
 frame_check a = check24 a and_then check20 (get_or a 0 0) and_then check25 a and_then check26 a and_then check27 a
 
--- sixteen bytes of a list: its first, and zeros after them where it has fewer
-abbrev pub sixteen_of : List ℕ → List ℕ
-sixteen_of s = take 16 s ++ drop (length s) (replicate 16 0)
+-- n bytes of a list: its first, and zeros after them where it has fewer
+abbrev pub first_of : ℕ → List ℕ → List ℕ
+first_of n s = take n s ++ drop (length s) (replicate n 0)

@@ -1,20 +1,21 @@
 // The reader of the RADIUS Key attribute (source document 004, section 3.1): it tests an attribute, unwraps the key under a KEK, and returns the fields.
 #![tactic(auto)]
 
-ghost use Rattle.std.specs.Prelude.{◌≡◌, ◌+◌, ◌≤◌, length};
-ghost use Rattle.refusal.specs.Answers.{Answer, answer_of, reason_of};
+ghost use Rattle.std.specs.Prelude.{◌≡◌, ◌+◌, ◌≤◌, OnOk, length};
+ghost use Rattle.refusal.specs.Checks.{◌and_then◌};
+ghost use Rattle.refusal.specs.Answers.{checked_as};
 ghost use Rattle.slices.specs.Numbers.{be32_at};
-ghost use Rattle.key_frame.specs.KeyFrame.{fields_in};
-ghost use Rattle.key_reader.specs.KeyReader.{reading, read_buffer, answer_in, no_fields, fields_read};
+ghost use Rattle.key_frame.specs.KeyFrame.{fields_in, check22, frame_check};
+ghost use Rattle.key_reader.specs.KeyReader.{reading_of, reading, read_buffer};
 
-use key_frame::{KeyFields, check_frame, sixteen};
-use refusal::{Answered, Checked, Refusal, then_check, unless};
+use key_frame::{KeyFields, check_frame, first};
+use refusal::{Refusal, unless};
 use slices::from_be32;
 
-// What reading answers: the key's length or a refusal, and the fields, which are all zero on a refusal.
-#[derive(Drop)]
+// What reading yields: the key's length, and the fields.
+#[derive(Clone, Copy)]
 pub struct KeyRead {
-    pub answer: Answered,
+    pub key_len: usize,
     pub fields: KeyFields,
 }
 
@@ -31,54 +32,35 @@ fn fields(attribute: &[u8]) -> KeyFields
     requires { 52 ≤ length attribute.now }
     ensures { result ≡ fields_in attribute.now }
 {
-    let kek_id = sixteen(&attribute[8..24]);
-    let key_id = sixteen(&attribute[24..40]);
     KeyFields {
         attribute_type: attribute[0],
         app_id: number_at(attribute, 4),
-        kek_id,
-        key_id,
+        kek_id: first(&attribute[8..24]),
+        key_id: first(&attribute[24..40]),
         lifetime: number_at(attribute, 40),
     }
 }
 
-// A refusal, with fields that are all zero.
-fn not_read(why: Refusal) -> KeyRead
-    ensures { (answer_of result.answer ≡ Answer.refused (reason_of why)) × (result.fields ≡ no_fields) }
+// The tests before the unwrapping: the KEK, and the attribute's frame.
+fn check_framed(kek: &[u8], attribute: &[u8]) -> Result<(), Refusal>
+    ensures tests { checked_as result ≡ (check22 kek.now and_then frame_check attribute.now) }
+    ensures long { OnOk result (76 ≤ length attribute.now) }
 {
-    let none = [0u8; 16];
-    KeyRead {
-        answer: Answered::Refused(why),
-        fields: KeyFields {
-            attribute_type: 0,
-            app_id: 0,
-            kek_id: none,
-            key_id: none,
-            lifetime: 0,
-        },
-    }
+    unless(kek.len() == 16, Refusal::KekLength)?;
+    check_frame(attribute)
 }
 
 // Reads an attribute: answers its fields and the key's length, and writes the key. The unwrapping tests the room, and writes nothing before it has yielded the
 // initial value.
-pub fn read(kek: &[u8], attribute: &[u8], out: &mut [u8]) -> KeyRead
-    ensures answer { answer_of result.answer ≡ answer_in (reading kek.now attribute.now (length out.old)) }
-    ensures fields { result.fields ≡ fields_read (reading kek.now attribute.now (length out.old)) }
+#[tactic(auto, unfolding(crate::specs::KeyReader::reading, crate::specs::KeyReader::read_buffer, crate::specs::KeyReader::read_check))]
+pub fn read(kek: &[u8], attribute: &[u8], out: &mut [u8]) -> Result<KeyRead, Refusal>
+    ensures answer { reading_of result ≡ reading kek.now attribute.now (length out.old) }
     ensures buffer { out.new ≡ read_buffer kek.now attribute.now out.old }
 {
-    let c22 = unless(kek.len() == 16, Refusal::KekLength);
-    let check = then_check(c22, check_frame(attribute));
-    match check {
-        Checked::Failed(why) => not_read(why),
-        Checked::Passed => {
-            let answer = keywrap_aes::unwrap(sixteen(kek), &attribute[52..], out);
-            match answer {
-                Answered::Refused(late) => not_read(late),
-                Answered::Accepted(n) => KeyRead {
-                    answer: Answered::Accepted(n),
-                    fields: fields(attribute),
-                },
-            }
-        }
-    }
+    check_framed(kek, attribute)?;
+    let key_len = keywrap_aes::unwrap(first(kek), &attribute[52..], out)?;
+    Ok(KeyRead {
+        key_len,
+        fields: fields(attribute),
+    })
 }

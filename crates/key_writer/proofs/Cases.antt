@@ -15,5 +15,5 @@ pub attribute_cases : (f : KeyFields) (kek key buffer : List ℕ)
     → (check20 f.attribute_type and_then check21 f.kek_id f.key_id and_then check22 kek) ≡ pass
     → (length key ≡ 192 → 252 ≤ length buffer → (write_answer f kek key (length buffer) ≡ returned 252) × (get_or (write_buffer f kek key buffer) 1 0 ≡ 252))
     × (length key ≡ 200 → write_answer f kek key (length buffer) ≡ refused (bare 23))
-unfolding write_answer write_buffer write_check attribute header unless ◌and_then◌ within wrappable
+unfolding write_answer write_buffer write_check attribute header unless within wrappable
 attribute_cases f kek key buffer e = (λ n h. rw (e, n, le-leb 252 (length buffer) h) (refl, refl), λ n. rw (e, n))

@@ -13,15 +13,15 @@ use lib.ListN.{length, take, drop, length-append, length-drop, take-append-drop}
 use lib.Seq.{drop_at, drop-drop, length-take-le}
 use Rattle.refusal.specs.Checks.{Reason, Check, pass, refuse, ◌and_then◌, check20}
 use Rattle.refusal.specs.Answers.{Answer, returned, answer_to, buffer_after}
-use Rattle.refusal.proofs.Passing.{before-passed, last-passed, test_passed, first_refuses}
+use Rattle.refusal.proofs.Passing.{before-passed, last-passed, test_passed}
 use Rattle.slices.proofs.Truth.{and_left, and_right, same_truth}
 use Rattle.slices.proofs.Lists.{rest_drop}
 use Rattle.rfc3394.specs.Rfc3394.{wrapped}
 use Rattle.keywrap.specs.Calls.{wrap_check}
-use Rattle.key_frame.specs.KeyFrame.{fields_of, header, check22, sixteen_of}
+use Rattle.key_frame.specs.KeyFrame.{fields_of, header, check22, first_of}
 use Rattle.key_frame.specs.declared.KeyFields.{KeyFields}
 use Rattle.key_frame.proofs.Frames.{KeyLength, key-length}
-use Rattle.key_frame.proofs.ByValue.{sixteen_whole}
+use Rattle.key_frame.proofs.ByValue.{first_whole}
 use Rattle.key_writer.specs.KeyWriter.{attribute_length, attribute, check21, write_check, write_answer, write_buffer}
 use Rattle.refusal.proofs.Answering.{told_count, told_refusal}
 use Rattle.key_frame.proofs.Parts.{put_from}
@@ -45,26 +45,18 @@ lengths f kek e =
       kek_size = eqb-true _ _ (test_passed _ _ (last-passed _ _ e));
     }
 
--- they refuse: the answer is their refusal, and the buffer is as it was
-pub refused_named : (f : KeyFields) (kek key buffer : List ℕ) (x : Reason) → named f kek ≡ refuse x
-    → (Answer.refused x ≡ write_answer f kek key (length buffer)) × (buffer ≡ write_buffer f kek key buffer)
-unfolding write_answer write_buffer write_check
-refused_named f kek key buffer x e =
-    let c : write_check f kek key (length buffer) ≡ refuse x = sym (first_refuses _ _ (sym (first_refuses _ _ e))) in
-    rw c (refl, refl)
-
 -- the room from byte 52 on, or from the end where that comes first, is enough for the wrapped key where the whole is enough for the attribute
-same_fit : (n room start : ℕ) → start ≡ min 52 room → leb (60 + n) room ≡ leb (n + 8) (room - start)
+same_fit : (n room start : ℕ) → start ≡ min room 52 → leb (60 + n) room ≡ leb (n + 8) (room - start)
 same_fit n room start e =
     same_truth (leb (60 + n) room) (leb (n + 8) (room - start))
     (λ p. let fits = leb-true (60 + n) room p in le-leb (n + 8) (room - start) (there (dec_lt room 52) fits))
     (λ p. let fits = leb-true (n + 8) (room - start) p in le-leb (60 + n) room (back (dec_lt room 52) fits))
   where
     short : room < 52 → start ≡ room
-    short h = let le : room ≤ 52 = omega arith in e ∙ min-eq_right le
+    short h = let le : room ≤ 52 = omega arith in e ∙ min-eq_left le
 
     long : (room < 52 → ⊥) → start ≡ 52
-    long h = let le : 52 ≤ room = omega arith in e ∙ min-eq_left le
+    long h = let le : 52 ≤ room = omega arith in e ∙ min-eq_right le
 
     there : Dec (room < 52) → 60 + n ≤ room → n + 8 ≤ room - start
     there (yes h) fits = omega arith
@@ -83,13 +75,13 @@ record Accepted (f : KeyFields) (kek key buffer : List ℕ) (start n : ℕ) : Ty
   pub at_52 : start ≡ 52
 
 -- they pass, and the part of the buffer from there on is lent to the wrap routine, which leaves z in it
-module _ (f : KeyFields) (kek key buffer : List ℕ) (ok : named f kek ≡ pass) (start : ℕ) (at : start ≡ min 52 (length buffer)) where
+module _ (f : KeyFields) (kek key buffer : List ℕ) (ok : named f kek ≡ pass) (start : ℕ) (at : start ≡ min (length buffer) 52) where
   abbrev part : List ℕ
   part = take (length buffer - start) (drop start buffer)
 
   -- what it tests is what is left to test
   rest_tests : write_check f kek key (length buffer) ≡ wrap_check (length key) (length part)
-  unfolding write_check wrap_check ◌and_then◌
+  unfolding write_check wrap_check
   rest_tests =
       let size : length part ≡ length buffer - start = rw (rest_drop start buffer) (length-drop start buffer) in
       rw (ok, size, same_fit (length key) (length buffer) start at)
@@ -117,7 +109,7 @@ module _ (f : KeyFields) (kek key buffer : List ℕ) (ok : named f kek ≡ pass)
         count = t.1;
         size = key-length _ (test_passed _ _ (last-passed _ _ (before-passed _ _ tests)));
         fits = fits;
-        at_52 = at ∙ min-eq_left long;
+        at_52 = at ∙ min-eq_right long;
       }
 
   -- the attribute's length is at most 252
@@ -136,20 +128,20 @@ module _ (f : KeyFields) (kek key buffer : List ℕ) (ok : named f kek ≡ pass)
       rw (put_from start buffer z) (omega arith)
 
   -- which is put there
-  pub written_wrap : (kek₁ kek_id key_id : List ℕ) (n all : ℕ) {z after : List ℕ} → returned n ≡ answer_to (wrap_check (length key) (length part)) (length key + 8) → kek₁ ≡ sixteen_of kek
+  pub written_wrap : (kek₁ kek_id key_id : List ℕ) (n all : ℕ) {z after : List ℕ} → returned n ≡ answer_to (wrap_check (length key) (length part)) (length key + 8) → kek₁ ≡ first_of 16 kek
       → z ≡ buffer_after (wrap_check (length key) (length part)) (length key + 8) (wrapped kek₁ key) part
       → all ≡ 52 + n
-      → kek_id ≡ sixteen_of f.kek_id
-      → key_id ≡ sixteen_of f.key_id
+      → kek_id ≡ first_of 16 f.kek_id
+      → key_id ≡ first_of 16 f.key_id
       → after ≡ header (fields_of f.attribute_type f.app_id kek_id key_id f.lifetime) all ++ drop 52 (put_mid start (length buffer - start) buffer z)
       → (returned all ≡ write_answer f kek key (length buffer)) × (after ≡ write_buffer f kek key buffer)
   unfolding write_answer write_buffer attribute
   written_wrap kek₁ kek_id key_id n all {z} {after} a k b s k₁ k₂ h =
       let acc = accepted_wrap n a in
       let sizes = lengths f kek ok in
-      let same : kek₁ ≡ kek = k ∙ sixteen_whole kek sizes.kek_size in
-      let same₁ : kek_id ≡ f.kek_id = k₁ ∙ sixteen_whole f.kek_id sizes.kek_id in
-      let same₂ : key_id ≡ f.key_id = k₂ ∙ sixteen_whole f.key_id sizes.key_id in
+      let same : kek₁ ≡ kek = k ∙ first_whole 16 kek sizes.kek_size in
+      let same₁ : kek_id ≡ f.kek_id = k₁ ∙ first_whole 16 f.kek_id sizes.kek_id in
+      let same₂ : key_id ≡ f.key_id = k₂ ∙ first_whole 16 f.key_id sizes.key_id in
       let size : all ≡ attribute_length key = omega (arith, acc.count) in
       let c : wrap_check (length key) (length part) ≡ pass = sym rest_tests ∙ acc.tests in
       let far : start + (length key + 8) ≡ 60 + length key = omega (arith, acc.at_52) in
@@ -158,5 +150,6 @@ module _ (f : KeyFields) (kek key buffer : List ℕ) (ok : named f kek ≡ pass)
       ∙ ap (λ (l : List ℕ). wrapped kek key ++ l) (drop-drop (length key + 8) start buffer ∙ ap (λ (i : ℕ). drop i buffer) far) in
       let put : drop 52 (put_mid start (length buffer - start) buffer z) ≡ z = ap (drop 52) (put_from start buffer z) ∙ drop_at (take start buffer) z 52 (before_part acc) in
       let whole : after ≡ (header f (attribute_length key) ++ wrapped kek key) ++ drop (60 + length key) buffer
-      = h ∙ (λ i. header (fields_of f.attribute_type f.app_id (same₁ i) (same₂ i) f.lifetime) (size i) ++ (put ∙ left) i) ∙ sym (append_assoc (header f (attribute_length key)) (wrapped kek key) (drop (60 + length key) buffer)) in
+      = h ∙ (λ i. header (fields_of f.attribute_type f.app_id (same₁ i) (same₂ i) f.lifetime) (size i) ++ (put ∙ left) i)
+      ∙ sym (append_assoc (header f (attribute_length key)) (wrapped kek key) (drop (60 + length key) buffer)) in
       rw acc.tests (ap returned size, whole)

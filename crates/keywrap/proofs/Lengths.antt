@@ -20,6 +20,9 @@ pub passed-low : (n : ℕ) → check23 n ≡ pass → 16 ≤ n
 unfolding wrappable
 passed-low n e = within_low 16 192 n (and_left (within 16 192 n) (eqb (n % 8) 0) (test_passed _ _ e))
 
+pub passed_bounds : (n : ℕ) → check23 n ≡ pass → (16 ≤ n) × (n ≤ 192)
+passed_bounds n e = (passed-low n e, passed-high n e)
+
 -- a copy over a part as long as what is copied
 pub copied_whole : (s d : List ℕ) (r : List ℕ) → length d ≡ length s → r ≡ take (length d) s ++ drop (length s) d → r ≡ s
 copied_whole s d r e h =

@@ -8,6 +8,7 @@ ghost use Rattle.keywrap.specs.Calls.{wrappable};
 use refusal::in_range;
 
 // Whether a key of n bytes can be wrapped: a multiple of 8 from 16 to 192.
+#[tactic(auto, unfolding(crate::specs::Calls::wrappable))]
 pub fn is_wrappable(n: usize) -> bool
     ensures { result ≡ wrappable n }
 {

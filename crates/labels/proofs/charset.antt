@@ -1,3 +1,2 @@
-pub mod Scans
-pub mod Places
 pub mod Forms
+pub mod Faults

@@ -1,9 +1,7 @@
 -- The tests of labels, server IDs and domains, by their numbers: document 01's 2, 3, 7 and 8 ("Refusal numbers"), and document 02's 31 and 32.
-use Rattle.std.specs.Prelude.{ℕ, ◌&&◌, ◌||◌, not, List, length}
+use Rattle.std.specs.Prelude.{ℕ, ◌&&◌, ◌||◌, not, List, length, Option, None, Some}
 use Rattle.refusal.specs.Checks.{Check, pass, refuse, bare, located, unless, within, ◌and_then◌}
 use Rattle.slices.specs.Same.{same_list}
-use Rattle.labels.specs.declared.charset.Scan.{Scan}
-use Rattle.labels.specs.declared.charset.Scan.TheVariants.{Clean, BadAt}
 use Rattle.labels.specs.Bytes.{label_byte, server_byte, domain_byte, every, first_bad}
 use Rattle.labels.specs.Syntax.{breaches}
 use Rattle.labels.specs.FixedLabels.{dsrk_label, exempt}
@@ -13,9 +11,9 @@ abbrev pub check2 : List ℕ → Check
 check2 label = unless (within 1 255 (length label)) (bare 2)
 
 -- 3: a label byte outside 32 to 126. It carries the position of the first such byte (document 02, request 1)
-abbrev pub scanned3 : Scan → Check
-scanned3 Clean = pass
-scanned3 (BadAt i) = refuse (located 3 i)
+abbrev pub scanned3 : Option ℕ → Check
+scanned3 None = pass
+scanned3 (Some i) = refuse (located 3 i)
 
 abbrev pub check3 : List ℕ → Check
 check3 label = scanned3 (first_bad label_byte label)

@@ -1,11 +1,10 @@
 -- The syntax of a label: what source document 000, section 7.1, does not allow, as document 02 has it refused (request 7).
-use Rattle.std.specs.Prelude.{ℕ, suc, ◌-◌, Bool, cond, ◌&&◌, ◌||◌, List, [], ◌∷◌, leb, eqb, length, get_or}
+use Rattle.std.specs.Prelude.{ℕ, ◌-◌, Bool, ◌&&◌, ◌||◌, List, leb, eqb, length, get_or, count_by}
 use Prim.Native.Char.{code}
 
 -- how often a byte stands in a text
-unfoldable pub count : ℕ → List ℕ → ℕ
-count b [] = 0
-count b (x ∷ s) = cond (eqb x b) (suc (count b s)) (count b s)
+abbrev pub count : ℕ → List ℕ → ℕ
+count b s = count_by (λ x. eqb x b) s
 
 -- the breaches: a space; a comma; over 64 bytes where there is no at-sign; a second at-sign; one standing first or last
 abbrev pub has_space : List ℕ → Bool

@@ -1,9 +1,8 @@
-// Which bytes a label, a server ID and a domain may hold, the position of the first byte that a text may not hold, and a text's form: its
-// length and its bytes together (document 01, "Refusal numbers", 2, 3, 7 and 8).
+// Which bytes a label, a server ID and a domain may hold, and the test of a text by its length and its bytes (document 01, "Refusal numbers",
+// 2, 3, 7 and 8).
 ghost use Rattle.std.specs.Prelude.{◌≡◌};
-ghost use Rattle.labels.specs.Bytes.{domain_byte, first_bad};
-ghost use Rattle.labels.specs.Internal.{byte_in, form_of};
-ghost use Rattle.refusal.specs.Checks.{within};
+ghost use Rattle.labels.specs.Bytes.{first_bad};
+ghost use Rattle.labels.specs.Internal.{byte_in, text_form};
 
 use refusal::in_range;
 
@@ -15,70 +14,44 @@ pub(crate) enum ByteSet {
     Domain,
 }
 
-// What a scan for the first byte outside a set finds: none, or its position, counted from 0.
-#[derive(Drop)]
-pub(crate) enum Scan {
-    Clean,
-    BadAt(usize),
+impl ByteSet {
+    // Whether a byte is one of the set. A domain's are letters, digits, hyphens and dots.
+    #[tactic(auto, unfolding(crate::specs::Bytes::label_byte, crate::specs::Bytes::server_byte, crate::specs::Bytes::domain_byte, refusal::specs::Checks::within))]
+    fn contains(self, b: u8) -> bool
+        ensures { result ≡ byte_in self b }
+    {
+        match self {
+            ByteSet::Label => (32..=126).contains(&b),
+            ByteSet::Server => (33..=126).contains(&b),
+            ByteSet::Domain => b.is_ascii_alphanumeric() | (b == b'-') | (b == b'.'),
+        }
+    }
 }
 
-// The form of a text: well formed, or what is wrong with it first. The position of a bad byte counts from 0.
+// What is wrong with a text first. The position of a bad byte counts from 0.
 #[derive(Drop)]
-pub(crate) enum Form {
-    WellFormed,
+pub(crate) enum TextFault {
     WrongLength,
     BadByte(usize),
 }
 
-// Whether a byte is from lo to hi, both counted.
-fn between(lo: u8, hi: u8, b: u8) -> bool
-    ensures { result ≡ within lo hi b }
+// The position of the first byte that is not in the set, if there is one.
+fn first_bad(text: &[u8], set: ByteSet) -> Option<usize>
+    ensures { result ≡ first_bad (byte_in set) text.now }
 {
-    (lo <= b) & (b <= hi)
+    text.iter().position(|b| !set.contains(*b))
 }
 
-// Whether a byte is a letter, a digit, a hyphen or a dot.
-fn domain_byte(b: u8) -> bool
-    ensures { result ≡ domain_byte b }
+// Tests a text that should have 1 to `longest` bytes of the set. A text of another length is not scanned.
+#[tactic(auto, unfolding(crate::specs::Internal::text_form))]
+pub(crate) fn check_text(text: &[u8], set: ByteSet, longest: usize) -> Result<(), TextFault>
+    ensures { result ≡ text_form (byte_in set) longest text.now }
 {
-    let letter = between(b'A', b'Z', b) | between(b'a', b'z', b);
-    letter | between(b'0', b'9', b) | (b == b'-') | (b == b'.')
-}
-
-// Whether a byte is one of the set.
-fn allowed(set: ByteSet, b: u8) -> bool
-    ensures { result ≡ byte_in set b }
-{
-    match set {
-        ByteSet::Label => between(32, 126, b),
-        ByteSet::Server => between(33, 126, b),
-        ByteSet::Domain => domain_byte(b),
+    if !in_range(1, longest, text.len()) {
+        return Err(TextFault::WrongLength);
     }
-}
-
-// Finds the first byte that is not in the set.
-fn first_bad(s: &[u8], set: ByteSet) -> Scan
-    ensures { result ≡ first_bad (byte_in set) s.now }
-{
-    let mut i = 0;
-    while i < s.len() {
-        if !allowed(set, s[i]) {
-            return Scan::BadAt(i);
-        }
-        i += 1;
-    }
-    Scan::Clean
-}
-
-// The form of a text that should have 1 to `longest` bytes of the set. A text of another length is not scanned.
-pub(crate) fn form_of(s: &[u8], set: ByteSet, longest: usize) -> Form
-    ensures { result ≡ form_of (byte_in set) longest s.now }
-{
-    if !in_range(1, longest, s.len()) {
-        return Form::WrongLength;
-    }
-    match first_bad(s, set) {
-        Scan::Clean => Form::WellFormed,
-        Scan::BadAt(i) => Form::BadByte(i),
+    match first_bad(text, set) {
+        None => Ok(()),
+        Some(i) => Err(TextFault::BadByte(i)),
     }
 }

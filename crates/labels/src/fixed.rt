@@ -5,22 +5,25 @@ ghost use Rattle.labels.specs.Checks.{check31};
 ghost use Rattle.labels.specs.FixedLabels.{exempt};
 ghost use Rattle.refusal.specs.Answers.{checked_as};
 
-use refusal::{Checked, Refusal};
+use refusal::Refusal;
 
 // Whether a label is exempt from the syntax of a label: those of a VRK, a V-rRK and an rRK are.
+#[tactic(auto, unfolding(crate::specs::FixedLabels::exempt, crate::specs::FixedLabels::vrk_label, crate::specs::FixedLabels::visited_reauth_label, crate::specs::FixedLabels::rrk_label))]
 pub(crate) fn is_exempt(label: &[u8]) -> bool
     ensures { result ≡ exempt label.now }
 {
-    let vrk = slices::same_bytes(label, b"EAP Visited domain Root Key");
-    let visited_reauth = slices::same_bytes(label, b"EAP Re-authentication Root Key");
-    let rrk = slices::same_bytes(label, b"EAP Re-authentication Root Key@ietf.org");
-    vrk | visited_reauth | rrk
+    slices::same_bytes(label, b"EAP Visited domain Root Key")
+        | slices::same_bytes(label, b"EAP Re-authentication Root Key")
+        | slices::same_bytes(label, b"EAP Re-authentication Root Key@ietf.org")
 }
 
 // Refuses the label of a domain root key, which no usage request may have: 31.
-pub fn check_domain_label(label: &[u8]) -> Checked
+#[tactic(auto, unfolding(crate::specs::Checks::check31, crate::specs::FixedLabels::dsrk_label))]
+pub fn check_domain_label(label: &[u8]) -> Result<(), Refusal>
     ensures { checked_as result ≡ check31 label.now }
 {
-    let same = slices::same_bytes(label, b"dsrk@ietf.org");
-    refusal::unless(!same, Refusal::DomainLabel)
+    refusal::unless(
+        !slices::same_bytes(label, b"dsrk@ietf.org"),
+        Refusal::DomainLabel,
+    )
 }

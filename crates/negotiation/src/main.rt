@@ -2,86 +2,48 @@
 // document 01, longer lists, and negotiations in which a list or a reply was altered on the way (document 02, request 14).
 #![tactic(auto)]
 
-use offers::{FirstRound, Renewed};
-use refusal::{Answered, Refusal};
+use offers::FirstRound;
+use refusal::Refusal;
 use std::io;
 
-// Prints a text.
-fn say(rt: &impl Print, text: &str) -> io::Result<()> {
-    print!(rt; "{text}")
-}
-
-// Prints a number after a space.
-fn say_number(rt: &impl Print, n: u64) -> io::Result<()> {
-    print!(rt; " {n}")
-}
-
-// Prints an offer's value after a space.
-fn say_value(rt: &impl Print, value: u16) -> io::Result<()> {
-    say_number(rt, u64::from(value))
-}
-
-// Prints the values of a list, each after a space.
-fn say_list(rt: &impl Print, list: &[u16]) -> io::Result<()> {
+// Prints a text, and then the values of a list, each after a space.
+fn say_list(rt: &impl Print, text: &str, list: &[u16]) -> io::Result<()> {
+    print!(rt; "{text}")?;
     for value in list {
-        say_value(rt, *value)?;
+        print!(rt; " {value}")?;
     }
     Ok(())
 }
 
-// Prints a refusal by its number, and ends the line.
-fn say_refused(rt: &impl Print, why: Refusal) -> io::Result<()> {
-    say(rt, " refuses,")?;
-    say_number(rt, u64::from(refusal::number(why)))?;
-    say(rt, "\n")
-}
-
-// Prints a first round's answer. Returns the value that it asks for, if it does.
-fn say_first(rt: &impl Print, first: FirstRound) -> io::Result<Option<u16>> {
-    match first {
-        FirstRound::CarryOn(value) => {
-            say(rt, "  peer carries on with")?;
-            say_value(rt, value)?;
-            say(rt, "\n")?;
-            Ok(None)
-        }
-        FirstRound::Ask(value, position) => {
-            say(rt, "  peer asks for")?;
-            say_value(rt, value)?;
-            say(rt, ", position")?;
-            say_number(rt, position as u64)?;
-            say(rt, "\n")?;
-            Ok(Some(value))
-        }
-        FirstRound::Refused(why) => {
-            say(rt, "  peer")?;
-            say_refused(rt, why)?;
-            Ok(None)
-        }
-    }
+// Prints a refusal by its number.
+fn say_refused(rt: &impl Print, who: &str, why: Refusal) -> io::Result<()> {
+    println!(rt; "  {who} refuses, {}", why.number())
 }
 
 // Prints an answer to a renewed list.
-fn say_renewed(rt: &impl Print, answer: Renewed) -> io::Result<()> {
+fn say_renewed(rt: &impl Print, answer: Result<u16, Refusal>) -> io::Result<()> {
     match answer {
-        Renewed::Accepted(choice) => {
-            say(rt, "  peer accepts")?;
-            say_value(rt, choice)?;
-            say(rt, "\n")
-        }
-        Renewed::Refused(why) => {
-            say(rt, "  peer")?;
-            say_refused(rt, why)
-        }
+        Ok(choice) => println!(rt; "  peer accepts {choice}"),
+        Err(why) => say_refused(rt, "peer", why),
     }
 }
 
-// The peer's step on the list that the server sends.
-fn play_sent(rt: &impl Print, original: &[u16], choice: u16, sent: &[u16]) -> io::Result<()> {
-    say(rt, "  server sends")?;
-    say_list(rt, sent)?;
-    say(rt, "\n")?;
-    say_renewed(rt, offers::recheck(original, choice, sent))
+// The peer's first round on the list that it sees. Returns the value that it asks for, if it does.
+fn play_first(rt: &impl Print, seen: &[u16], supported: &[u16]) -> io::Result<Option<u16>> {
+    match offers::choose(seen, supported) {
+        Ok(FirstRound::CarryOn(value)) => {
+            println!(rt; "  peer carries on with {value}")?;
+            Ok(None)
+        }
+        Ok(FirstRound::Ask(value, position)) => {
+            println!(rt; "  peer asks for {value}, position {position}")?;
+            Ok(Some(value))
+        }
+        Err(why) => {
+            say_refused(rt, "peer", why)?;
+            Ok(None)
+        }
+    }
 }
 
 // The server's step on the reply that arrives, and then the step of a peer that saw a list and asked for a choice.
@@ -94,25 +56,14 @@ fn play_reply(
 ) -> io::Result<()> {
     let mut renewed = [0u16; 17];
     match offers::answer(offered, reply, &mut renewed) {
-        Answered::Refused(why) => {
-            say(rt, "  server")?;
-            say_refused(rt, why)
+        Err(why) => say_refused(rt, "server", why),
+        Ok(count) => {
+            let sent = &renewed[..count];
+            say_list(rt, "  server sends", sent)?;
+            println!(rt; "")?;
+            say_renewed(rt, offers::recheck(seen, choice, sent))
         }
-        Answered::Accepted(count) => play_sent(rt, seen, choice, &renewed[..count]),
     }
-}
-
-// The peer's first round on the list that it sees. Returns the value that it asks for, if it does.
-fn play_first(rt: &impl Print, seen: &[u16], supported: &[u16]) -> io::Result<Option<u16>> {
-    say_first(rt, offers::choose(seen, supported))
-}
-
-// The steps of a negotiation: where the first round ends in an Ask, the server's step and the peer's on the renewed list follow.
-fn play_steps(rt: &impl Print, offered: &[u16], supported: &[u16]) -> io::Result<()> {
-    let Some(value) = play_first(rt, offered, supported)? else {
-        return Ok(());
-    };
-    play_reply(rt, offered, value, offered, value)
 }
 
 // A negotiation in which the peer sees a list that may not be the server's, and the server gets a reply that may not be the peer's.
@@ -123,54 +74,36 @@ fn play_altered(
     supported: &[u16],
     reply: u16,
 ) -> io::Result<()> {
-    say(rt, "offers")?;
-    say_list(rt, offered)?;
-    say(rt, "; peer sees")?;
-    say_list(rt, seen)?;
-    say(rt, "; supported")?;
-    say_list(rt, supported)?;
-    say(rt, "; server gets")?;
-    say_value(rt, reply)?;
-    say(rt, "\n")?;
-    let Some(choice) = play_first(rt, seen, supported)? else {
-        return Ok(());
-    };
-    play_reply(rt, offered, reply, seen, choice)
-}
-
-// Prints the value that both sides hold after a negotiation.
-fn say_outcome(rt: &impl Print, outcome: Renewed) -> io::Result<()> {
-    say(rt, "  outcome")?;
-    if let Renewed::Accepted(value) = outcome {
-        say_value(rt, value)?;
-    } else {
-        say(rt, " none")?;
+    say_list(rt, "offers", offered)?;
+    say_list(rt, "; peer sees", seen)?;
+    say_list(rt, "; supported", supported)?;
+    println!(rt; "; server gets {reply}")?;
+    match play_first(rt, seen, supported)? {
+        Some(choice) => play_reply(rt, offered, reply, seen, choice),
+        None => Ok(()),
     }
-    say(rt, "\n")
 }
 
-// A negotiation: its steps, and then its outcome as one call has it.
+// A negotiation: its steps, and then the value that both sides hold after it, as one call has it. Where the first round ends in an Ask, the
+// server's step and the peer's on the renewed list follow.
 fn play(rt: &impl Print, offered: &[u16], supported: &[u16]) -> io::Result<()> {
-    say(rt, "offers")?;
-    say_list(rt, offered)?;
-    say(rt, "; supported")?;
-    say_list(rt, supported)?;
-    say(rt, "\n")?;
-    play_steps(rt, offered, supported)?;
+    say_list(rt, "offers", offered)?;
+    say_list(rt, "; supported", supported)?;
+    println!(rt; "")?;
+    if let Some(value) = play_first(rt, offered, supported)? {
+        play_reply(rt, offered, value, offered, value)?;
+    }
     let mut renewed = [0u16; 17];
-    say_outcome(
-        rt,
-        offer_exchange::negotiate(offered, supported, &mut renewed),
-    )
+    match offer_exchange::negotiate(offered, supported, &mut renewed) {
+        Ok(value) => println!(rt; "  outcome {value}"),
+        Err(_) => println!(rt; "  outcome none"),
+    }
 }
 
 // A reply that is not the peer's own.
 fn play_other_reply(rt: &impl Print, offered: &[u16], reply: u16) -> io::Result<()> {
-    say(rt, "offers")?;
-    say_list(rt, offered)?;
-    say(rt, "; reply")?;
-    say_value(rt, reply)?;
-    say(rt, "\n")?;
+    say_list(rt, "offers", offered)?;
+    println!(rt; "; reply {reply}")?;
     play_reply(rt, offered, reply, offered, reply)
 }
 
@@ -181,13 +114,10 @@ fn play_other_list(
     choice: u16,
     renewed: &[u16],
 ) -> io::Result<()> {
-    say(rt, "offers")?;
-    say_list(rt, original)?;
-    say(rt, "; choice")?;
-    say_value(rt, choice)?;
-    say(rt, "; renewed")?;
-    say_list(rt, renewed)?;
-    say(rt, "\n")?;
+    say_list(rt, "offers", original)?;
+    print!(rt; "; choice {choice}")?;
+    say_list(rt, "; renewed", renewed)?;
+    println!(rt; "")?;
     say_renewed(rt, offers::recheck(original, choice, renewed))
 }
 

@@ -1,8 +1,9 @@
 -- What only the contracts of private functions need. Nothing here has to be believed.
-use Rattle.offer_rules.specs.Answers.{FirstAnswer, carry_on, ask, RenewedAnswer, accepted}
+use Rattle.std.specs.Prelude.{ℕ}
+use Rattle.offers.specs.declared.peer.FirstRound.{FirstRound}
+use Rattle.offers.specs.declared.peer.FirstRound.TheVariants.{CarryOn, Ask}
 
--- the value that a first round's answer names, or its refusal
-abbrev pub value_named : FirstAnswer → RenewedAnswer
-value_named (carry_on value) = accepted value
-value_named (ask value position) = accepted value
-value_named (FirstAnswer.refused x) = RenewedAnswer.refused x
+-- the value that a first round names
+abbrev pub value_named : FirstRound → ℕ
+value_named (CarryOn value) = value
+value_named (Ask value position) = value

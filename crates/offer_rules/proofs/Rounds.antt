@@ -5,11 +5,11 @@ use mathlib.Core.List.{List}
 use native.Mathlib.Omega.{arith}
 use borrow.Author.Tests.{leb-true}
 use lib.ListN.{length, get_or}
-use Rattle.refusal.specs.Checks.{Reason, pass, refuse, ◌and_then◌}
+use Rattle.refusal.specs.Checks.{check6, pass, ◌and_then◌}
 use Rattle.refusal.specs.Answers.{returned}
-use Rattle.refusal.proofs.Passing.{first_refuses, second_decides, last-passed, test_passed}
-use Rattle.offer_rules.specs.Rfc5448.{first_supported, check10, check11, check12, choose_check, answer_check}
-use Rattle.offer_rules.specs.Answers.{FirstAnswer, carry_on, ask, first_round_at, first_round_to, first_round, server_answer}
+use Rattle.refusal.proofs.Passing.{second_decides, last-passed, test_passed}
+use Rattle.offer_rules.specs.Rfc5448.{first_supported, check10, check11, check12, check13, check14, choose_check, answer_check}
+use Rattle.offer_rules.specs.Answers.{carry_on, ask, first_round_at, first_round_to, first_round, server_answer}
 use Rattle.offer_rules.proofs.Accepted.{answer_passed}
 
 pub at_first : (offers : List ℕ) (i : ℕ) → i ≡ 0 → carry_on (get_or offers i 0) ≡ first_round_at offers i
@@ -20,10 +20,6 @@ at_later offers zero ne = elim (ne refl) [ ]
 at_later offers (suc i) ne = refl
 
 module _ (offers supported : List ℕ) where
-  pub list_refused : {x : Reason} → (check10 offers and_then check11 offers) ≡ refuse x → FirstAnswer.refused x ≡ first_round offers supported
-  unfolding first_round choose_check
-  list_refused e = rw (← first_refuses _ (check12 offers supported) e)
-
   pub list_passed : (check10 offers and_then check11 offers) ≡ pass → first_round_to (check12 offers supported) offers (first_supported offers supported) ≡ first_round offers supported
   unfolding first_round choose_check
   list_passed e = rw (← second_decides _ (check12 offers supported) e)
@@ -33,5 +29,6 @@ pub wrote_fits : (offers buffer : List ℕ) (value count : ℕ) → server_answe
 unfolding server_answer answer_check
 wrote_fits offers buffer value count e =
     let p = answer_passed (answer_check offers value (length buffer)) (length offers + 1) e in
-    let room = leb-true (length offers + 1) (length buffer) (test_passed _ _ (last-passed _ _ p.0)) in
+    let earlier = check10 offers and_then check11 offers and_then check13 offers value and_then check14 offers value in
+    let room = leb-true (length offers + 1) (length buffer) (test_passed _ _ (last-passed earlier (check6 (length offers + 1) (length buffer)) p.0)) in
     omega arith

@@ -36,7 +36,10 @@ unfolding repeats stands is_first
 reply_after-first first others reply once = (forth, back)
   where
     forth : (check13 (first ∷ others) reply and_then check14 (first ∷ others) reply) ≡ pass → stands reply others ≡ true
-    forth p = or_other (eqb first reply) _ (not-true _ (test_passed _ _ (before-passed _ _ p))) (test_passed _ _ (last-passed _ _ p))
+    forth p =
+        let other = test_passed _ _ (before-passed (check13 (first ∷ others) reply) (check14 (first ∷ others) reply) p) in
+        let stands_in = test_passed _ _ (last-passed (check13 (first ∷ others) reply) (check14 (first ∷ others) reply) p) in
+        or_other (eqb first reply) _ (not-true _ other) stands_in
 
     back : stands reply others ≡ true → (check13 (first ∷ others) reply and_then check14 (first ∷ others) reply) ≡ pass
     back h =

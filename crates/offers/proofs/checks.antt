@@ -1,1 +1,1 @@
-pub mod Lists
+mod Lists

@@ -1,18 +1,18 @@
 -- What the answers of the peer's calls stand for (offer_rules/specs/Answers.antt).
+use Rattle.std.specs.Prelude.{ℕ, Result, Ok, Err}
+use Rattle.refusal.specs.declared.Refusal.{Refusal}
 use Rattle.refusal.specs.Answers.{reason_of}
 use Rattle.offer_rules.specs.Answers.{FirstAnswer, carry_on, ask, RenewedAnswer, accepted}
 use Rattle.offers.specs.declared.peer.FirstRound.{FirstRound}
-use Rattle.offers.specs.declared.peer.FirstRound.TheVariants as first
-use Rattle.offers.specs.declared.peer.Renewed.{Renewed}
-use Rattle.offers.specs.declared.peer.Renewed.TheVariants as renewal
+use Rattle.offers.specs.declared.peer.FirstRound.TheVariants.{CarryOn, Ask}
 
 -- the first round's answer
-abbrev pub first_round_of : FirstRound → FirstAnswer
-first_round_of (first.CarryOn value) = carry_on value
-first_round_of (first.Ask value position) = ask value position
-first_round_of (first.Refused x) = FirstAnswer.refused (reason_of x)
+abbrev pub first_round_of : Result FirstRound Refusal → FirstAnswer
+first_round_of (Ok (CarryOn value)) = carry_on value
+first_round_of (Ok (Ask value position)) = ask value position
+first_round_of (Err x) = FirstAnswer.refused (reason_of x)
 
 -- the answer to the renewed list
-abbrev pub renewed_of : Renewed → RenewedAnswer
-renewed_of (renewal.Accepted choice) = accepted choice
-renewed_of (renewal.Refused x) = RenewedAnswer.refused (reason_of x)
+abbrev pub renewed_of : Result ℕ Refusal → RenewedAnswer
+renewed_of (Ok choice) = accepted choice
+renewed_of (Err x) = RenewedAnswer.refused (reason_of x)

@@ -5,64 +5,50 @@ ghost use Rattle.refusal.specs.Checks.{◌and_then◌};
 ghost use Rattle.refusal.specs.Answers.{checked_as};
 ghost use Rattle.offer_rules.specs.Rfc5448.{stands, repeats, is_first, check10, check11, check13, check14};
 
-use refusal::{Checked, Refusal, in_range, then_check, unless};
+use refusal::{Refusal, in_range, unless};
 
 // Whether the value stands in the list.
 pub(crate) fn contains(list: &[u16], value: u16) -> bool
     ensures { result ≡ stands value list.now }
 {
-    let mut i = 0;
-    while i < list.len() {
-        if list[i] == value {
-            return true;
-        }
-        i += 1;
-    }
-    false
+    list.contains(&value)
 }
 
 // Whether some value of the list occurs twice.
 fn repeated(list: &[u16]) -> bool
     ensures { result ≡ repeats list.now }
 {
-    let mut i = 0;
-    while i < list.len() {
-        let next = i + 1;
-        if contains(&list[next..], list[i]) {
+    for (i, value) in list.iter().enumerate() {
+        if contains(&list[i + 1..], *value) {
             return true;
         }
-        i = next;
     }
     false
 }
 
 // Whether the value is the first of the list.
 fn is_first(value: u16, list: &[u16]) -> bool
-    requires { 1 ≤ length list.now }
     ensures { result ≡ is_first value list.now }
 {
-    list[0] == value
+    match list {
+        [first, ..] => *first == value,
+        [] => false,
+    }
 }
 
 // The tests of every list of offers: 10, then 11 where 10 passes.
-pub(crate) fn check_offers(offers: &[u16]) -> Checked
+pub(crate) fn check_offers(offers: &[u16]) -> Result<(), Refusal>
     ensures { checked_as result ≡ (check10 offers.now and_then check11 offers.now) }
 {
-    match unless(in_range(1, 16, offers.len()), Refusal::OfferCount) {
-        Checked::Failed(why) => Checked::Failed(why),
-        Checked::Passed => unless(!repeated(offers), Refusal::RepeatedOffer),
-    }
+    unless(in_range(1, 16, offers.len()), Refusal::OfferCount)?;
+    unless(!repeated(offers), Refusal::RepeatedOffer)
 }
 
 // The tests of a list of offers and the reply to it, which the server and the peer on the renewed list share: 10, 11, 13, 14.
-pub(crate) fn check_reply(offers: &[u16], reply: u16) -> Checked
+pub(crate) fn check_reply(offers: &[u16], reply: u16) -> Result<(), Refusal>
     ensures { checked_as result ≡ (check10 offers.now and_then check11 offers.now and_then check13 offers.now reply and_then check14 offers.now reply) }
 {
-    match check_offers(offers) {
-        Checked::Failed(why) => Checked::Failed(why),
-        Checked::Passed => then_check(
-            unless(!is_first(reply, offers), Refusal::ReplyIsFirst),
-            unless(contains(offers, reply), Refusal::ReplyNotOffered),
-        ),
-    }
+    check_offers(offers)?;
+    unless(!is_first(reply, offers), Refusal::ReplyIsFirst)?;
+    unless(contains(offers, reply), Refusal::ReplyNotOffered)
 }

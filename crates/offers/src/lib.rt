@@ -5,5 +5,5 @@ mod checks; // the tests that several calls make
 mod peer; // choosing an offer, checking the renewed list
 mod server; // the answer to the peer's reply
 
-pub use peer::{FirstRound, Renewed, choose, recheck};
+pub use peer::{FirstRound, choose, recheck};
 pub use server::answer;

@@ -10,6 +10,8 @@ use Rattle.refusal.specs.Checks.{Check, pass, refuse}
 use Rattle.refusal.proofs.Passing.{before-passed, last-passed, test_passed, within-high}
 use Rattle.offer_rules.specs.Rfc5448.{first_supported, choose_check}
 use Rattle.offer_rules.specs.Answers.{FirstAnswer, ask, first_round_to, first_round}
+use Rattle.std.specs.Prelude.{Result}
+use Rattle.refusal.specs.declared.Refusal.{Refusal}
 use Rattle.offers.specs.declared.peer.FirstRound.{FirstRound}
 use Rattle.offers.specs.Answers.{first_round_of}
 use Rattle.outcome.specs.Negotiations.{first_round_outcome}
@@ -34,7 +36,7 @@ all_held offers supported =
     let few = within-high 1 16 (length offers) (test_passed _ _ (before-passed _ _ (before-passed _ _ p))) in
     omega arith)
 
-pub handed_round : {o : FirstRoundOutcome} (w : FirstRound) (offers supported : List ℕ)
+pub handed_round : {o : FirstRoundOutcome} (w : Result FirstRound Refusal) (offers supported : List ℕ)
     → o ≡ first_round_outcome (position_low (first_round_of w)) → first_round_of w ≡ first_round offers supported → o ≡ first_round_outcome (first_round offers supported)
 handed_round w offers supported e h =
     e ∙ ap (λ (a : FirstAnswer). first_round_outcome (position_low a)) h ∙ ap first_round_outcome (all_held offers supported)

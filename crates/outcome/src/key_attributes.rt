@@ -1,16 +1,15 @@
 // What the call that reads a Key attribute returns to C.
 ghost use Rattle.std.specs.Prelude.{◌≡◌};
-ghost use Rattle.refusal.specs.Answers.{answer_of};
-ghost use Rattle.outcome.specs.KeyAttributes.{key_told};
-ghost use Rattle.outcome.specs.Internal.{key_returned};
+ghost use Rattle.key_reader.specs.KeyReader.{reading_of};
+ghost use Rattle.outcome.specs.KeyAttributes.{key_outcome};
+ghost use Rattle.outcome.specs.Internal.{length_low};
 
-use key_frame::KeyFields;
 use key_reader::KeyRead;
-use refusal::Answered;
+use refusal::Refusal;
 
 // What reading a Key attribute returns to C. Every field but the number is 0 on a refusal.
 #[repr(C)]
-#[derive(Drop)]
+#[derive(Clone, Copy, Default)]
 pub struct KeyAttributeOutcome {
     pub refusal: u32,
     pub app_id: u32,
@@ -21,31 +20,29 @@ pub struct KeyAttributeOutcome {
     pub key_id: [u8; 16],
 }
 
-// A refusal's number or 0, a key's length and the fields, for C.
-fn told(refusal: u32, key_len: u32, fields: KeyFields) -> KeyAttributeOutcome
-    ensures { result ≡ key_told refusal key_len fields }
-{
-    let kek_id = fields.kek_id;
-    let key_id = fields.key_id;
-    KeyAttributeOutcome {
-        refusal,
-        app_id: fields.app_id,
-        lifetime: fields.lifetime,
-        key_len,
-        attribute_type: fields.attribute_type,
-        kek_id,
-        key_id,
-    }
-}
-
 // What reading a Key attribute answers, for C. A key has at most 192 bytes, so the low bits are all of its length.
-pub fn returned(read: KeyRead) -> KeyAttributeOutcome
-    ensures { result ≡ key_returned (answer_of read.answer) read.fields }
-{
-    let answer = read.answer;
-    let fields = read.fields;
-    match answer {
-        Answered::Accepted(n) => told(0, crate::low(n), fields),
-        Answered::Refused(why) => told(refusal::number(why), 0, fields),
+impl From<Result<KeyRead, Refusal>> for KeyAttributeOutcome {
+    ghost from_gives = { λ read outcome. outcome ≡ key_outcome (length_low (reading_of read)) };
+
+    fn from(read: Result<KeyRead, Refusal>) -> KeyAttributeOutcome {
+        match read {
+            Ok(KeyRead { key_len, fields }) => {
+                let kek_id = fields.kek_id;
+                let key_id = fields.key_id;
+                KeyAttributeOutcome {
+                    refusal: 0,
+                    app_id: fields.app_id,
+                    lifetime: fields.lifetime,
+                    key_len: crate::low(key_len),
+                    attribute_type: fields.attribute_type,
+                    kek_id,
+                    key_id,
+                }
+            }
+            Err(why) => KeyAttributeOutcome {
+                refusal: why.number(),
+                ..KeyAttributeOutcome::default()
+            },
+        }
     }
 }

@@ -1,3 +1,2 @@
 pub mod Finding
-pub mod Fields
-pub mod Answering
+pub mod Placing

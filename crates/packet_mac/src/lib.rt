@@ -3,7 +3,6 @@
 #![tactic(auto)]
 
 ghost use Rattle.std.specs.Prelude.{◌≡◌, ◌+◌, ◌≤◌, length, replicate};
-ghost use Rattle.std.proofs.Math.Seq.{paste};
 ghost use Rattle.refusal.specs.Answers.{checked_as, answer_of};
 ghost use Rattle.hmac.specs.Rfc2104.{hmac_sha256};
 ghost use Rattle.packet_rules.specs.Mac.{with_mac, sign_answer, sign_buffer, check_check};
@@ -11,59 +10,42 @@ ghost use Rattle.packet_rules.specs.Mac.{with_mac, sign_answer, sign_buffer, che
 mod attributes; // the walk through a packet's attributes, and its tests
 
 use crate::attributes::mac_place;
-use refusal::{Answered, Checked, Refusal};
+use refusal::{Refusal, unless};
+use slices::{copy_at, same_bytes};
 
 // The MAC of a packet whose attribute stands at an offset: its own 32 bytes are read as zero.
+#[tactic(auto, unfolding(packet_rules::specs::Mac::with_mac))]
 fn mac_of(mac_key: &[u8], at: usize, packet: &[u8]) -> [u8; 32]
     requires { at + 52 ≤ length packet.now }
     ensures { result ≡ hmac_sha256 mac_key.now (with_mac at (replicate 32 0) packet.now) }
 {
-    let zeros = [0u8; 32];
     hmac::mac_of_parts(
         mac_key,
-        &packet[..at + 20],
-        &zeros,
-        &packet[at + 52..],
-        b"",
-        b"",
+        &[&packet[..at + 20], &[0u8; 32], &packet[at + 52..]],
     )
 }
 
-// Copies a MAC into the packet from an offset on.
-fn copy_mac(mac: [u8; 32], start: usize, packet: &mut [u8])
-    requires { start + 32 ≤ length packet.old }
-    ensures { packet.new ≡ paste packet.old start mac 32 }
-{
-    for j in 0..32 {
-        packet[start + j] = mac[j];
-    }
-}
-
 // Signs a packet: writes its MAC into the attribute of the type.
-pub fn sign(mac_key: &[u8], attribute_type: u8, packet: &mut [u8]) -> Answered
+#[tactic(auto, unfolding(packet_rules::specs::Mac::sign_answer, packet_rules::specs::Mac::sign_buffer))]
+pub fn sign(mac_key: &[u8], attribute_type: u8, packet: &mut [u8]) -> Result<usize, Refusal>
     ensures answer { answer_of result ≡ sign_answer mac_key.now attribute_type packet.old }
     ensures buffer { packet.new ≡ sign_buffer hmac_sha256 mac_key.now attribute_type packet.old }
 {
-    match mac_place(mac_key, attribute_type, packet) {
-        Answered::Refused(why) => Answered::Refused(why),
-        Answered::Accepted(at) => {
-            let mac = mac_of(mac_key, at, packet);
-            copy_mac(mac, at + 20, packet);
-            Answered::Accepted(32)
-        }
-    }
+    let at = mac_place(mac_key, attribute_type, packet)?;
+    let mac = mac_of(mac_key, at, packet);
+    copy_at(&mac, at + 20, packet);
+    Ok(32)
 }
 
 // Checks a packet: its MAC is the one in the attribute of the type.
-pub fn check(mac_key: &[u8], attribute_type: u8, packet: &[u8]) -> Checked
+#[tactic(auto, unfolding(packet_rules::specs::Mac::check_check))]
+pub fn check(mac_key: &[u8], attribute_type: u8, packet: &[u8]) -> Result<(), Refusal>
     ensures { checked_as result ≡ check_check hmac_sha256 mac_key.now attribute_type packet.now }
 {
-    match mac_place(mac_key, attribute_type, packet) {
-        Answered::Refused(why) => Checked::Failed(why),
-        Answered::Accepted(at) => {
-            let mac = mac_of(mac_key, at, packet);
-            let same = slices::same_bytes(&packet[at + 20..at + 52], &mac);
-            refusal::unless(same, Refusal::MacDiffers)
-        }
-    }
+    let at = mac_place(mac_key, attribute_type, packet)?;
+    let mac = mac_of(mac_key, at, packet);
+    unless(
+        same_bytes(&packet[at + 20..at + 52], &mac),
+        Refusal::MacDiffers,
+    )
 }

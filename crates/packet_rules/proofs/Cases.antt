@@ -8,9 +8,9 @@ use Rattle.packet_rules.specs.Mac.{mac_in, mac_of, packet_check, check_check}
 use Rattle.packet_rules.specs.Cases.{Cases, CheckCases}
 
 pub cases : Cases
-unfolding packet_check unless ◌and_then◌ within length_holds whole attribute_length split_from split attributes all_whole of_type places_from places mac_at is_mac one_mac
+unfolding packet_check unless within length_holds whole attribute_length split_from split attributes all_whole of_type places_from places mac_at is_mac one_mac
 cases = (refl, refl, refl, refl, refl, refl, refl, refl, refl, refl, refl, refl, refl, refl, refl, refl, refl, refl, refl, refl, refl, refl, refl)
 
 pub check_cases : CheckCases
-unfolding check_check mac_in mac_of same_list packet_check unless ◌and_then◌ within length_holds whole attribute_length split_from split attributes all_whole of_type places_from places mac_at is_mac one_mac
+unfolding check_check mac_in mac_of same_list packet_check unless within length_holds whole attribute_length split_from split attributes all_whole of_type places_from places mac_at is_mac one_mac
 check_cases = (refl, refl, refl)

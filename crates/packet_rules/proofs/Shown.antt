@@ -80,7 +80,7 @@ module _ (mac : List ℕ → List ℕ → List ℕ) (law : Has32 mac) where
     mac-there = ap (λ (m : ℕ). mac_in m (signed key type p)) signed-place ∙ mac-found (mac_at type p) (mac_of mac key type p) p (mac-size key type p) at.room ∙ sym signed-mac
 
     signed-checks : check_check mac key type (signed key type p) ≡ pass
-    unfolding check_check ◌and_then◌ unless
+    unfolding check_check unless
     signed-checks = rw (signed_passes, mac-there, equal_same)
 
     signs_again : sign_buffer mac key type (signed key type p) ≡ signed key type p

@@ -1,8 +1,8 @@
--- What an expansion's tests say where they pass, and what a call's tests come to.
+-- What an expansion's tests say where they pass.
 use Prim.Native.Nat.{ℕ, ◌≤◌}
 use mathlib.Core.Path.{◌≡◌}
 use borrow.Author.Tests.{leb-true}
-use Rattle.refusal.specs.Checks.{Check, pass, ◌and_then◌}
+use Rattle.refusal.specs.Checks.{pass}
 use Rattle.refusal.proofs.Passing.{before-passed, last-passed, test_passed, within_low, within-high}
 use Rattle.prf_plus.specs.PrfPlus.{expand_check}
 
@@ -16,7 +16,3 @@ unfolding expand_check
 expand_passed n room e =
     let w = test_passed _ _ (before-passed _ _ e) in
     record { some = within_low 1 8160 n w; most = within-high 1 8160 n w; fits = leb-true n room (test_passed _ _ (last-passed _ _ e)) }
-
--- a call's tests, of which those of `first` were made before, and those of `next` come to `check`
-pub all_tests : (first : Check) {next check whole x : Check} → whole ≡ (first and_then next) → next ≡ check → whole ≡ x → (first and_then check) ≡ x
-all_tests first e f g = cc

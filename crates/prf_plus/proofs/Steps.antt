@@ -2,10 +2,10 @@
 -- Over any MAC whose results have 32 bytes.
 use Prim.Native.Nat.{ℕ, zero, suc, ◌+◌, ◌-◌, ◌*◌, ◌≤◌}
 use mathlib.Core.Path.{◌≡◌, sym, ap, ◌∙◌}
-use mathlib.Core.List.{List, ◌++◌, append_assoc}
+use mathlib.Core.List.{List, [], ◌++◌, append_assoc, append-nil}
 use native.Mathlib.Omega.{arith}
 use native.Mathlib.Numerals.{add-one}
-use lib.ListN.{length, take, drop}
+use lib.ListN.{length, take, drop, length-drop, drop_of_length-le}
 use lib.Seq.{length-take-le, take_all, take_at, drop_at, drop-drop, take-append-add, paste}
 use Rattle.prf_plus.specs.PrfPlus.{input_after, block, blocks}
 use Rattle.prf_plus.proofs.Laws.{block-length, blocks-length}
@@ -16,7 +16,7 @@ module _ (mac : List ℕ → List ℕ → List ℕ) (mac-length : (k t : List �
   whole out i e = e ∙ rw (take_all (32 * i) (blocks mac key text i) (omega (arith, blocks-length mac mac-length key text i)))
 
   -- the last block stands before the place of the next
-  pub last_block : (out : List ℕ) (i from at : ℕ) → from ≡ 32 * (i - 1) → at ≡ 32 * i → out ≡ take at (blocks mac key text i) ++ drop at out₀
+  pub last_block : (out : List ℕ) (i from at : ℕ) → from ≡ 32 * i - 32 → at ≡ 32 * i → out ≡ take at (blocks mac key text i) ++ drop at out₀
       → take (at - from) (drop from out) ≡ block mac key text i
   unfolding block blocks
   last_block out zero from at f a e =
@@ -52,12 +52,16 @@ module _ (mac : List ℕ → List ℕ → List ℕ) (mac-length : (k t : List �
       let more : take (32 * i + m) (bs ++ b) ≡ bs ++ take m b = rw (← l) (take-append-add bs b m) in
       rw (front, back, more)
 
-  -- the same as the loop has it: out' is the buffer after the copy of m bytes of the next block r
-  pub next_out : (out out' r : List ℕ) (i m at : ℕ) → at ≡ 32 * i → m ≤ 32 → out ≡ take at (blocks mac key text i) ++ drop at out₀
-      → r ≡ block mac key text (i + 1) → out' ≡ paste out at (take m r) (length (take m r)) → out' ≡ take (at + m) (blocks mac key text (i + 1)) ++ drop (at + m) out₀
-  next_out out out' r i m at a hm e b p =
-      let e32 : length (block mac key text (suc i)) ≡ 32 = block-length mac mac-length key text i in
+  -- the same as the loop has it: r, of which there is room for m bytes, is copied to the part y of the buffer that begins at the place of the next block
+  pub next_out : (out out' r y : List ℕ) (i m at : ℕ) → at ≡ 32 * i → m ≤ 32 → at + m ≤ length out → out ≡ take at (blocks mac key text i) ++ drop at out₀
+      → r ≡ block mac key text (i + 1) → y ≡ take (length (take m (drop at out))) r ++ drop (length r) (take m (drop at out))
+      → out' ≡ take at out ++ (y ++ drop m (drop at out)) → out' ≡ take (at + m) (blocks mac key text (i + 1)) ++ drop (at + m) out₀
+  next_out out out' r y i m at a hm room e b ey p =
       let whole-r : r ≡ block mac key text (suc i) = b ∙ ap (block mac key text) (add-one i) in
-      let size : length (take m r) ≡ m = length-take-le m r (omega (arith, ap length whole-r ∙ e32)) in
-      p ∙ (λ j. paste out at (take m r) (size j)) ∙ ap (λ (l : List ℕ). take at out ++ l ++ drop (at + m) out) (take_all m (take m r) (omega (arith, size)))
-      ∙ rw (b, add-one, a) (one_more out i m hm (rw a at e))
+      let size : length r ≡ 32 = ap length whole-r ∙ block-length mac mac-length key text i in
+      let m-there : m ≤ length (drop at out) = simp length-drop (omega arith) in
+      let part : length (take m (drop at out)) ≡ m = length-take-le m (drop at out) m-there in
+      let none : drop (length r) (take m (drop at out)) ≡ [] = drop_of_length-le (take m (drop at out)) (omega (arith, size, part)) in
+      let ym : y ≡ take m r = ey ∙ (λ j. take (part j) r ++ none j) ∙ append-nil (take m r) in
+      p ∙ (λ j. take at out ++ (ym j ++ drop-drop m at out j)) ∙ sym (append_assoc (take at out) (take m r) (drop (at + m) out))
+      ∙ ap (λ (x : List ℕ). paste out at x m) whole-r ∙ rw (add-one, a) (one_more out i m hm (rw a at e))

@@ -1,15 +1,16 @@
 -- Laws of the length of the attribute that bytes begin with.
-use Prim.Native.Nat.{ℕ, ◌≤◌, ◌<◌}
+use Prim.Native.Nat.{ℕ, ◌≤◌}
 use mathlib.Core.Path.{◌≡◌, refl, ap, ◌∙◌}
-use mathlib.Core.Bool.{Bool, true, false, cond, ◌&&◌}
+use mathlib.Core.Bool.{Bool, true, false, cond}
 use mathlib.Core.List.{List}
 use native.Mathlib.Omega.{arith}
 use borrow.Author.Tests.{le-leb, leb-true}
 use lib.Dec.{leb}
-use lib.ListN.{length, take, get_or, get_or-eq_default}
+use lib.ListN.{length, take, get_or}
 use lib.Seq.{take-length, get_or-take, length-take-le}
 use Rattle.slices.proofs.Truth.{and_left, and_right}
-use Rattle.radius_attributes.specs.Attributes.{whole, size_in, attribute_length}
+use Rattle.std.specs.Prelude.{Some, None}
+use Rattle.radius_attributes.specs.Attributes.{whole, size_in, whole_size, attribute_length}
 
 -- what a whole attribute has
 pub whole-low : (bytes : List ℕ) → whole bytes ≡ true → 2 ≤ get_or bytes 1 0
@@ -20,39 +21,26 @@ pub whole-high : (bytes : List ℕ) → whole bytes ≡ true → get_or bytes 1 
 unfolding whole
 whole-high bytes h = leb-true _ _ (and_right (leb 2 (get_or bytes 1 0)) _ h)
 
--- by the test: no length byte is a length byte 0
-pub size_none : (bytes : List ℕ) → length bytes < 2 → 0 ≡ size_in bytes
-unfolding size_in whole
-size_none bytes h = let e : get_or bytes 1 0 ≡ 0 = get_or-eq_default bytes 0 (omega arith) in rw e
-
-pub size_there : (bytes : List ℕ) → (leb 2 (get_or bytes 1 0) && leb (get_or bytes 1 0) (length bytes)) ≡ true → get_or bytes 1 0 ≡ size_in bytes
-unfolding size_in whole
-size_there bytes h = rw h
-
-pub size_cut : (bytes : List ℕ) → (leb 2 (get_or bytes 1 0) && leb (get_or bytes 1 0) (length bytes)) ≡ false → 0 ≡ size_in bytes
-unfolding size_in whole
-size_cut bytes h = rw h
-
--- the length is 0 exactly where the attribute is cut, and else it is what the attribute takes
-pub zero_cut : (bytes : List ℕ) → size_in bytes ≡ 0 → whole bytes ≡ false
-unfolding size_in
-zero_cut bytes e = go (whole bytes) refl e
+-- what `size_in` tells: nothing exactly where the attribute is cut, and else what the attribute takes
+pub none_cut : (bytes : List ℕ) → whole_size bytes ≡ None → whole bytes ≡ false
+unfolding whole_size
+none_cut bytes e = go (whole bytes) (size_in bytes) refl e
   where
-    go : (t : Bool) → whole bytes ≡ t → cond t (get_or bytes 1 0) 0 ≡ 0 → t ≡ false
-    go true h e = absurd (omega (arith, whole-low bytes h))
-    go false h e = refl
+    go : (t : Bool) (n : ℕ) → whole bytes ≡ t → cond t (Some n) None ≡ None → whole bytes ≡ false
+    go true n h e = cc
+    go false n h e = h
 
-pub some_whole : (bytes : List ℕ) → (size_in bytes ≡ 0 → ⊥) → whole bytes ≡ true
-unfolding size_in
-some_whole bytes z = go (whole bytes) z
+pub record Whole (bytes : List ℕ) (n : ℕ) : Type 0 where
+  pub whole : whole bytes ≡ true
+  pub length : n ≡ attribute_length bytes
+
+pub some_whole : (bytes : List ℕ) (n : ℕ) → whole_size bytes ≡ Some n → Whole bytes n
+unfolding whole_size size_in attribute_length
+some_whole bytes n e = go (whole bytes) refl e
   where
-    go : (t : Bool) → (cond t (get_or bytes 1 0) 0 ≡ 0 → ⊥) → t ≡ true
-    go true z = refl
-    go false z = absurd (z refl)
-
-pub length_whole : (bytes : List ℕ) → whole bytes ≡ true → size_in bytes ≡ attribute_length bytes
-unfolding size_in attribute_length
-length_whole bytes h = rw h
+    go : (t : Bool) → whole bytes ≡ t → cond t (Some (cond t (get_or bytes 1 0) 0)) None ≡ Some n → Whole bytes n
+    go true h e = record { whole = h; length = rw h cc }
+    go false h e = cc
 
 pub length_byte : (bytes : List ℕ) → whole bytes ≡ true → attribute_length bytes ≡ get_or bytes 1 0
 unfolding attribute_length

@@ -1,5 +1,5 @@
 -- RADIUS attributes (RFC 2865, section 5). Byte 0 type, byte 1 length in bytes with these two, then the value. Attributes stand one after another with no gap.
-use Rattle.std.specs.Prelude.{ℕ, zero, suc, ◌-◌, Bool, cond, ◌&&◌, List, [], ◌∷◌, leb, length, take, get_or}
+use Rattle.std.specs.Prelude.{ℕ, zero, suc, ◌-◌, Bool, cond, ◌&&◌, Option, Some, None, List, [], ◌∷◌, leb, length, take, get_or}
 
 -- the attribute that the bytes begin with is whole: it has a length byte, of 2 or more, and ends within them; else it is cut
 unfoldable pub whole : List ℕ → Bool
@@ -8,6 +8,10 @@ whole bytes = leb 2 (get_or bytes 1 0) && leb (get_or bytes 1 0) (length bytes)
 -- its length; 0 where it is cut
 unfoldable pub size_in : List ℕ → ℕ
 size_in bytes = cond (whole bytes) (get_or bytes 1 0) 0
+
+-- the same, none where it is cut
+unfoldable pub whole_size : List ℕ → Option ℕ
+whole_size bytes = cond (whole bytes) (Some (size_in bytes)) None
 
 -- how many bytes it takes: so many as its length says, and where it is cut all that there are
 unfoldable pub attribute_length : List ℕ → ℕ

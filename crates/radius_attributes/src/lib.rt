@@ -3,19 +3,17 @@
 #![tactic(auto)]
 
 ghost use Rattle.std.specs.Prelude.{◌≡◌};
-ghost use Rattle.radius_attributes.specs.Attributes.{size_in};
+ghost use Rattle.radius_attributes.specs.Attributes.{whole_size};
 
-// The length of the attribute at the start of `bytes`; 0 where it is cut.
-pub fn size_in(bytes: &[u8]) -> usize
-    ensures { result ≡ size_in bytes.now }
+// The length of the attribute at the start of `bytes`; none where it is cut.
+#[tactic(auto, unfolding(crate::specs::Attributes::whole_size, crate::specs::Attributes::size_in, crate::specs::Attributes::whole))]
+pub fn size_in(bytes: &[u8]) -> Option<usize>
+    ensures { result ≡ whole_size bytes.now }
 {
-    if bytes.len() < 2 {
-        return 0;
-    }
-    let size = bytes[1] as usize;
+    let size = usize::from(*bytes.get(1)?);
     if (2 <= size) & (size <= bytes.len()) {
-        size
+        Some(size)
     } else {
-        0
+        None
     }
 }

@@ -1,5 +1,5 @@
 -- What the calls answer, by the numbers of both papers, and what a call that writes leaves in the buffer that it is lent ("Refusal numbers").
-use Rattle.std.specs.Prelude.{ℕ, List, ◌++◌, drop}
+use Rattle.std.specs.Prelude.{ℕ, ⊤, List, ◌++◌, drop, Option, Some, None, Result, Ok, Err}
 use Rattle.refusal.specs.Checks.{no_place, place_at, Reason, reason, bare, located, Check, pass, refuse}
 use Rattle.refusal.specs.declared.Refusal.{Refusal}
 use Rattle.refusal.specs.declared.Refusal.TheVariants.{
@@ -54,10 +54,6 @@ use Rattle.refusal.specs.declared.Refusal.TheVariants.{
   TooDeep,
   KeyIdUnlikeContents,
 }
-use Rattle.refusal.specs.declared.Answered.{Answered}
-use Rattle.refusal.specs.declared.Answered.TheVariants.{Accepted, Refused}
-use Rattle.refusal.specs.declared.Checked.{Checked}
-use Rattle.refusal.specs.declared.Checked.TheVariants.{Passed, Failed}
 
 -- what each refusal returns: its number; 3 and 16 carry a place, and no other does
 abbrev pub reason_of : Refusal → Reason
@@ -112,27 +108,31 @@ reason_of ParentNotLive = bare 48
 reason_of TooDeep = bare 49
 reason_of KeyIdUnlikeContents = bare 50
 
--- the number of a reason; its place, and 0 where it carries none
+-- the number of a reason; its place, if it carries one; and this place, 0 where it carries none
 abbrev pub number_in : Reason → ℕ
 number_in (reason n place) = n
+
+abbrev pub carried : Reason → Option ℕ
+carried (reason n no_place) = None
+carried (reason n (place_at i)) = Some i
 
 abbrev pub place_in : Reason → ℕ
 place_in (reason n no_place) = 0
 place_in (reason n (place_at i)) = i
 
 -- what the tests of a call come to, as the definitions say it
-abbrev pub checked_as : Checked → Check
-checked_as Passed = pass
-checked_as (Failed x) = refuse (reason_of x)
+abbrev pub checked_as : Result ⊤ Refusal → Check
+checked_as (Ok _) = pass
+checked_as (Err x) = refuse (reason_of x)
 
 -- what a call answers: a number, as a rule the count of what it wrote, or a refusal
 pub data Answer : Type 0 where
   returned : ℕ → Answer
   refused : Reason → Answer
 
-abbrev pub answer_of : Answered → Answer
-answer_of (Accepted n) = returned n
-answer_of (Refused x) = refused (reason_of x)
+abbrev pub answer_of : Result ℕ Refusal → Answer
+answer_of (Ok n) = returned n
+answer_of (Err x) = refused (reason_of x)
 
 -- the answer of a call by its tests, where its number is n
 abbrev pub answer_to : Check → ℕ → Answer

@@ -1,15 +1,13 @@
-// Refusals by name and by number, the tests of a call in their order, and the answer of a call that writes (document 01, "Refusal
-// numbers"). Every other crate checks its input with these.
+// Refusals by name and by number, the tests that several calls share, and the answer of a call that writes (document 01, "Refusal numbers"). A test is a
+// `Result<(), Refusal>`, and `?` after each gives a call its tests in their order. Every other crate checks its input with these.
 #![tactic(auto)]
 
 ghost use Rattle.std.specs.Prelude.{◌≡◌, length};
-ghost use Rattle.refusal.specs.Checks.{within, ◌and_then◌, check1, check6};
+ghost use Rattle.refusal.specs.Checks.{within, check1, check6};
 ghost use Rattle.refusal.specs.Checks;
 ghost use Rattle.refusal.specs.Answers.{reason_of, checked_as, answer_of, answer_to, buffer_after};
 
 mod numbers; // the number and the place of a refusal
-
-pub use numbers::{number, place};
 
 // Why a call refuses. A refusal is document 01's term: a numbered answer that leaves every lent buffer as it was. The variants stand in the order
 // of their numbers: 1 to 28 are those of document 01, 29 to 50 those of document 02, with the request in brackets.
@@ -118,74 +116,42 @@ pub enum Refusal {
     KeyIdUnlikeContents,
 }
 
-// What the tests of a call come to: all passed, or the first that did not.
-#[derive(Clone, Copy)]
-pub enum Checked {
-    Passed,
-    Failed(Refusal),
-}
-
-// What a call answers: a number, as a rule the count of what it wrote, or a refusal.
-#[derive(Clone, Copy)]
-pub enum Answered {
-    Accepted(usize),
-    Refused(Refusal),
-}
-
 // Whether x is from lo to hi, both counted.
+#[tactic(auto, unfolding(crate::specs::Checks::within))]
 pub fn in_range(lo: usize, hi: usize, x: usize) -> bool
     ensures { result ≡ within lo hi x }
 {
-    (lo <= x) & (x <= hi)
+    (lo..=hi).contains(&x)
 }
 
-// Passed where the test holds, else the refusal.
-pub fn unless(ok: bool, why: Refusal) -> Checked
+// Ok where the test holds, else the refusal.
+#[tactic(auto, unfolding(crate::specs::Checks::unless))]
+pub fn unless(ok: bool, why: Refusal) -> Result<(), Refusal>
     ensures { checked_as result ≡ Checks.unless ok (reason_of why) }
 {
-    if ok {
-        Checked::Passed
-    } else {
-        Checked::Failed(why)
-    }
-}
-
-// What the tests so far came to, and where they passed the next.
-pub fn then_check(so_far: Checked, next: Checked) -> Checked
-    ensures { checked_as result ≡ (checked_as so_far and_then checked_as next) }
-{
-    match so_far {
-        Checked::Failed(first) => Checked::Failed(first),
-        Checked::Passed => next,
-    }
+    if ok { Ok(()) } else { Err(why) }
 }
 
 // The test of a root key or a MAC key.
-pub fn check_root_key(key: &[u8]) -> Checked
+pub fn check_root_key(key: &[u8]) -> Result<(), Refusal>
     ensures { checked_as result ≡ check1 key.now }
 {
     unless(in_range(64, 128, key.len()), Refusal::RootKeyLength)
 }
 
 // The test that n values fit into an output buffer of `room`.
-pub fn check_room(n: usize, room: usize) -> Checked
+pub fn check_room(n: usize, room: usize) -> Result<(), Refusal>
     ensures { checked_as result ≡ check6 n room }
 {
     unless(n <= room, Refusal::Room)
 }
 
-// The answer of a call whose result is at hand, by its tests and then that of the room: the bytes go to the start of out, or nothing does.
-pub fn put(check: Checked, bytes: &[u8], out: &mut [u8]) -> Answered
-    ensures answer { answer_of result ≡ answer_to (checked_as check and_then check6 (length bytes.now) (length out.old)) (length bytes.now) }
-    ensures buffer { out.new ≡ buffer_after (checked_as check and_then check6 (length bytes.now) (length out.old)) (length bytes.now) bytes.now out.old }
+// The answer of a call whose result is at hand, by the test of the room: the bytes go to the start of out, or nothing does.
+pub fn put(bytes: &[u8], out: &mut [u8]) -> Result<usize, Refusal>
+    ensures answer { answer_of result ≡ answer_to (check6 (length bytes.now) (length out.old)) (length bytes.now) }
+    ensures buffer { out.new ≡ buffer_after (check6 (length bytes.now) (length out.old)) (length bytes.now) bytes.now out.old }
 {
-    let n = bytes.len();
-    let all = then_check(check, check_room(n, out.len()));
-    match all {
-        Checked::Failed(reason) => Answered::Refused(reason),
-        Checked::Passed => {
-            slices::copy(bytes, out);
-            Answered::Accepted(n)
-        }
-    }
+    check_room(bytes.len(), out.len())?;
+    slices::copy(bytes, out);
+    Ok(bytes.len())
 }

@@ -3,13 +3,13 @@ use Prim.Native.Nat.{ℕ, zero, suc}
 use mathlib.Core.Path.{◌≡◌, refl}
 use mathlib.Core.List.{List}
 use native.Mathlib.Nat.{not-suc-le-zero}
-use Rattle.refusal.specs.Checks.{pass, unless, ◌and_then◌, within}
+use Rattle.refusal.specs.Checks.{pass, unless, within}
 use Rattle.refusal.proofs.Passing.{then-pass}
 use Rattle.slices.specs.Same.{same_list}
-use Rattle.labels.specs.Bytes.{every, scan_from, label_byte, domain_byte}
+use Rattle.labels.specs.Bytes.{every, label_byte, domain_byte}
 use Rattle.labels.specs.FixedLabels.{vrk_label, visited_reauth_label, dsrk_label, rrk_label, exempt}
 use Rattle.labels.specs.Checks.{label_check, check8, check31, check32}
-use Rattle.labels.specs.Syntax.{count, breaches}
+use Rattle.labels.specs.Syntax.{breaches}
 use Rattle.labels.proofs.Labels.{fixed_labels_pass}
 use Rattle.hmac.specs.Rfc2104.{hmac_sha256}
 use Rattle.hmac.proofs.Laws.{hmac_sha256-length}
@@ -44,5 +44,5 @@ unfolding check_of unless within text_of input_of key_of
 vrk_is_usage emsk room = (simp (fixed_labels_pass.0, vrk_not_domain, then-pass), refl, refl, λ i. refl)
 
 pub some_accepted : SomeAccepted
-unfolding check_of label_check check31 check32 breaches count exempt check8 vrk_label visited_reauth_label rrk_label dsrk_label same_list ◌and_then◌ unless within scan_from label_byte every domain_byte
+unfolding check_of label_check check31 check32 breaches exempt check8 vrk_label visited_reauth_label rrk_label dsrk_label same_list unless within label_byte every domain_byte
 some_accepted = (refl, refl, refl, refl, refl, refl, refl, refl)

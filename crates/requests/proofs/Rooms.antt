@@ -9,7 +9,7 @@ use Rattle.refusal.proofs.Answering.{answer_by, buffer_by}
 use Rattle.prf_plus.specs.PrfPlus.{expand_check}
 
 room_alone : (room : ℕ) → expand_check 64 room ≡ check6 64 room
-unfolding expand_check unless within ◌and_then◌
+unfolding expand_check unless within
 room_alone room = refl
 
 -- what `prf_plus::expand` answers and leaves after the tests c, where these come to d

@@ -1,12 +1,12 @@
 -- Runs of SHA-1's rounds: which of them have which function and constant, and the words that they find in the window.
-use Rattle.std.proofs.Common.{◌≡◌, ℕ, zero, suc, ◌+◌, ◌*◌, ◌/◌, ◌%◌, ◌<◌, ◌≤◌, List, get_or, sym, ap, ◌∙◌, add-zero, add_assoc, add-suc, arith}
+use Rattle.std.proofs.Common.{◌≡◌, ℕ, zero, suc, ◌+◌, ◌*◌, ◌/◌, ◌%◌, ◌<◌, ◌≤◌, List, get_or, refl, sym, ap, ◌∙◌, add-zero, add_assoc, add-suc, arith}
 use Rattle.fips180.specs.Words.{Ch, Maj}
-use Rattle.fips180.specs.Sha1.{Parity, W, step, round, rounds, sums, compress}
+use Rattle.fips180.specs.Sha1.{Parity, W, step, round, rounds}
 use Rattle.fips180.specs.Window.{window}
 use Rattle.fips180.specs.Statements.{Has}
 use Rattle.fips180.proofs.Sha1Rounds.{round_by_cases}
-use Rattle.fips180.proofs.Window.{window_at}
-use Rattle.sha1_block.specs.Internal.{step_by, runs}
+use Rattle.sha_blocks.proofs.Window.{window_at}
+use Rattle.sha1_block.specs.Internal.{step_by, runs, Four}
 use Rattle.sha1_block.specs.Statements.{WordInPlace, RoundByWindow}
 
 -- n rounds from round t on, of one function and constant, with the words in the window from place j on
@@ -25,30 +25,27 @@ module _ (f : ℕ → ℕ → ℕ → ℕ) (k : ℕ) (h b : List ℕ) (t p j : �
       ∙ one (t + n) (has n (omega arith)) (rounds h b (t + n))
       ∙ ap (rounds h b) (sym (add-suc t n))
 
--- the runs of each function, as the code makes them
-module _ (h b : List ℕ) (t p j n : ℕ) {w s r : List ℕ} (ew : w ≡ window (W b) p) (es : s ≡ rounds h b t) where
-  turn : (f : ℕ → ℕ → ℕ → ℕ) (k : ℕ) → p + j ≡ t → j + n ≤ 16 → ((i : ℕ) → i < n → Has f k (t + i)) → r ≡ runs f k w j s n → r ≡ rounds h b (t + n)
-  turn f k place le has e = e ∙ (λ i. runs f k (ew i) j (es i) n) ∙ run f k h b t p j place n le has
+-- four rounds of one kind, from place j of the window on
+pub by_kind : (h b : List ℕ) (t j : ℕ) (f : ℕ → ℕ → ℕ → ℕ) (k : ℕ) {w s r : List ℕ} → j + 4 ≤ 16 → Four f k (t + j) → w ≡ window (W b) t
+    → s ≡ rounds h b (t + j) → r ≡ runs f k w j s 4 → r ≡ rounds h b (t + (j + 4))
+by_kind h b t j f k le four ew es e = e ∙ (λ i. runs f k (ew i) j (es i) 4) ∙ run f k h b (t + j) t j refl 4 le four ∙ ap (rounds h b) (add_assoc t j 4)
 
-  pub by_ch : p + j ≡ t → j + n ≤ 16 → t + n ≤ 20 → r ≡ runs Ch 0x5a827999 w j s n → r ≡ rounds h b (t + n)
-  by_ch place le below = turn Ch 0x5a827999 place le (λ i l. (round_by_cases (t + i)).0 (omega arith))
+-- the kinds of the rounds
+pub first : (t : ℕ) → t + 3 < 20 → Four Ch 0x5a827999 t
+first t below = λ i l. (round_by_cases (t + i)).0 (omega (arith, l, below))
 
-  pub by_parity : p + j ≡ t → j + n ≤ 16 → 20 ≤ t → t + n ≤ 40 → r ≡ runs Parity 0x6ed9eba1 w j s n → r ≡ rounds h b (t + n)
-  by_parity place le from below = turn Parity 0x6ed9eba1 place le (λ i l. (round_by_cases (t + i)).1 (omega arith) (omega arith))
+pub second : (t : ℕ) → 20 ≤ t → t + 3 < 40 → Four Parity 0x6ed9eba1 t
+second t from below = λ i l. (round_by_cases (t + i)).1 (omega (arith, l, from)) (omega (arith, l, below))
 
-  pub by_maj : p + j ≡ t → j + n ≤ 16 → 40 ≤ t → t + n ≤ 60 → r ≡ runs Maj 0x8f1bbcdc w j s n → r ≡ rounds h b (t + n)
-  by_maj place le from below = turn Maj 0x8f1bbcdc place le (λ i l. (round_by_cases (t + i)).2 (omega arith) (omega arith))
+pub third : (t : ℕ) → 40 ≤ t → t + 3 < 60 → Four Maj 0x8f1bbcdc t
+third t from below = λ i l. (round_by_cases (t + i)).2 (omega (arith, l, from)) (omega (arith, l, below))
 
-  pub by_last_parity : p + j ≡ t → j + n ≤ 16 → 60 ≤ t → r ≡ runs Parity 0xca62c1d6 w j s n → r ≡ rounds h b (t + n)
-  by_last_parity place le from = turn Parity 0xca62c1d6 place le (λ i l. (round_by_cases (t + i)).3 (omega arith))
+pub last : (t : ℕ) → 60 ≤ t → Four Parity 0xca62c1d6 t
+last t from = λ i l. (round_by_cases (t + i)).3 (omega (arith, l, from))
 
 pub no_round : (h b : List ℕ) {s : List ℕ} → s ≡ h → s ≡ rounds h b 0
 unfolding rounds
 no_round h b e = e
-
-pub all_rounds : (h b : List ℕ) {s v : List ℕ} → v ≡ s → s ≡ rounds h b 80 → sums h v ≡ compress h b
-unfolding compress
-all_rounds h b ev e = ap (sums h) (ev ∙ e)
 
 -- the window's words, by the number of the round
 pub word_in_place : WordInPlace

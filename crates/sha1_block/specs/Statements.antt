@@ -4,7 +4,7 @@ use Rattle.fips180.specs.Sha1.{W, round, rounds}
 use Rattle.fips180.specs.Window.{window}
 
 -- what stands in place t % 16 of the window in round t is W t: the window then has the sixteen words from t / 16 * 16 on, as the contracts
--- of `load` and `group_words` in src/lib.rt say. `word_in_place` of proofs/Rounds.antt
+-- of `load` and `refill` of the crate sha_blocks say. `word_in_place` of proofs/Rounds.antt
 abbrev pub WordInPlace : Type 0
 WordInPlace = (b : List ℕ) (t : ℕ) → slice_index (window (W b) (t / 16 * 16)) (t % 16) ≡ W b t
 

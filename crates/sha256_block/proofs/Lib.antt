@@ -1,2 +1,1 @@
-mod Schedule
 pub mod Rounds

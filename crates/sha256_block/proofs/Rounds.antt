@@ -1,34 +1,19 @@
--- Sixteen rounds at a time: the rounds of a group, and the four groups of a block.
-use Rattle.std.proofs.Common.{◌≡◌, ℕ, zero, suc, ◌+◌, ◌-◌, ◌*◌, ◌/◌, ◌%◌, ◌<◌, ◌≤◌, List, get_or, sym, refl, ap, ◌∙◌, add-zero, add-suc, arith}
-use Rattle.fips180.proofs.Window.{window_at}
-use Rattle.fips180.specs.Sha256.{K, W, round, rounds, sums, compress}
-use Rattle.sha256_block.specs.Internal.{window, ConstantsFrom, runs}
+-- A round by its place in the window, and the words that the rounds find.
+use Rattle.std.proofs.Common.{◌≡◌, ℕ, suc, ◌+◌, ◌*◌, ◌/◌, ◌%◌, ◌<◌, List, get_or, sym, ap, ◌∙◌, arith}
+use Rattle.sha_blocks.proofs.Window.{window_at}
+use Rattle.fips180.specs.Sha256.{K, W, round, rounds}
+use Rattle.fips180.specs.Window.{window}
 use Rattle.sha256_block.specs.Statements.{WordInPlace, RoundByWindow}
 
--- sixteen rounds from round t on, from the state and the words that they find
-module _ (h b k : List ℕ) (t : ℕ) (constants : ConstantsFrom t 16 k) where
-  first : (n : ℕ) → n ≤ 16 → runs k (window b t) (rounds h b t) n ≡ rounds h b (t + n)
-  unfolding runs rounds
-  first zero le = ap (rounds h b) (sym (add-zero t))
-  first (suc n) le =
-      (λ i. round (constants n le i) (window_at (W b) t n le i) (first n (omega (arith, le)) i)) ∙ ap (rounds h b) (sym (add-suc t n))
-
--- a group, and the words that the next one finds
-pub group : (h b : List ℕ) (g : ℕ) (k : List ℕ) {w s r : List ℕ} → ConstantsFrom (g * 16) 16 k
-    → s ≡ rounds h b (g * 16) → w ≡ window b (g * 16) → r ≡ runs k w s 16 → r ≡ rounds h b ((g + 1) * 16)
-group h b g k constants es ew e =
-    e ∙ (λ i. runs k (ew i) (es i) 16) ∙ first h b k (g * 16) constants 16 (omega arith) ∙ ap (rounds h b) (omega arith)
-
-pub kept : (b : List ℕ) (g : ℕ) {w : List ℕ} → w ≡ window b (g * 16) → w ≡ window b ((g + 1) * 16 - 16)
-kept b g e = e ∙ ap (window b) (omega arith)
-
-pub no_round : (h b : List ℕ) → h ≡ rounds h b 0
+-- round j of the sixteen rounds g
+pub one_more : (h b w s : List ℕ) (g j : ℕ) {r : List ℕ} → j < 16 → r ≡ round (get_or K (16 * g + j) 0) (get_or w j 0) s
+    → w ≡ window (W b) (16 * g) → s ≡ rounds h b (16 * g + j) → r ≡ rounds h b (16 * g + (j + 1))
 unfolding rounds
-no_round h b = refl
-
-pub all_rounds : (h b : List ℕ) {s : List ℕ} → s ≡ rounds h b 64 → sums h s ≡ compress h b
-unfolding compress
-all_rounds h b e = ap (sums h) e
+one_more h b w s g j small e ew es =
+    let next : suc (16 * g + j) ≡ 16 * g + (j + 1) = omega arith in
+    e
+    ∙ (λ i. round (get_or K (16 * g + j) 0) ((ap (λ (l : List ℕ). get_or l j 0) ew ∙ window_at (W b) (16 * g) j small) i) (es i))
+    ∙ ap (rounds h b) next
 
 -- the window's words, by the number of the round
 pub word_in_place : WordInPlace

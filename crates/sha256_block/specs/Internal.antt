@@ -1,18 +1,20 @@
 -- What only the contracts of private functions need. Nothing here has to be believed.
--- Sixteen words of the schedule, constants by their rounds, and rounds with given constants and words.
-use Rattle.std.specs.Prelude.{◌≡◌, ℕ, zero, suc, ◌+◌, ◌<◌, List, slice_index}
-use Rattle.fips180.specs.Sha256.{K, W, round}
-use Rattle.fips180.specs.Window as Window
+-- The working variables, from round to round and after all of them.
+use Rattle.std.specs.Prelude.{◌≡◌, ℕ, ◌+◌, ◌*◌, List, refl}
+use Rattle.fips180.specs.Sha256.{W, rounds, compress}
+use Rattle.fips180.specs.Sha256 as Sha256
+use Rattle.fips180.specs.Window.{window}
+use Rattle.sha_blocks.specs.Sums.{values, sums}
 
--- sixteen words of the schedule, from word t on
-abbrev pub window : List ℕ → ℕ → List ℕ
-window b = Window.window (W b)
+-- over the window w of the sixteen rounds g, the working variables s before round i of these become r before round j
+abbrev pub LeadsTo : List ℕ → ℕ → ℕ → List ℕ → ℕ → List ℕ → Type 0
+LeadsTo w g i s j r = (h b : List ℕ) → w ≡ window (W b) (16 * g) → s ≡ rounds h b (16 * g + i) → r ≡ rounds h b (16 * g + j)
 
--- the first n of k are the constants of the rounds from t on
-abbrev pub ConstantsFrom : ℕ → ℕ → List ℕ → Type 0
-ConstantsFrom t n k = (i : ℕ) → i < n → slice_index k i ≡ slice_index K (t + i)
+-- 6.2.2, 3: the working variables after all rounds
+abbrev pub after_rounds : List ℕ → List ℕ → List ℕ
+after_rounds h b = rounds h b 64
 
--- n rounds (6.2.2, 3) with the first n constants of k and the first n words of w
-unfoldable pub runs : List ℕ → List ℕ → List ℕ → ℕ → List ℕ
-runs k w s zero = s
-runs k w s (suc n) = round (slice_index k n) (slice_index w n) (runs k w s n)
+-- 6.2.2, 4: their sum with the hash value
+pub summed : (h b : List ℕ) → sums 8 h (after_rounds h b) ≡ compress h b
+unfolding values compress Sha256.sums
+summed h b = refl

@@ -1,29 +1,37 @@
-// Sixteen rounds of SHA-256 (FIPS 180-4, 6.2.2), written out.
-ghost use Rattle.std.specs.Prelude.{◌≡◌};
-ghost use Rattle.sha256_block.specs.Internal.{runs};
+// The rounds of SHA-256 (FIPS 180-4, 6.2.2), sixteen to a window of the schedule. They are written out by fours, so that no variable is moved and each
+// place of the window is a constant.
+ghost use Rattle.std.specs.Prelude.{◌≡◌, ◌+◌, ◌<◌};
+ghost use Rattle.sha256_block.specs.Internal.{LeadsTo};
 
+use crate::constants::K;
 use crate::round::round;
 
-// Sixteen rounds, with their constants and their words of the schedule.
-pub(crate) fn sixteen(s: &mut [u32; 8], k: [u32; 16], w: &[u32; 16])
-    ensures { s.new ≡ runs k w.now s.old 16 }
+// Round j of the sixteen rounds g.
+fn round_at(s: [u32; 8], g: usize, w: &[u32; 16], j: usize) -> [u32; 8]
+    requires { (g < 4) × (j < 16) }
+    ensures { LeadsTo w.now g j s (j + 1) result }
 {
-    let s0 = *s;
-    let s1 = round(s0, k[0], w[0]);
-    let s2 = round(s1, k[1], w[1]);
-    let s3 = round(s2, k[2], w[2]);
-    let s4 = round(s3, k[3], w[3]);
-    let s5 = round(s4, k[4], w[4]);
-    let s6 = round(s5, k[5], w[5]);
-    let s7 = round(s6, k[6], w[6]);
-    let s8 = round(s7, k[7], w[7]);
-    let s9 = round(s8, k[8], w[8]);
-    let s10 = round(s9, k[9], w[9]);
-    let s11 = round(s10, k[10], w[10]);
-    let s12 = round(s11, k[11], w[11]);
-    let s13 = round(s12, k[12], w[12]);
-    let s14 = round(s13, k[13], w[13]);
-    let s15 = round(s14, k[14], w[14]);
-    let s16 = round(s15, k[15], w[15]);
-    *s = s16;
+    round(s, K[16 * g + j], w[j])
+}
+
+#[inline(always)]
+fn four(s: [u32; 8], g: usize, w: &[u32; 16], j: usize) -> [u32; 8]
+    requires { (g < 4) × (j + 3 < 16) }
+    ensures { LeadsTo w.now g j s (j + 4) result }
+{
+    let s1 = round_at(s, g, w, j);
+    let s2 = round_at(s1, g, w, j + 1);
+    let s3 = round_at(s2, g, w, j + 2);
+    round_at(s3, g, w, j + 3)
+}
+
+// The sixteen rounds g, with their words of the schedule.
+pub(crate) fn sixteen(s: [u32; 8], g: usize, w: &[u32; 16]) -> [u32; 8]
+    requires { g < 4 }
+    ensures { LeadsTo w.now g 0 s 16 result }
+{
+    let s1 = four(s, g, w, 0);
+    let s2 = four(s1, g, w, 4);
+    let s3 = four(s2, g, w, 8);
+    four(s3, g, w, 12)
 }

@@ -1,101 +1,72 @@
-// Slices of bytes and of 16-bit values: equality, copying, numbers high byte first. The laws of byte lists that several crates need are in
-// proofs/.
+// Slices: equality of bytes, copying, numbers high byte first. The laws of byte lists that several crates need are in proofs/.
 #![tactic(auto)]
 
-ghost use Rattle.std.specs.Prelude.{◌≡◌, ◌++◌, min, length, take, drop};
+ghost use Rattle.std.specs.Prelude.{◌≡◌, ◌+◌, ◌-◌, ◌≤◌, ◌++◌, length, take, drop};
 ghost use Rattle.slices.specs.Numbers as Numbers;
 ghost use Rattle.slices.specs.Same.{same_list};
-
-// The lesser of two numbers.
-pub fn least(x: usize, y: usize) -> usize
-    ensures { result ≡ min x y }
-{
-    if x < y { x } else { y }
-}
 
 // The two low bytes of a number, high byte first.
 pub fn be16(x: usize) -> [u8; 2]
     ensures { result ≡ Numbers.be16 x }
 {
-    let high = (x / 256 % 256) as u8;
-    let low = (x % 256) as u8;
-    [high, low]
+    ((x % 0x10000) as u16).to_be_bytes()
 }
 
 // A number as four bytes, high byte first.
 pub fn be32(x: u32) -> [u8; 4]
     ensures { result ≡ Numbers.be32 x }
 {
-    [
-        (x / 0x1000000 % 256) as u8,
-        (x / 0x10000 % 256) as u8,
-        (x / 0x100 % 256) as u8,
-        (x % 256) as u8,
-    ]
+    x.to_be_bytes()
+}
+
+// A number as eight bytes, high byte first.
+pub fn be64(n: u64) -> [u8; 8]
+    ensures { result ≡ Numbers.be64 n }
+{
+    n.to_be_bytes()
 }
 
 // The number that two bytes hold, high byte first.
 pub fn from_be16(a: u8, b: u8) -> u16
     ensures { result ≡ Numbers.from_be16 a b }
 {
-    (a as u16) * 0x100 + (b as u16)
+    u16::from_be_bytes([a, b])
 }
 
 // The number that four bytes hold, high byte first.
 pub fn from_be32(a: u8, b: u8, c: u8, d: u8) -> u32
     ensures { result ≡ Numbers.from_be32 a b c d }
 {
-    (a as u32) * 0x1000000 + (b as u32) * 0x10000 + (c as u32) * 0x100 + (d as u32)
+    u32::from_be_bytes([a, b, c, d])
 }
 
-// Whether two byte strings are equal. All bytes are read where the lengths agree.
+// Whether two byte strings are equal. All bytes are read where the lengths agree, and their differences are gathered, so that no branch goes by a byte.
 pub fn same_bytes(a: &[u8], b: &[u8]) -> bool
     ensures { result ≡ same_list a.now b.now }
 {
     if a.len() != b.len() {
         return false;
     }
-    let mut same = true;
-    let mut i = 0;
-    while i < a.len() {
-        same = same & (a[i] == b[i]);
-        i += 1;
+    let mut differ = 0;
+    for i in 0..a.len() {
+        differ |= a[i] ^ b[i];
     }
-    same
+    differ == 0
 }
 
-// Whether two lists of values are equal.
-pub fn same_values(s: &[u16], t: &[u16]) -> bool
-    ensures { result ≡ same_list s.now t.now }
-{
-    if s.len() != t.len() {
-        return false;
-    }
-    let mut same = true;
-    let mut i = 0;
-    while i < s.len() {
-        same = same & (s[i] == t[i]);
-        i += 1;
-    }
-    same
-}
-
-// Copies to the start of `to` as many bytes of `from` as fit there.
-pub fn copy(from: &[u8], to: &mut [u8])
+// Copies values to the start of `to`, as many as it has room for.
+pub fn copy<T: Copy>(from: &[T], to: &mut [T])
     ensures { to.new ≡ take (length to.old) from.now ++ drop (length from.now) to.old }
 {
-    let n = least(from.len(), to.len());
+    let n = from.len().min(to.len());
     to[..n].copy_from_slice(&from[..n]);
 }
 
-// Copies values to the start of out, as many as it has room for.
-pub fn copy_values(s: &[u16], out: &mut [u16])
-    ensures { out.new ≡ take (length out.old) s.now ++ drop (length s.now) out.old }
+// Copies values into `to` from index `at` on, as many as there is room for there.
+pub fn copy_at<T: Copy>(from: &[T], at: usize, to: &mut [T])
+    ensures copied { to.new ≡ take at to.old ++ (take (length to.old - at) from.now ++ drop (at + length from.now) to.old) }
+    ensures fits { at + length from.now ≤ length to.old → to.new ≡ take at to.old ++ (from.now ++ drop (at + length from.now) to.old) }
 {
-    let n = least(s.len(), out.len());
-    let mut j = 0;
-    while j < n {
-        out[j] = s[j];
-        j += 1;
-    }
+    let start = at.min(to.len());
+    copy(from, &mut to[start..]);
 }

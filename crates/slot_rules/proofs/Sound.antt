@@ -11,10 +11,9 @@ use lib.Seq.{get_or-set_same, get_or-set_other}
 use Rattle.refusal.specs.Checks.{Check, pass, refuse, ◌and_then◌}
 use Rattle.refusal.proofs.Passing.{before-passed, last-passed, test_passed}
 use Rattle.slot_rules.specs.declared.Name.{Name}
-use Rattle.slot_rules.specs.declared.Parent.{Parent}
-use Rattle.slot_rules.specs.declared.Parent.TheVariants.{Root, Below}
+use Rattle.std.specs.Prelude.{Some, None}
 use Rattle.slot_rules.specs.Table.{Slot, free, holding, lowest_free, is_holding, is_live, freed}
-use Rattle.slot_rules.specs.Parents.{Key, parent_in, up, is_slot, reaches, goes_with, is_none, is_root, root_at, root_within, parent_live, root_near}
+use Rattle.slot_rules.specs.Parents.{Parent, Key, parent_in, up, is_slot, reaches, goes_with, is_none, is_root, root_at, root_within, parent_live, root_near}
 use Rattle.slot_rules.specs.Calls.{check46, check47, check48, check49, put_check, put_table, drop_table}
 use Rattle.slot_rules.proofs.Tables.{lowest_none, freed_at}
 use Rattle.slot_rules.specs.Statements.{Call, puts, drops, empty, after, after_all, AlwaysSound}
@@ -36,25 +35,25 @@ or_none false b e = e
 -- ---- steps
 
 -- no step leads on from where there is no slot, and a root is where steps end
-reaches-none : (t : List (Slot Key)) (n k : ℕ) → reaches k t n Root ≡ false
+reaches-none : (t : List (Slot Key)) (n k : ℕ) → reaches k t n None ≡ false
 unfolding reaches
 reaches-none t n zero = refl
 reaches-none t n (suc k) = reaches-none t n k
 
-root_none : (t : List (Slot Key)) (k : ℕ) → root_within k t Root ≡ false
+root_none : (t : List (Slot Key)) (k : ℕ) → root_within k t None ≡ false
 unfolding root_within
 root_none t zero = refl
 root_none t (suc k) = root_none t k
 
-root_ends : (t : List (Slot Key)) (x : Parent) → root_at t x ≡ true → up t x ≡ Root
-root_ends t Root e = refl
-root_ends t (Below s) e = go (get_or t s free) e
+root_ends : (t : List (Slot Key)) (x : Parent) → root_at t x ≡ true → up t x ≡ None
+root_ends t None e = refl
+root_ends t (Some s) e = go (get_or t s free) e
   where
-    stop : (p : Parent) → is_none p ≡ true → p ≡ Root
-    stop Root e = refl
-    stop (Below n) e = absurd (false≢true e)
+    stop : (p : Parent) → is_none p ≡ true → p ≡ None
+    stop None e = refl
+    stop (Some n) e = absurd (false≢true e)
 
-    go : (y : Slot Key) → is_root y ≡ true → parent_in y ≡ Root
+    go : (y : Slot Key) → is_root y ≡ true → parent_in y ≡ None
     go free e = refl
     go (holding k) e = stop k.parent e
 
@@ -92,48 +91,48 @@ module _ (t : List (Slot Key)) (n : ℕ) where
   rest_at s = let e : 0 + s ≡ s = omega arith in freed_at (goes_with t n) 0 t s ∙ ap (λ (i : ℕ). cond (goes_with t n i) free (get_or t s free)) e
 
   -- what does not come to n, with a root near, stays, and so does its way
-  stays : (k s : ℕ) → root_within k t (Below s) ≡ true → reaches k t n (Below s) ≡ false → get_or rest s free ≡ get_or t s free
+  stays : (k s : ℕ) → root_within k t (Some s) ≡ true → reaches k t n (Some s) ≡ false → get_or rest s free ≡ get_or t s free
   unfolding goes_with
-  stays k s r e = rest_at s ∙ go (is_live t s) (reaches 3 t n (Below s)) refl
+  stays k s r e = rest_at s ∙ go (is_live t s) (reaches 3 t n (Some s)) refl
     where
-      go : (a b : Bool) → reaches 3 t n (Below s) ≡ b → cond (a && b) free (get_or t s free) ≡ get_or t s free
-      go true true f = absurd (false≢true (sym e ∙ no_further t n 3 k (Below s) r f))
+      go : (a b : Bool) → reaches 3 t n (Some s) ≡ b → cond (a && b) free (get_or t s free) ≡ get_or t s free
+      go true true f = absurd (false≢true (sym e ∙ no_further t n 3 k (Some s) r f))
       go true false f = refl
       go false b f = refl
 
   root-now : (x : Parent) → root_within 0 t x ≡ true → reaches 0 t n x ≡ false → root_within 0 rest x ≡ true
   unfolding root_within reaches
-  root-now Root r e = r
-  root-now (Below s) r e = ap is_root (stays 0 s r e) ∙ r
+  root-now None r e = r
+  root-now (Some s) r e = ap is_root (stays 0 s r e) ∙ r
 
   root-later : (k : ℕ) (x : Parent) → root_within (suc k) t x ≡ true → reaches (suc k) t n x ≡ false
       → (root_within k t (up t x) ≡ true → reaches k t n (up t x) ≡ false → root_within k rest (up t x) ≡ true) → root_within (suc k) rest x ≡ true
   unfolding root_within reaches
-  root-later k Root r e ih = absurd (false≢true (sym (root_none t k) ∙ r))
-  root-later k (Below s) r e ih = go (is_root (get_or t s free)) refl r (stays (suc k) s r e)
+  root-later k None r e ih = absurd (false≢true (sym (root_none t k) ∙ r))
+  root-later k (Some s) r e ih = go (is_root (get_or t s free)) refl r (stays (suc k) s r e)
     where
-      go : (b : Bool) → is_root (get_or t s free) ≡ b → (b || root_within k t (up t (Below s))) ≡ true → get_or rest s free ≡ get_or t s free
+      go : (b : Bool) → is_root (get_or t s free) ≡ b → (b || root_within k t (up t (Some s))) ≡ true → get_or rest s free ≡ get_or t s free
           → (is_root (get_or rest s free) || root_within k rest (parent_in (get_or rest s free))) ≡ true
       go true q f same = or_left (is_root (get_or rest s free)) (root_within k rest (parent_in (get_or rest s free))) (ap is_root same ∙ q)
       go false q f same =
           or_right (is_root (get_or rest s free)) (root_within k rest (parent_in (get_or rest s free)))
-          (ap (λ (y : Slot Key). root_within k rest (parent_in y)) same ∙ ih f (or_none (eqb s n) (reaches k t n (up t (Below s))) e))
+          (ap (λ (y : Slot Key). root_within k rest (parent_in y)) same ∙ ih f (or_none (eqb s n) (reaches k t n (up t (Some s))) e))
 
   root-stays : (k : ℕ) (x : Parent) → root_within k t x ≡ true → reaches k t n x ≡ false → root_within k rest x ≡ true
   root-stays zero x r e = root-now x r e
   root-stays (suc k) x r e = root-later k x r e (λ q f. root-stays k (up t x) q f)
 
 Roots : List (Slot Key) → Type 0
-Roots t = (s : ℕ) → is_live t s ≡ true → root_within 3 t (Below s) ≡ true
+Roots t = (s : ℕ) → is_live t s ≡ true → root_within 3 t (Some s) ≡ true
 
 drop-roots : (t : List (Slot Key)) (n : ℕ) → Roots t → Roots (freed (goes_with t n) 0 t)
 unfolding Roots goes_with rest
-drop-roots t n r s live = go (is_live t s) (reaches 3 t n (Below s)) refl refl (sym (ap is_holding (rest_at t n s)) ∙ live)
+drop-roots t n r s live = go (is_live t s) (reaches 3 t n (Some s)) refl refl (sym (ap is_holding (rest_at t n s)) ∙ live)
   where
-    go : (a b : Bool) → is_live t s ≡ a → reaches 3 t n (Below s) ≡ b → is_holding (cond (a && b) free (get_or t s free)) ≡ true
-        → root_within 3 (freed (goes_with t n) 0 t) (Below s) ≡ true
+    go : (a b : Bool) → is_live t s ≡ a → reaches 3 t n (Some s) ≡ b → is_holding (cond (a && b) free (get_or t s free)) ≡ true
+        → root_within 3 (freed (goes_with t n) 0 t) (Some s) ≡ true
     go true true p q f = absurd (false≢true f)
-    go true false p q f = root-stays t n 3 (Below s) (r s p) q
+    go true false p q f = root-stays t n 3 (Some s) (r s p) q
     go false b p q f = absurd (false≢true (sym p ∙ f))
 
 -- ---- a put
@@ -149,10 +148,10 @@ module _ (t : List (Slot Key)) (i : ℕ) (k : Key) (none : get_or t i free ≡ f
 
   -- a way to a root does not go through a free slot
   root-kept-now : (x : Parent) → root_at t x ≡ true → root_at u x ≡ true
-  root-kept-now Root r = r
-  root-kept-now (Below s) r = ap is_root (unmoved s (λ (e : s ≡ i). false≢true (sym (ap is_root (ap (λ (j : ℕ). get_or t j free) e ∙ none)) ∙ r))) ∙ r
+  root-kept-now None r = r
+  root-kept-now (Some s) r = ap is_root (unmoved s (λ (e : s ≡ i). false≢true (sym (ap is_root (ap (λ (j : ℕ). get_or t j free) e ∙ none)) ∙ r))) ∙ r
 
-  up_kept : (k' s : ℕ) → root_within k' t (up t (Below s)) ≡ true → up u (Below s) ≡ up t (Below s)
+  up_kept : (k' s : ℕ) → root_within k' t (up t (Some s)) ≡ true → up u (Some s) ≡ up t (Some s)
   up_kept k' s r =
       ap parent_in
       (unmoved s (λ (e : s ≡ i). false≢true
@@ -161,12 +160,12 @@ module _ (t : List (Slot Key)) (i : ℕ) (k : Key) (none : get_or t i free ≡ f
   root-kept-later : (k' : ℕ) (x : Parent) → root_within (suc k') t x ≡ true
       → (root_within k' t (up t x) ≡ true → root_within k' u (up t x) ≡ true) → root_within (suc k') u x ≡ true
   unfolding root_within
-  root-kept-later k' Root r ih = absurd (false≢true (sym (root_none t k') ∙ r))
-  root-kept-later k' (Below s) r ih = go (root_at t (Below s)) refl r
+  root-kept-later k' None r ih = absurd (false≢true (sym (root_none t k') ∙ r))
+  root-kept-later k' (Some s) r ih = go (root_at t (Some s)) refl r
     where
-      go : (b : Bool) → root_at t (Below s) ≡ b → (b || root_within k' t (up t (Below s))) ≡ true → (root_at u (Below s) || root_within k' u (up u (Below s))) ≡ true
-      go true q f = or_left (root_at u (Below s)) (root_within k' u (up u (Below s))) (root-kept-now (Below s) q)
-      go false q f = or_right (root_at u (Below s)) (root_within k' u (up u (Below s))) (ap (root_within k' u) (up_kept k' s f) ∙ ih f)
+      go : (b : Bool) → root_at t (Some s) ≡ b → (b || root_within k' t (up t (Some s))) ≡ true → (root_at u (Some s) || root_within k' u (up u (Some s))) ≡ true
+      go true q f = or_left (root_at u (Some s)) (root_within k' u (up u (Some s))) (root-kept-now (Some s) q)
+      go false q f = or_right (root_at u (Some s)) (root_within k' u (up u (Some s))) (ap (root_within k' u) (up_kept k' s f) ∙ ih f)
 
   root-kept-zero : (x : Parent) → root_within 0 t x ≡ true → root_within 0 u x ≡ true
   unfolding root_within
@@ -177,14 +176,14 @@ module _ (t : List (Slot Key)) (i : ℕ) (k : Key) (none : get_or t i free ≡ f
   root_kept (suc k') x r = root-kept-later k' x r (λ q. root_kept k' (up t x) q)
 
 new_root : (t : List (Slot Key)) (i : ℕ) (x : Name) (p : Parent) → get_or t i free ≡ free → i < length t → root_near t p ≡ true
-    → root_within 3 (set t i (holding (record { name = x; parent = p }))) (Below i) ≡ true
+    → root_within 3 (set t i (holding (record { name = x; parent = p }))) (Some i) ≡ true
 unfolding root_within u
-new_root t i x Root none h e = or_left _ _ (ap is_root (get_or-set_same t i (holding (record { name = x; parent = Root })) free h))
-new_root t i x (Below q) none h e =
-    let k : Key = record { name = x; parent = Below q } in
-    let here : up (set t i (holding k)) (Below i) ≡ Below q = ap parent_in (get_or-set_same t i (holding k) free h) in
-    let near : root_within 2 (set t i (holding k)) (Below q) ≡ true = root_kept t i k none 2 (Below q) e in
-    or_right (root_at (set t i (holding k)) (Below i)) (root_within 2 (set t i (holding k)) (up (set t i (holding k)) (Below i)))
+new_root t i x None none h e = or_left _ _ (ap is_root (get_or-set_same t i (holding (record { name = x; parent = None })) free h))
+new_root t i x (Some q) none h e =
+    let k : Key = record { name = x; parent = Some q } in
+    let here : up (set t i (holding k)) (Some i) ≡ Some q = ap parent_in (get_or-set_same t i (holding k) free h) in
+    let near : root_within 2 (set t i (holding k)) (Some q) ≡ true = root_kept t i k none 2 (Some q) e in
+    or_right (root_at (set t i (holding k)) (Some i)) (root_within 2 (set t i (holding k)) (up (set t i (holding k)) (Some i)))
     (ap (root_within 2 (set t i (holding k))) here ∙ near)
 
 put_roots : (t : List (Slot Key)) (x : Name) (p : Parent) → Roots t → put_check t p ≡ pass
@@ -192,16 +191,16 @@ put_roots : (t : List (Slot Key)) (x : Name) (p : Parent) → Roots t → put_ch
 unfolding Roots put_check check46 check49 u
 put_roots t x p r e s live = go (eqb s (lowest_free t)) refl
   where
-    go : (b : Bool) → eqb s (lowest_free t) ≡ b → root_within 3 (set t (lowest_free t) (holding (record { name = x; parent = p }))) (Below s) ≡ true
+    go : (b : Bool) → eqb s (lowest_free t) ≡ b → root_within 3 (set t (lowest_free t) (holding (record { name = x; parent = p }))) (Some s) ≡ true
     go true q =
         let h : lowest_free t < length t = ltb-true _ _ (test_passed _ _ (last-passed (check48 t p and_then check49 t p) _ e)) in
         let d : root_near t p ≡ true = test_passed _ _ (last-passed (check48 t p) _ (before-passed (check48 t p and_then check49 t p) _ e)) in
-        ap (λ (j : ℕ). root_within 3 (set t (lowest_free t) (holding (record { name = x; parent = p }))) (Below j)) (eqb-true s (lowest_free t) q)
+        ap (λ (j : ℕ). root_within 3 (set t (lowest_free t) (holding (record { name = x; parent = p }))) (Some j)) (eqb-true s (lowest_free t) q)
         ∙ new_root t (lowest_free t) x p (lowest_none t) h d
     go false q =
         let k : Key = record { name = x; parent = p } in
         let same : get_or (set t (lowest_free t) (holding k)) s free ≡ get_or t s free = unmoved t (lowest_free t) k (lowest_none t) s (eqb-false s (lowest_free t) q) in
-        root_kept t (lowest_free t) k (lowest_none t) 3 (Below s) (r s (sym (ap is_holding same) ∙ live))
+        root_kept t (lowest_free t) k (lowest_none t) 3 (Some s) (r s (sym (ap is_holding same) ∙ live))
 
 -- ---- any calls
 
@@ -230,25 +229,25 @@ none_held (suc n) (suc s) = none_held n s
 
 near_live : (t : List (Slot Key)) (k : ℕ) (x : Parent) → root_within k t x ≡ true → parent_live t x ≡ true
 unfolding root_within
-near_live t k Root r = refl
-near_live t zero (Below p) r = go (get_or t p free) r
+near_live t k None r = refl
+near_live t zero (Some p) r = go (get_or t p free) r
   where
     go : (y : Slot Key) → is_root y ≡ true → is_holding y ≡ true
     go free e = e
     go (holding z) e = refl
-near_live t (suc k) (Below p) r = go (get_or t p free) r
+near_live t (suc k) (Some p) r = go (get_or t p free) r
   where
     go : (y : Slot Key) → (is_root y || root_within k t (parent_in y)) ≡ true → is_holding y ≡ true
     go free e = sym (root_none t k) ∙ e
     go (holding z) e = refl
 
-parent_live_lem : (t : List (Slot Key)) (s : ℕ) → root_within 3 t (Below s) ≡ true → parent_live t (parent_in (get_or t s free)) ≡ true
+parent_live_lem : (t : List (Slot Key)) (s : ℕ) → root_within 3 t (Some s) ≡ true → parent_live t (parent_in (get_or t s free)) ≡ true
 unfolding root_within
-parent_live_lem t s r = go (root_at t (Below s)) refl r
+parent_live_lem t s r = go (root_at t (Some s)) refl r
   where
-    go : (b : Bool) → root_at t (Below s) ≡ b → (b || root_within 2 t (up t (Below s))) ≡ true → parent_live t (up t (Below s)) ≡ true
-    go true q f = ap (parent_live t) (root_ends t (Below s) q)
-    go false q f = near_live t 2 (up t (Below s)) f
+    go : (b : Bool) → root_at t (Some s) ≡ b → (b || root_within 2 t (up t (Some s))) ≡ true → parent_live t (up t (Some s)) ≡ true
+    go true q f = ap (parent_live t) (root_ends t (Some s) q)
+    go false q f = near_live t 2 (up t (Some s)) f
 
 pub always_sound : AlwaysSound
 unfolding Roots

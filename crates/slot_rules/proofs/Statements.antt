@@ -12,9 +12,8 @@ use Rattle.slices.proofs.Truth.{and_left}
 use Rattle.refusal.specs.Checks.{Reason, Check, pass, refuse, bare, unless, ◌and_then◌}
 use Rattle.refusal.specs.Answers.{Answer, returned, refused, answer_to, after_check}
 use Rattle.refusal.proofs.Passing.{last-passed, test_passed, test_holds}
-use Rattle.slot_rules.specs.declared.Parent.{Parent}
 use Rattle.slot_rules.specs.Table.{Slot, free, holding, lowest_free, live_slot_count, is_holding, is_live, count_gone}
-use Rattle.slot_rules.specs.Parents.{Key, reaches, goes_with, parent_live, root_near}
+use Rattle.slot_rules.specs.Parents.{Parent, Key, reaches, goes_with, parent_live, root_near}
 use Rattle.slot_rules.specs.Calls.{check46, check47, check48, check49, put_check, put_answer, put_table, drop_answer, drop_table}
 use Rattle.slot_rules.specs.Statements.{
   Call,
@@ -101,35 +100,35 @@ said : (a b c : Bool) → ℕ → Answer
 said a b c n = answer_to (unless a (bare 48) and_then unless b (bare 49) and_then unless c (bare 46)) n
 
 said_48 : (a b c : Bool) (n : ℕ) → said a b c n ≡ refused (bare 48) → a ≡ false
-unfolding said unless ◌and_then◌
+unfolding said unless
 said_48 true true true n e = let z : ◌≡◌ {A = ℕ} 0 1 = cc (sym e) in absurd (omega arith)
 said_48 true true false n e = let z : ◌≡◌ {A = ℕ} 46 48 = cc in absurd (omega arith)
 said_48 true false c n e = let z : ◌≡◌ {A = ℕ} 49 48 = cc in absurd (omega arith)
 said_48 false b c n e = refl
 
 said_49 : (a b c : Bool) (n : ℕ) → said a b c n ≡ refused (bare 49) → (a ≡ true) × (b ≡ false)
-unfolding said unless ◌and_then◌
+unfolding said unless
 said_49 true true true n e = let z : ◌≡◌ {A = ℕ} 0 1 = cc (sym e) in absurd (omega arith)
 said_49 true true false n e = let z : ◌≡◌ {A = ℕ} 46 49 = cc in absurd (omega arith)
 said_49 true false c n e = (refl, refl)
 said_49 false b c n e = let z : ◌≡◌ {A = ℕ} 48 49 = cc in absurd (omega arith)
 
 said_46 : (a b c : Bool) (n : ℕ) → said a b c n ≡ refused (bare 46) → (a ≡ true) × (b ≡ true) × (c ≡ false)
-unfolding said unless ◌and_then◌
+unfolding said unless
 said_46 true true true n e = let z : ◌≡◌ {A = ℕ} 0 1 = cc (sym e) in absurd (omega arith)
 said_46 true true false n e = (refl, refl, refl)
 said_46 true false c n e = let z : ◌≡◌ {A = ℕ} 49 46 = cc in absurd (omega arith)
 said_46 false b c n e = let z : ◌≡◌ {A = ℕ} 48 46 = cc in absurd (omega arith)
 
 said_wrote : (a b c : Bool) (n i : ℕ) → said a b c n ≡ returned i → (c ≡ true) × (n ≡ i)
-unfolding said unless ◌and_then◌
+unfolding said unless
 said_wrote true true true n i e = (refl, cc)
 said_wrote true true false n i e = let z : ◌≡◌ {A = ℕ} 0 1 = cc (sym e) in absurd (omega arith)
 said_wrote true false c n i e = let z : ◌≡◌ {A = ℕ} 0 1 = cc (sym e) in absurd (omega arith)
 said_wrote false b c n i e = let z : ◌≡◌ {A = ℕ} 0 1 = cc (sym e) in absurd (omega arith)
 
 pub put_refused : PutRefused
-unfolding put_answer put_check check46 check48 check49 said unless ◌and_then◌
+unfolding put_answer put_check check46 check48 check49 said unless
 put_refused t p =
     let a = parent_live t p in
     let b = root_near t p in
@@ -148,7 +147,7 @@ free_left : {X : Type 0} (t : List (Slot X)) → live_slot_count t < length t �
 free_left t h = let a = lowest_le t in let b : lowest_free t < length t = omega arith in lt-ltb _ _ b
 
 pub put_accepted : PutAccepted
-unfolding put_answer put_check check46 check48 check49 unless ◌and_then◌
+unfolding put_answer put_check check46 check48 check49 unless
 put_accepted t p e f h = rw e (rw f (rw (free_left t h)))
 
 pub no_such_slot_exactly : NoSuchSlotExactly

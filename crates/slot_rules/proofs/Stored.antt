@@ -13,10 +13,9 @@ use Rattle.refusal.specs.Checks.{Check, pass, refuse, bare, unless, ◌and_then�
 use Rattle.refusal.proofs.Passing.{before-passed, last-passed, test_passed}
 use Rattle.slot_rules.specs.declared.Name.{Name}
 use Rattle.slot_rules.specs.declared.Slots.{Slots}
-use Rattle.slot_rules.specs.declared.Parent.{Parent}
-use Rattle.slot_rules.specs.declared.Parent.TheVariants.{Root, Below}
+use Rattle.std.specs.Prelude.{Some, None}
 use Rattle.slot_rules.specs.Table.{free, holding, slots_from, lowest_free, is_holding, is_live}
-use Rattle.slot_rules.specs.Parents.{Key, goes_with, parent_live}
+use Rattle.slot_rules.specs.Parents.{Parent, Key, goes_with, parent_live}
 use Rattle.slot_rules.specs.Calls.{check46, check47, check48, check49, put_check, put_table, drop_table}
 use Rattle.slot_rules.specs.Stored.{Fits, parent_of, byte_of, keys_of, table_of, put_stored, drop_stored}
 use Rattle.slot_rules.specs.Statements.{StoredIsTable}
@@ -40,9 +39,9 @@ keys_set (y ∷ names) (q ∷ parents) (suc i) x p e h =
     ap (λ (t : List Key). record { name = y; parent = parent_of q } ∷ t) (keys_set names parents i x p (omega arith) (omega arith))
 
 -- a parent that is none or a slot's number is what its byte holds
-byte_back : (p : Parent) → ((q : ℕ) → p ≡ Below q → q < 64) → parent_of (byte_of p) ≡ p
-byte_back Root h = refl
-byte_back (Below q) h =
+byte_back : (p : Parent) → ((q : ℕ) → p ≡ Some q → q < 64) → parent_of (byte_of p) ≡ p
+byte_back None h = refl
+byte_back (Some q) h =
     let l : q < 64 = h q refl in
     let t : eqb q 255 ≡ false = ne_eqb q 255 (λ (z : q ≡ 255). omega arith) in
     simp t
@@ -88,7 +87,7 @@ module _ (s : Slots) (f : Fits s) where
         (before-passed (check48 (table_of s) p) (check49 (table_of s) p)
         (before-passed (check48 (table_of s) p and_then check49 (table_of s) p) (check46 (table_of s)) e))
 
-    pub parent-below : (q : ℕ) → p ≡ Below q → q < 64
+    pub parent-below : (q : ℕ) → p ≡ Some q → q < 64
     parent-below q z = live_below q (sym (ap (parent_live (table_of s)) z) ∙ parent-lives)
 
   put-stored : (x : Name) (p : Parent) → table_of (put_stored s x p) ≡ put_table (table_of s) x p

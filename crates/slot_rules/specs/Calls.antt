@@ -3,9 +3,8 @@ use Rattle.std.specs.Prelude.{ℕ, List, ltb, length, set}
 use Rattle.refusal.specs.Checks.{Check, bare, unless, ◌and_then◌}
 use Rattle.refusal.specs.Answers.{Answer, answer_to, after_check}
 use Rattle.slot_rules.specs.declared.Name.{Name}
-use Rattle.slot_rules.specs.declared.Parent.{Parent}
 use Rattle.slot_rules.specs.Table.{Slot, holding, lowest_free, is_live, freed, count_gone}
-use Rattle.slot_rules.specs.Parents.{Key, goes_with, parent_live, root_near}
+use Rattle.slot_rules.specs.Parents.{Parent, Key, goes_with, parent_live, root_near}
 
 module _ {X : Type 0} where
   -- 46: all slots are taken

@@ -1,9 +1,11 @@
 -- Keys and their parents (document 02, request 13). A step goes from a live slot to its parent. A root is a live slot without a parent.
-use Rattle.std.specs.Prelude.{ℕ, zero, suc, Bool, true, false, ◌||◌, ◌&&◌, List, eqb, get_or}
+use Rattle.std.specs.Prelude.{ℕ, zero, suc, Bool, true, false, ◌||◌, ◌&&◌, List, eqb, get_or, Option, Some, None}
 use Rattle.slot_rules.specs.declared.Name.{Name}
-use Rattle.slot_rules.specs.declared.Parent.{Parent}
-use Rattle.slot_rules.specs.declared.Parent.TheVariants.{Root, Below}
 use Rattle.slot_rules.specs.Table.{Slot, free, holding, is_live}
+
+-- the parent of a key: the slot of this number, or none, so that the key is a root
+abbrev pub Parent : Type 0
+Parent = Option ℕ
 
 -- what a live slot holds
 pub record Key : Type 0 where
@@ -12,17 +14,17 @@ pub record Key : Type 0 where
 
 -- one step up: the parent that a live slot holds; there is no step from a root or a free slot
 abbrev pub parent_in : Slot Key → Parent
-parent_in free = Root
+parent_in free = None
 parent_in (holding k) = k.parent
 
 abbrev pub up : List (Slot Key) → Parent → Parent
-up t Root = Root
-up t (Below n) = parent_in (get_or t n free)
+up t None = None
+up t (Some n) = parent_in (get_or t n free)
 
 -- whether a step came to slot n
 abbrev pub is_slot : ℕ → Parent → Bool
-is_slot n Root = false
-is_slot n (Below m) = eqb m n
+is_slot n None = false
+is_slot n (Some m) = eqb m n
 
 -- from a place, at most k steps through live slots come to slot n
 unfoldable pub reaches : ℕ → List (Slot Key) → ℕ → Parent → Bool
@@ -31,19 +33,19 @@ reaches (suc k) t n x = is_slot n x || reaches k t n (up t x)
 
 -- those that a drop of n takes: the live slots that are n, or from which one to three steps through live ones reach it
 unfoldable pub goes_with : List (Slot Key) → ℕ → ℕ → Bool
-goes_with t n s = is_live t s && reaches 3 t n (Below s)
+goes_with t n s = is_live t s && reaches 3 t n (Some s)
 
 abbrev pub is_none : Parent → Bool
-is_none Root = true
-is_none (Below n) = false
+is_none None = true
+is_none (Some n) = false
 
 abbrev pub is_root : Slot Key → Bool
 is_root free = false
 is_root (holding k) = is_none k.parent
 
 abbrev pub root_at : List (Slot Key) → Parent → Bool
-root_at t Root = false
-root_at t (Below n) = is_root (get_or t n free)
+root_at t None = false
+root_at t (Some n) = is_root (get_or t n free)
 
 -- from a place, at most k steps through live slots come to a root
 unfoldable pub root_within : ℕ → List (Slot Key) → Parent → Bool
@@ -52,9 +54,9 @@ root_within (suc k) t x = root_at t x || root_within k t (up t x)
 
 -- whether a parent is none or a live slot, and whether it is none or has a root within two steps
 abbrev pub parent_live : List (Slot Key) → Parent → Bool
-parent_live t Root = true
-parent_live t (Below p) = is_live t p
+parent_live t None = true
+parent_live t (Some p) = is_live t p
 
 abbrev pub root_near : List (Slot Key) → Parent → Bool
-root_near t Root = true
-root_near t (Below p) = root_within 2 t (Below p)
+root_near t None = true
+root_near t (Some p) = root_within 2 t (Some p)

@@ -1,13 +1,11 @@
 -- What is proved of the calls on slots (document 02, requests 12 and 13). The proofs are in proofs/.
-use Rattle.std.specs.Prelude.{ℕ, ◌+◌, ◌<◌, ◌≡◌, true, false, List, [], ◌∷◌, length, get_or, replicate}
+use Rattle.std.specs.Prelude.{ℕ, ◌+◌, ◌<◌, ◌≡◌, true, false, List, [], ◌∷◌, length, get_or, replicate, Some}
 use Rattle.refusal.specs.Checks.{Reason, bare}
 use Rattle.refusal.specs.Answers.{Answer, returned, refused}
 use Rattle.slot_rules.specs.declared.Name.{Name}
 use Rattle.slot_rules.specs.declared.Slots.{Slots}
-use Rattle.slot_rules.specs.declared.Parent.{Parent}
-use Rattle.slot_rules.specs.declared.Parent.TheVariants.{Below}
 use Rattle.slot_rules.specs.Table.{Slot, free, holding, lowest_free, live_slot_count, is_live, slots_from, count_gone}
-use Rattle.slot_rules.specs.Parents.{Key, parent_in, goes_with, root_within, parent_live, root_near}
+use Rattle.slot_rules.specs.Parents.{Parent, Key, parent_in, goes_with, root_within, parent_live, root_near}
 use Rattle.slot_rules.specs.Calls.{put_answer, put_table, drop_answer, drop_table}
 use Rattle.slot_rules.specs.Stored.{Fits, table_of, put_stored, drop_stored}
 
@@ -61,7 +59,7 @@ LiveCount = (calls : List Call) → live_slot_count (after_all empty calls) + we
 -- a table in which every live slot's parent is none or live, and a root is reached within three steps
 pub record Sound (t : List (Slot Key)) : Type 0 where
   pub parents : (s : ℕ) → is_live t s ≡ true → parent_live t (parent_in (get_or t s free)) ≡ true
-  pub roots : (s : ℕ) → is_live t s ≡ true → root_within 3 t (Below s) ≡ true
+  pub roots : (s : ℕ) → is_live t s ≡ true → root_within 3 t (Some s) ≡ true
 
 -- from the empty table, after any calls
 abbrev pub AlwaysSound : Type 0

@@ -1,13 +1,11 @@
 -- How `Slots` holds a table of slots, and what each call leaves in it, the names and parents of free slots included.
-use Rattle.std.specs.Prelude.{ℕ, ◌-◌, ◌^◌, ◌<◌, ◌≡◌, cond, List, [], ◌∷◌, eqb, length, set}
+use Rattle.std.specs.Prelude.{ℕ, ◌-◌, ◌^◌, ◌<◌, ◌≡◌, cond, List, [], ◌∷◌, eqb, length, set, Some, None}
 use Rattle.std.specs.Int.Bits.{bit_and, bit_or}
 use Rattle.refusal.specs.Answers.{after_check}
 use Rattle.slot_rules.specs.declared.Name.{Name}
 use Rattle.slot_rules.specs.declared.Slots.{Slots}
-use Rattle.slot_rules.specs.declared.Parent.{Parent}
-use Rattle.slot_rules.specs.declared.Parent.TheVariants.{Root, Below}
 use Rattle.slot_rules.specs.Table.{Slot, slots_from, lowest_free, word_gone}
-use Rattle.slot_rules.specs.Parents.{Key, goes_with}
+use Rattle.slot_rules.specs.Parents.{Parent, Key, goes_with}
 use Rattle.slot_rules.specs.Calls.{check47, put_check}
 
 -- what holds of every `Slots` of the code and of C: a word of 64 bits, 64 names, 64 parents
@@ -18,11 +16,11 @@ pub record Fits (s : Slots) : Type 0 where
 
 -- a byte as a parent, 255 for none, and a parent as a byte
 abbrev pub parent_of : ℕ → Parent
-parent_of b = cond (eqb b 255) Root (Below b)
+parent_of b = cond (eqb b 255) None (Some b)
 
 abbrev pub byte_of : Parent → ℕ
-byte_of Root = 255
-byte_of (Below n) = n
+byte_of None = 255
+byte_of (Some n) = n
 
 unfoldable pub keys_of : List Name → List ℕ → List Key
 keys_of [] parents = []

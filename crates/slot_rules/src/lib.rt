@@ -9,13 +9,6 @@ pub struct Name {
     pub bytes: [u8; 8],
 }
 
-// The parent of a key: none, so that the key is a root, or the slot of this number.
-#[derive(Clone, Copy)]
-pub enum Parent {
-    Root,
-    Below(u64),
-}
-
 // Sixty-four slots: a word with a bit for each that is taken, slot 0 the lowest; a name for each; the number of its parent for each, 255 for none.
 // The name and the parent of a free slot count for nothing.
 #[repr(C)]

@@ -1,7 +1,7 @@
 -- What the operations on the word of taken slots come to in the table: the lowest zero bit is the lowest free slot, and the count of the bits that are
 -- set is that of the live slots.
 use mathlib.Core.Path.{◌≡◌, refl, sym, ap, ap₂, ◌∙◌}
-use mathlib.Core.Bool.{Bool, ◌&&◌}
+use mathlib.Core.Bool.{Bool, true, false, ◌&&◌}
 use mathlib.Core.List.{List, [], ◌∷◌, map}
 use Prim.Native.Nat.{ℕ, zero, suc, ◌+◌, ◌-◌, ◌*◌, ◌/◌, ◌%◌, ◌^◌, ◌≤◌, ◌<◌}
 use native.Mathlib.Nat.{lt_of_lt_of_le, pow-suc, mod-lt, mod-eq_of_lt, zero-lt-suc}
@@ -9,6 +9,7 @@ use native.Mathlib.Omega.{arith}
 use borrow.Author.Tests.{lt-ltb}
 use lib.Count.{ones, ones_step, count_trailing_zeros, under}
 use lib.Dec.{eqb}
+use mir.Val.{bool_byte}
 use lib.ListN.{length, get_or, length-map}
 use lib.Pow.{pow_mono, pow-lt, pow-add, shr-shr, field, mod-mod-pow}
 use Rattle.slot_rules.specs.Table.{Slot, free, slot_of, slots_from, lowest_free, live_slot_count, bit, count_gone, word_gone}
@@ -18,6 +19,11 @@ use Rattle.slots.specs.Internal.{has_bit}
 -- a list has the length of what is mapped from it
 pub length_mapped : (X Y : Type 0) (f : X → Y) (l : List X) (n : ℕ) → length (map f l) ≡ n → length l ≡ n
 length_mapped X Y f l n e = sym (length-map l f) ∙ e
+
+-- a truth value as a number
+pub as_bit : (b : Bool) → bool_byte b ≡ bit b
+as_bit true = refl
+as_bit false = refl
 
 -- ---- halves
 

@@ -1,24 +1,22 @@
 -- What the code's operations on stored slots come to in the table that they hold.
 use mathlib.Core.Path.{◌≡◌, refl, sym, ap, ap₂, ◌∙◌}
-use mathlib.Core.Bool.{Bool, true, false}
+use mathlib.Core.Bool.{Bool, true, false, cond, ◌||◌}
 use mathlib.Core.List.{List}
 use Prim.Native.Nat.{ℕ, ◌-◌, ◌^◌, ◌<◌}
 use native.Mathlib.Omega.{arith}
 use lib.Count.{ones, count_trailing_zeros}
-use lib.ListN.{length}
+use lib.ListN.{length, get_or}
 use Rattle.refusal.specs.Checks.{Reason, Check, pass, refuse, bare, unless, ◌and_then◌}
 use Rattle.refusal.specs.Answers.{returned, refused, answer_to}
 use Rattle.refusal.proofs.Passing.{test_holds}
-use Rattle.slot_rules.specs.declared.Name.{Name}
 use Rattle.slot_rules.specs.declared.Slots.{Slots}
-use Rattle.slot_rules.specs.declared.Parent.{Parent}
-use Rattle.slot_rules.specs.declared.Parent.TheVariants.{Root, Below}
+use Rattle.std.specs.Prelude.{Some, None}
 use Rattle.slot_rules.specs.Table.{lowest_free, live_slot_count, is_live, count_gone, word_gone}
-use Rattle.slot_rules.specs.Parents.{goes_with, root_near}
-use Rattle.slot_rules.specs.Calls.{check47, check48, check49, put_check, put_answer, drop_answer}
-use Rattle.slot_rules.specs.Stored.{Fits, table_of, byte_of, taking, freeing, gone_with, put_stored, drop_stored}
-use Rattle.slot_rules.proofs.Stored.{size}
-use Rattle.slots.specs.Internal.{has_bit, step_from, step_in, reaches_by, root_within_two_by}
+use Rattle.slot_rules.specs.Parents.{Parent, up, goes_with, root_at, root_within, root_near}
+use Rattle.slot_rules.specs.Calls.{check47, check48, check49, put_check, drop_answer}
+use Rattle.slot_rules.specs.Stored.{Fits, table_of, parent_of, byte_of, freeing, gone_with, drop_stored}
+use Rattle.slot_rules.proofs.Stored.{size, room, parent-below}
+use Rattle.slots.specs.Internal.{has_bit, up_in, root_in, root_within_two_in, step_from, step_in, reaches_by}
 use Rattle.slots.proofs.BitLaws.{count_law, word_same}
 use Rattle.slots.proofs.Steps.{table, keys, same_ways}
 use Rattle.slots.proofs.Steps
@@ -28,15 +26,27 @@ test_fails : (t : Bool) (x : Reason) → t ≡ false → unless t x ≡ refuse x
 unfolding unless
 test_fails t x e = rw e
 
+-- a test that refuses fails
+pub test_failed : (t : Bool) (x : Reason) {y : Reason} → refuse y ≡ unless t x → t ≡ false
+unfolding unless
+test_failed true x e = cc
+test_failed false x e = refl
+
+-- and its reason is the test's
+pub test_told : (t : Bool) (x : Reason) {y : Reason} → refuse y ≡ unless t x → y ≡ x
+unfolding unless
+test_told true x e = cc
+test_told false x e = cc
+
 -- no parent passes both tests
-pub root_checked : (s : Slots) → pass ≡ (check48 (table_of s) Root and_then check49 (table_of s) Root)
-unfolding check48 check49 unless ◌and_then◌
+pub root_checked : (s : Slots) → pass ≡ (check48 (table_of s) None and_then check49 (table_of s) None)
+unfolding check48 check49 unless
 root_checked s = refl
 
 -- a parent that is none or a slot's number fits a byte
-pub byte_fits : (p : Parent) → ((q : ℕ) → p ≡ Below q → q < 64) → byte_of p < 256
-byte_fits Root h = omega arith
-byte_fits (Below q) h = let l : q < 64 = h q refl in omega arith
+within_byte : (p : Parent) → ((q : ℕ) → p ≡ Some q → q < 64) → byte_of p < 256
+within_byte None h = omega arith
+within_byte (Some q) h = let l : q < 64 = h q refl in omega arith
 
 module _ (s : Slots) (f : Fits s) where
   b : s.taken < 2 ^ 64
@@ -55,15 +65,43 @@ module _ (s : Slots) (f : Fits s) where
 
   -- ---- a put
 
-  near : (p : ℕ) → root_near (table_of s) (Below p) ≡ root_within_two_by s.taken s.parents p
-  unfolding table keys
-  near p = Steps.near_of s.taken s.names s.parents b f.names f.parents p
+  up_of : (x : Parent) → up (table_of s) x ≡ up_in s x
+  unfolding table keys step_from
+  up_of None = refl
+  up_of (Some n) = Steps.up-below s.taken s.names s.parents b f.names f.parents n ∙ go (has_bit s.taken n)
+    where
+      go : (c : Bool) → parent_of (cond c (get_or s.parents n 0) 255) ≡ cond c (parent_of (get_or s.parents n 0)) None
+      go true = refl
+      go false = refl
 
-  pub parent_checked : (p : ℕ)
-      → (unless (has_bit s.taken p) (bare 48) and_then unless (root_within_two_by s.taken s.parents p) (bare 49))
-      ≡ (check48 (table_of s) (Below p) and_then check49 (table_of s) (Below p))
-  unfolding check48 check49
-  parent_checked p = sym (ap₂ (λ (x y : Bool). unless x (bare 48) and_then unless y (bare 49)) (live p) (near p))
+  root_of : (x : Parent) → root_at (table_of s) x ≡ root_in s x
+  unfolding table keys
+  root_of None = refl
+  root_of (Some n) = Steps.root_below s.taken s.names s.parents b f.names f.parents n
+
+  pub near : (n : ℕ) → root_near (table_of s) (Some n) ≡ root_within_two_in s (Some n)
+  unfolding root_within root_within_two_in
+  near n =
+      let x : Parent = Some n in
+      let two = ap (up (table_of s)) (up_of x) ∙ up_of (up_in s x) in
+      ap₂ ◌||◌ (root_of x) (ap₂ ◌||◌ (ap (root_at (table_of s)) (up_of x) ∙ root_of (up_in s x)) (ap (root_at (table_of s)) two ∙ root_of (up_in s (up_in s x))))
+
+  -- a parent that is not live, and one that is
+  pub not_live : (n : ℕ) → has_bit s.taken n ≡ false → unless (has_bit s.taken n) (bare 48) ≡ (check48 (table_of s) (Some n) and_then check49 (table_of s) (Some n))
+  unfolding check48 check49 unless
+  not_live n e = simp (live n, e)
+
+  pub is_near : (n : ℕ) → has_bit s.taken n ≡ true
+      → unless (root_within_two_in s (Some n)) (bare 49) ≡ (check48 (table_of s) (Some n) and_then check49 (table_of s) (Some n))
+  unfolding check48 check49 unless
+  is_near n e = simp (live n, e, near n)
+
+  -- where the tests passed, the number of the lowest free slot is below 64, and the parent's byte is one
+  pub below : (p : Parent) (n : ℕ) → pass ≡ put_check (table_of s) p → n ≡ lowest_free (table_of s) → n < 64
+  below p n e l = rw l (room s f p (sym e))
+
+  pub byte_fits : (p : Parent) → pass ≡ put_check (table_of s) p → byte_of p < 256
+  byte_fits p e = within_byte p (parent-below s f p (sym e))
 
   -- ---- a drop
 
@@ -81,24 +119,7 @@ module _ (s : Slots) (f : Fits s) where
       ap returned (count_law (goes_with (table_of s) n) 0 64 ∙ ap (count_gone (goes_with (table_of s) n) 0) (sym (size s f)))
       ∙ sym (ap (λ (d : Check). answer_to d (count_gone (goes_with (table_of s) n) 0 (length (table_of s)))) (test_holds _ _ e))
 
--- ---- the cases of the calls
-
-module _ (s : Slots) (p : Parent) where
-  pub put_number : (i : ℕ) → i ≡ lowest_free (table_of s) → put_check (table_of s) p ≡ pass → returned i ≡ put_answer (table_of s) p
-  unfolding put_answer
-  put_number i e h = rw h (ap returned e)
-
-  pub put_none : (y : Reason) → put_check (table_of s) p ≡ refuse y → refused y ≡ put_answer (table_of s) p
-  unfolding put_answer
-  put_none y h = rw h
-
-  pub put_takes : (r : Slots) (i : ℕ) (x : Name) → i ≡ lowest_free (table_of s) → put_check (table_of s) p ≡ pass → r ≡ taking s i x p → r ≡ put_stored s x p
-  unfolding put_stored
-  put_takes r i x e h q = rw h (q ∙ ap (λ (n : ℕ). taking s n x p) e)
-
-  pub put_leaves : (y : Reason) (x : Name) → put_check (table_of s) p ≡ refuse y → s ≡ put_stored s x p
-  unfolding put_stored
-  put_leaves y x h = rw h
+-- ---- the cases of a drop
 
 module _ (s : Slots) (n : ℕ) where
   pub drop-none : is_live (table_of s) n ≡ false → refused (bare 47) ≡ drop_answer (table_of s) n

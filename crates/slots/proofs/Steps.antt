@@ -11,13 +11,13 @@ use lib.Count.{ones, count_trailing_zeros}
 use lib.Dec.{ltb, eqb}
 use lib.ListN.{length, get_or, set, get_or-eq_default}
 use lib.Seq.{get_or-set_same, get_or-set_other}
+use Rattle.std.specs.Prelude.{Some, None}
 use Rattle.slices.proofs.Truth.{and_left}
 use Rattle.slot_rules.specs.declared.Name.{Name}
-use Rattle.slot_rules.specs.declared.Parent.TheVariants.{Root, Below}
 use Rattle.slot_rules.specs.Table.{Slot, free, holding, slot_of, slots_from, lowest_free, live_slot_count, is_holding, is_live}
-use Rattle.slot_rules.specs.Parents.{Key, parent_in, up, is_slot, reaches, goes_with, is_none, is_root, root_at, root_within}
+use Rattle.slot_rules.specs.Parents.{Key, parent_in, up, is_slot, reaches, goes_with, is_none, is_root, root_at}
 use Rattle.slot_rules.specs.Stored.{parent_of, keys_of}
-use Rattle.slots.specs.Internal.{has_bit, step_from, step_in, reaches_by, root_by, root_within_two_by}
+use Rattle.slots.specs.Internal.{has_bit, step_from, step_in, reaches_by}
 use Rattle.slot_rules.proofs.Words.{length_slots}
 use Rattle.slot_rules.proofs.Stored.{keys_length}
 use Rattle.slots.proofs.BitLaws.{lowest_law, live_law, at_law}
@@ -43,14 +43,14 @@ slot_bit k (suc (suc d)) h = absurd (omega arith)
 none_at : (b : ℕ) → is_none (parent_of b) ≡ eqb b 255
 none_at b = go (eqb b 255)
   where
-    go : (c : Bool) → is_none (cond c Root (Below b)) ≡ c
+    go : (c : Bool) → is_none (cond c None (Some b)) ≡ c
     go true = refl
     go false = refl
 
 slot_at : (n b : ℕ) → n < 64 → is_slot n (parent_of b) ≡ eqb b n
 slot_at n b h = go (eqb b 255) refl
   where
-    go : (c : Bool) → eqb b 255 ≡ c → is_slot n (cond c Root (Below b)) ≡ eqb b n
+    go : (c : Bool) → eqb b 255 ≡ c → is_slot n (cond c None (Some b)) ≡ eqb b n
     go true e = let f : b ≡ 255 = eqb-true b 255 e in let g : (b ≡ n → ⊥) = (λ (q : b ≡ n). omega arith) in sym (ne_eqb b n g)
     go false e = refl
 
@@ -118,7 +118,7 @@ module _ (w : ℕ) (names : List Name) (parents : List ℕ) (b : w < 2 ^ 64) (l 
       go true = refl
       go false = refl
 
-  up-below : (s : ℕ) → up table (Below s) ≡ parent_of (step_from w parents s)
+  pub up-below : (s : ℕ) → up table (Some s) ≡ parent_of (step_from w parents s)
   unfolding step_from key
   up-below s = ap parent_in (slot-of s) ∙ go (has_bit w s)
     where
@@ -126,24 +126,24 @@ module _ (w : ℕ) (names : List Name) (parents : List ℕ) (b : w < 2 ^ 64) (l 
       go true = refl
       go false = refl
 
-  up-last : up table Root ≡ parent_of (step_from w parents 255)
+  up-last : up table None ≡ parent_of (step_from w parents 255)
   unfolding step_from
   up-last = refl
 
   up_of : (x : ℕ) → up table (parent_of x) ≡ parent_of (step_from w parents x)
   up_of x = go (eqb x 255) refl
     where
-      go : (c : Bool) → eqb x 255 ≡ c → up table (cond c Root (Below x)) ≡ parent_of (step_from w parents x)
+      go : (c : Bool) → eqb x 255 ≡ c → up table (cond c None (Some x)) ≡ parent_of (step_from w parents x)
       go true e = up-last ∙ ap (λ (y : ℕ). parent_of (step_from w parents y)) (sym (eqb-true x 255 e))
       go false e = up-below x
 
-  reaches_of : (n s : ℕ) → n < 64 → reaches 3 table n (Below s) ≡ reaches_by (step_from w parents) n s
+  reaches_of : (n s : ℕ) → n < 64 → reaches 3 table n (Some s) ≡ reaches_by (step_from w parents) n s
   unfolding reaches reaches_by
   reaches_of n s h =
       let p = step_from w parents in
-      let one : up table (Below s) ≡ parent_of (p s) = up-below s in
-      let two : up table (up table (Below s)) ≡ parent_of (p (p s)) = ap (up table) one ∙ up_of (p s) in
-      let three : up table (up table (up table (Below s))) ≡ parent_of (p (p (p s))) = ap (up table) two ∙ up_of (p (p s)) in
+      let one : up table (Some s) ≡ parent_of (p s) = up-below s in
+      let two : up table (up table (Some s)) ≡ parent_of (p (p s)) = ap (up table) one ∙ up_of (p s) in
+      let three : up table (up table (up table (Some s))) ≡ parent_of (p (p (p s))) = ap (up table) two ∙ up_of (p (p s)) in
       ap (λ (c : Bool). eqb s n || c)
       (ap₂ ◌||◌ (ap (is_slot n) one ∙ slot_at n (p s) h)
       (ap₂ ◌||◌ (ap (is_slot n) two ∙ slot_at n (p (p s)) h) (ap (is_slot n) three ∙ slot_at n (p (p (p s))) h)))
@@ -158,32 +158,13 @@ module _ (w : ℕ) (names : List Name) (parents : List ℕ) (b : w < 2 ^ 64) (l 
       go true q = refl
       go false q = sym (free_stays w parents n s e q)
 
-  root_below : (s : ℕ) → root_at table (Below s) ≡ root_by w parents s
-  unfolding root_by key
+  pub root_below : (s : ℕ) → root_at table (Some s) ≡ (has_bit w s && eqb (get_or parents s 0) 255)
+  unfolding key
   root_below s = ap is_root (slot-of s) ∙ go (has_bit w s)
     where
       go : (c : Bool) → is_root (cond c (holding (key s)) free) ≡ (c && eqb (get_or parents s 0) 255)
       go true = none_at (get_or parents s 0)
       go false = refl
-
-  root-last : root_at table Root ≡ root_by w parents 255
-  unfolding root_by
-  root-last = refl
-
-  root-of : (x : ℕ) → root_at table (parent_of x) ≡ root_by w parents x
-  root-of x = go (eqb x 255) refl
-    where
-      go : (c : Bool) → eqb x 255 ≡ c → root_at table (cond c Root (Below x)) ≡ root_by w parents x
-      go true e = root-last ∙ ap (root_by w parents) (sym (eqb-true x 255 e))
-      go false e = root_below x
-
-  pub near_of : (s : ℕ) → root_within 2 table (Below s) ≡ root_within_two_by w parents s
-  unfolding root_within root_within_two_by
-  near_of s =
-      let p = step_from w parents in
-      let one : up table (Below s) ≡ parent_of (p s) = up-below s in
-      let two : up table (up table (Below s)) ≡ parent_of (p (p s)) = ap (up table) one ∙ up_of (p s) in
-      ap₂ ◌||◌ (root_below s) (ap₂ ◌||◌ (ap (root_at table) one ∙ root-of (p s)) (ap (root_at table) two ∙ root-of (p (p s))))
 
   pub lowest : count_trailing_zeros 64 ((2 ^ 64 - 1) - w) ≡ lowest_free table
   unfolding table

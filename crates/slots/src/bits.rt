@@ -25,8 +25,8 @@ pub(crate) fn mask(i: u32) -> u64
 {
     let one: u32 = 1;
     if i < 32 {
-        (one << i) as u64
+        u64::from(one << i)
     } else {
-        (one << (i - 32)) as u64 * 0x1_0000_0000
+        u64::from(one << (i - 32)) * 0x1_0000_0000
     }
 }

@@ -6,21 +6,22 @@ ghost use Rattle.std.specs.Prelude.{◌≡◌, ◌<◌};
 ghost use Rattle.refusal.specs.Answers.{checked_as, answer_of};
 ghost use Rattle.slot_rules.specs.Table.{lowest_free, live_slot_count};
 ghost use Rattle.slot_rules.specs.Calls.{put_check, put_answer, drop_answer};
-ghost use Rattle.slot_rules.specs.Stored.{table_of, byte_of, put_stored, drop_stored};
+ghost use Rattle.slot_rules.specs.Stored.{Fits, table_of, byte_of, put_stored, drop_stored};
 
 mod bits; // bits of the word of taken slots
 mod tree; // the tests of a parent, and what goes with a slot
 
 use bits::{has_bit, mask};
-use refusal::{Answered, Checked, Refusal, then_check, unless};
-use slot_rules::{Name, Parent, Slots};
+use refusal::{Refusal, unless};
+use slot_rules::{Name, Slots};
 use tree::{check_parent, gone};
 
-// What a call answers, a put the number of its slot and a drop how many went, and the slots after it. A call makes one copy of the slots, changes it or
-// not, and returns it at its end: where a refusal returns its argument by a way of its own, the compiler keeps three copies on the stack.
+// What a call answers, a put the number of its slot and a drop how many went, and the slots after it. A call makes one copy of the slots, lends it to
+// the function that changes it or not, and returns it at its end: where a refusal returns its argument by a way of its own, the compiler keeps three
+// copies on the stack.
 #[derive(Clone, Copy)]
 pub struct After {
-    pub answer: Answered,
+    pub answer: Result<usize, Refusal>,
     pub slots: Slots,
 }
 
@@ -28,81 +29,95 @@ pub struct After {
 pub fn live(slots: Slots) -> u32
     ensures { result ≡ live_slot_count (table_of slots) }
 {
-    u64::count_ones(slots.taken)
+    slots.taken.count_ones()
 }
 
 // ---- a put
 
 // The lowest free slot, 64 where none is free.
-fn lowest_free(slots: Slots) -> u32
-    ensures { result ≡ lowest_free (table_of slots) }
+fn lowest_free(slots: &Slots) -> u32
+    requires { Fits slots.now }
+    ensures { result ≡ lowest_free (table_of slots.now) }
 {
-    u64::trailing_zeros(!slots.taken)
+    (!slots.taken).trailing_zeros()
 }
 
 // The tests of a put: those of its parent, and that a slot is free.
-fn check_put(slots: Slots, parent: Parent) -> Checked
-    ensures { checked_as result ≡ put_check (table_of slots) parent }
+#[tactic(auto, unfolding(slot_rules::specs::Calls::put_check))]
+fn check_put(slots: &Slots, parent: Option<u64>) -> Result<(), Refusal>
+    requires { Fits slots.now }
+    ensures { checked_as result ≡ put_check (table_of slots.now) parent }
 {
-    then_check(
-        check_parent(slots, parent),
-        unless(lowest_free(slots) < 64, Refusal::SlotsFull),
-    )
+    check_parent(slots, parent)?;
+    unless(lowest_free(slots) < 64, Refusal::SlotsFull)
 }
 
 // The byte that holds a parent.
-fn parent_byte(parent: Parent) -> u8
+fn parent_byte(parent: Option<u64>) -> u8
     requires { byte_of parent < 256 }
     ensures { result ≡ byte_of parent }
 {
     match parent {
-        Parent::Root => 255,
-        Parent::Below(p) => p as u8,
+        None => 255,
+        Some(p) => p as u8,
     }
 }
 
-// A name is put below a parent into the lowest free slot.
-pub fn put(slots: Slots, name: Name, parent: Parent) -> After
+// Name and parent stand in the lowest free slot, or the slots stay as they are.
+#[tactic(auto, unfolding(slot_rules::specs::Calls::put_answer, slot_rules::specs::Stored::put_stored), using(crate::proofs::Calls::below, crate::proofs::Calls::byte_fits))]
+fn put_lowest(slots: &mut Slots, name: Name, parent: Option<u64>) -> Result<usize, Refusal>
+    requires { Fits slots.old }
+    ensures answer { answer_of result ≡ put_answer (table_of slots.old) parent }
+    ensures stored { slots.new ≡ put_stored slots.old name parent }
+{
+    check_put(slots, parent)?;
+    let number = lowest_free(slots);
+    let at = number as usize;
+    slots.taken |= mask(number);
+    slots.names[at] = name;
+    slots.parents[at] = parent_byte(parent);
+    Ok(at)
+}
+
+// A name is put below a parent into the lowest free slot; where there is no parent, the key is a root.
+#[tactic(auto, using(crate::proofs::BitLaws::length_mapped))]
+pub fn put(slots: Slots, name: Name, parent: Option<u64>) -> After
     ensures answer { answer_of result.answer ≡ put_answer (table_of slots) parent }
     ensures stored { result.slots ≡ put_stored slots name parent }
 {
-    let check = check_put(slots, parent);
     let mut next = slots;
-    let answer = match check {
-        Checked::Failed(why) => Answered::Refused(why),
-        Checked::Passed => {
-            let number = lowest_free(slots);
-            let at = number as usize;
-            next.taken = slots.taken | mask(number);
-            next.names[at] = name;
-            next.parents[at] = parent_byte(parent);
-            Answered::Accepted(at)
-        }
-    };
+    let answer = put_lowest(&mut next, name, parent);
     After {
-        answer: answer,
+        answer,
         slots: next,
     }
 }
 
 // ---- a drop
 
+// A live slot and all that descend from it are free, or the slots stay as they are.
+#[tactic(auto, unfolding(slot_rules::specs::Calls::drop_answer, slot_rules::specs::Stored::drop_stored))]
+fn drop_below(slots: &mut Slots, number: u64) -> Result<usize, Refusal>
+    requires { Fits slots.old }
+    ensures answer { answer_of result ≡ drop_answer (table_of slots.old) number }
+    ensures stored { slots.new ≡ drop_stored slots.old number }
+{
+    unless(has_bit(slots.taken, number), Refusal::NoSuchSlot)?;
+    let word = gone(slots, number);
+    slots.taken &= !word;
+    Ok(word.count_ones() as usize)
+}
+
 // A slot and all that descend from it are freed. Nothing but the word of taken slots changes.
+#[tactic(auto, using(crate::proofs::BitLaws::length_mapped))]
 pub fn drop(slots: Slots, number: u64) -> After
     ensures answer { answer_of result.answer ≡ drop_answer (table_of slots) number }
     ensures stored { result.slots ≡ drop_stored slots number }
 {
     let mut next = slots;
-    let answer = if has_bit(slots.taken, number) {
-        let word = gone(slots, number);
-        let went = u64::count_ones(word) as usize;
-        next.taken = slots.taken & !word;
-        Answered::Accepted(went)
-    } else {
-        Answered::Refused(Refusal::NoSuchSlot)
-    };
+    let answer = drop_below(&mut next, number);
     After {
-        answer: answer,
+        answer,
         slots: next,
     }
 }

@@ -1,11 +1,10 @@
 -- An array that a loop fills from its start.
-use mathlib.Core.Path.{◌≡◌, sym, subst, ◌∙◌}
+use mathlib.Core.Path.{◌≡◌, sym, subst}
 use mathlib.Core.Logic.{⊎_elim}
-use mathlib.Core.List.{List}
-use Prim.Native.Nat.{ℕ, ◌+◌, ◌<◌, ◌≤◌}
+use Prim.Native.Nat.{ℕ, ◌<◌, ◌≤◌}
 use native.Mathlib.Nat.{eq-or-lt_of_le}
 use native.Mathlib.Omega.{arith}
-use lib.ListN.{length, get_or, set, length-set}
+use lib.ListN.{get_or, set}
 use lib.Seq.{get_or-set_same, get_or-set_other}
 use Rattle.tables.specs.Statements.{Filled}
 
@@ -16,9 +15,3 @@ filled A P l i x d h px before k lt =
     (λ (e : k ≡ i). subst (λ (m : ℕ). P m (get_or (set l i x) m d)) (sym e) (subst (P i) (sym (get_or-set_same l i x d h)) px))
     (λ (b : k < i). subst (P k) (sym (get_or-set_other l i k x d (λ e. omega (arith, e)))) (before k b))
     (eq-or-lt_of_le le)
-
--- the same of an array of n entries, which stays one
-module _ {A : Type 0} (P : ℕ → A → Type 0) (l : List A) (i : ℕ) (x d : A) where
-  pub filled_of : (n : ℕ) → i < n → length l ≡ n → P i x → ((k : ℕ) → k < i → P k (get_or l k d))
-      → (length (set l i x) ≡ n) × ((k : ℕ) → k < i + 1 → P k (get_or (set l i x) k d))
-  filled_of n lt len px before = (length-set l i x ∙ len, filled A P l i x d (omega (arith, len)) px before)

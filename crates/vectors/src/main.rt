@@ -3,9 +3,6 @@
 // expected lines; docs/VECTORS.md says where each comes from.
 #![tactic(auto)]
 
-ghost use Rattle.std.specs.Prelude.{◌≤◌};
-
-use refusal::Answered;
 use sha1_block::compress_blocks;
 use sha256::Sha256;
 use std::io;
@@ -14,195 +11,185 @@ use std::io;
 fn line(rt: &impl Print, name: &str, bytes: &[u8]) -> io::Result<()> {
     print!(rt; "{name} ")?;
     for byte in bytes {
-        print!(rt; "{:02x}", wide(*byte))?;
+        print!(rt; "{byte:02x}")?;
     }
     println!(rt; "")
 }
 
-fn wide(x: u8) -> u64 {
-    x as u64
-}
-
-// Prints the digest of a message.
-fn hash(rt: &impl Print, name: &str, message: &[u8]) -> io::Result<()> {
-    let d = sha256::digest(message);
-    line(rt, name, &d)
-}
-
-// Prints the MAC of a message under a key.
-fn mac(rt: &impl Print, name: &str, key: &[u8], message: &[u8]) -> io::Result<()> {
-    let m = hmac::mac(key, message);
-    line(rt, name, &m)
-}
-
-// Prints the first half of the MAC of a message under a key.
-fn truncated(rt: &impl Print, name: &str, key: &[u8], message: &[u8]) -> io::Result<()> {
-    let m = hmac::mac(key, message);
-    line(rt, name, &m[..16])
-}
-
-// The digest of one million times 'a', absorbed a thousand at a time.
+// The SHA-256 digest of one million times 'a', absorbed a thousand at a time.
 fn million(rt: &impl Print) -> io::Result<()> {
-    let part = [97u8; 1000];
+    let part = [b'a'; 1000];
     let mut state = Sha256::new();
-    for _ in 0..1000usize {
-        let next = state.absorb(&part);
-        state = next;
+    for _ in 0..1000 {
+        state.absorb(&part);
     }
-    let d = state.finish();
-    line(rt, "SHA-256 one million a", &d)
+    line(rt, "SHA-256 one million a", &state.finish())
 }
 
 // NIST's examples for FIPS 180-4.
 fn nist(rt: &impl Print) -> io::Result<()> {
-    hash(rt, "SHA-256 abc", b"abc")?;
-    hash(
+    line(rt, "SHA-256 abc", &sha256::digest(b"abc"))?;
+    line(
         rt,
         "SHA-256 448 bits",
-        b"abcdbcdecdefdefgefghfghighijhijkijkljklmklmnlmnomnopnopq",
+        &sha256::digest(b"abcdbcdecdefdefgefghfghighijhijkijkljklmklmnlmnomnopnopq"),
     )?;
-    hash(
+    line(
         rt,
         "SHA-256 896 bits",
-        b"abcdefghbcdefghicdefghijdefghijkefghijklfghijklmghijklmnhijklmnoijklmnopjklmnopqklmnopqrlmnopqrsmnopqrstnopqrstu",
+        &sha256::digest(
+            b"abcdefghbcdefghicdefghijdefghijkefghijklfghijklmghijklmnhijklmnoijklmnopjklmnopqklmnopqrlmnopqrsmnopqrstnopqrstu",
+        ),
     )?;
     million(rt)?;
-    hash(rt, "SHA-256 bd", &[0xbd])?;
-    hash(rt, "SHA-256 c98c8e55", &[0xc9, 0x8c, 0x8e, 0x55])
+    line(rt, "SHA-256 bd", &sha256::digest(&[0xbd]))?;
+    line(
+        rt,
+        "SHA-256 c98c8e55",
+        &sha256::digest(&[0xc9, 0x8c, 0x8e, 0x55]),
+    )
 }
 
 // Messages of zeros at the edges of the padding. NIST publishes all of these but 63, 119 and 120 zeros.
 fn edges(rt: &impl Print) -> io::Result<()> {
     let zeros = [0u8; 1000];
-    hash(rt, "SHA-256 empty", b"")?;
-    hash(rt, "SHA-256 55 zeros", &zeros[..55])?;
-    hash(rt, "SHA-256 56 zeros", &zeros[..56])?;
-    hash(rt, "SHA-256 57 zeros", &zeros[..57])?;
-    hash(rt, "SHA-256 63 zeros", &zeros[..63])?;
-    hash(rt, "SHA-256 64 zeros", &zeros[..64])?;
-    hash(rt, "SHA-256 119 zeros", &zeros[..119])?;
-    hash(rt, "SHA-256 120 zeros", &zeros[..120])?;
-    hash(rt, "SHA-256 1000 zeros", &zeros)
-}
-
-// Prints the SHA-1 digest of a message.
-fn hash_1(rt: &impl Print, name: &str, message: &[u8]) -> io::Result<()> {
-    let d = sha1_hash::digest(message);
-    line(rt, name, &d)
+    line(rt, "SHA-256 empty", &sha256::digest(b""))?;
+    line(rt, "SHA-256 55 zeros", &sha256::digest(&zeros[..55]))?;
+    line(rt, "SHA-256 56 zeros", &sha256::digest(&zeros[..56]))?;
+    line(rt, "SHA-256 57 zeros", &sha256::digest(&zeros[..57]))?;
+    line(rt, "SHA-256 63 zeros", &sha256::digest(&zeros[..63]))?;
+    line(rt, "SHA-256 64 zeros", &sha256::digest(&zeros[..64]))?;
+    line(rt, "SHA-256 119 zeros", &sha256::digest(&zeros[..119]))?;
+    line(rt, "SHA-256 120 zeros", &sha256::digest(&zeros[..120]))?;
+    line(rt, "SHA-256 1000 zeros", &sha256::digest(&zeros))
 }
 
 // Prints the words of a hash value, which one after another are the digest.
 fn words(rt: &impl Print, name: &str, h: [u32; 5]) -> io::Result<()> {
     print!(rt; "{name} ")?;
     for word in &h {
-        print!(rt; "{:08x}", wide_word(*word))?;
+        print!(rt; "{word:08x}")?;
     }
     println!(rt; "")
 }
 
-fn wide_word(x: u32) -> u64 {
-    x as u64
-}
-
 // The SHA-1 digest of one million times 'a': 15,625 blocks, and a block with the padding, which counts 8,000,000 bits.
 fn million_1(rt: &impl Print) -> io::Result<()> {
-    let block = [97u8; 64];
+    let block = [b'a'; 64];
     let mut h = sha1_hash::value_after(&block);
-    for _ in 0..15624usize {
-        let next = compress_blocks(h, &block);
-        h = next;
+    for _ in 0..15624 {
+        compress_blocks(&mut h, &block);
     }
-    let mut padding = [0u8; 64];
+    let mut padding = [0; 64];
     padding[0] = 0x80;
     padding[61] = 0x7a;
     padding[62] = 0x12;
-    words(rt, "SHA-1 one million a", compress_blocks(h, &padding))
+    compress_blocks(&mut h, &padding);
+    words(rt, "SHA-1 one million a", h)
 }
 
 // NIST's examples for FIPS 180-4, SHA-1; and messages of zeros at the edges of the padding, which are not published.
 fn sha_1(rt: &impl Print) -> io::Result<()> {
-    hash_1(rt, "SHA-1 abc", b"abc")?;
-    hash_1(
+    line(rt, "SHA-1 abc", &sha1_hash::digest(b"abc"))?;
+    line(
         rt,
         "SHA-1 448 bits",
-        b"abcdbcdecdefdefgefghfghighijhijkijkljklmklmnlmnomnopnopq",
+        &sha1_hash::digest(b"abcdbcdecdefdefgefghfghighijhijkijkljklmklmnlmnomnopnopq"),
     )?;
     million_1(rt)?;
     let zeros = [0u8; 120];
-    hash_1(rt, "SHA-1 empty", b"")?;
-    hash_1(rt, "SHA-1 55 zeros", &zeros[..55])?;
-    hash_1(rt, "SHA-1 56 zeros", &zeros[..56])?;
-    hash_1(rt, "SHA-1 63 zeros", &zeros[..63])?;
-    hash_1(rt, "SHA-1 64 zeros", &zeros[..64])?;
-    hash_1(rt, "SHA-1 119 zeros", &zeros[..119])?;
-    hash_1(rt, "SHA-1 120 zeros", &zeros)
+    line(rt, "SHA-1 empty", &sha1_hash::digest(b""))?;
+    line(rt, "SHA-1 55 zeros", &sha1_hash::digest(&zeros[..55]))?;
+    line(rt, "SHA-1 56 zeros", &sha1_hash::digest(&zeros[..56]))?;
+    line(rt, "SHA-1 63 zeros", &sha1_hash::digest(&zeros[..63]))?;
+    line(rt, "SHA-1 64 zeros", &sha1_hash::digest(&zeros[..64]))?;
+    line(rt, "SHA-1 119 zeros", &sha1_hash::digest(&zeros[..119]))?;
+    line(rt, "SHA-1 120 zeros", &sha1_hash::digest(&zeros))
 }
 
 // RFC 4231, section 4.
 fn rfc_4231(rt: &impl Print) -> io::Result<()> {
-    mac(rt, "RFC 4231 case 1", &[0x0b; 20], b"Hi There")?;
-    mac(
+    line(rt, "RFC 4231 case 1", &hmac::mac(&[0x0b; 20], b"Hi There"))?;
+    line(
         rt,
         "RFC 4231 case 2",
-        b"Jefe",
-        b"what do ya want for nothing?",
+        &hmac::mac(b"Jefe", b"what do ya want for nothing?"),
     )?;
-    mac(rt, "RFC 4231 case 3", &[0xaa; 20], &[0xdd; 50])?;
+    line(rt, "RFC 4231 case 3", &hmac::mac(&[0xaa; 20], &[0xdd; 50]))?;
     let count = [
         1, 2, 3, 4, 5, 6, 7, 8, 9, 10, 11, 12, 13, 14, 15, 16, 17, 18, 19, 20, 21, 22, 23, 24, 25,
     ];
-    mac(rt, "RFC 4231 case 4", &count, &[0xcd; 50])?;
-    truncated(rt, "RFC 4231 case 5", &[0x0c; 20], b"Test With Truncation")?;
+    line(rt, "RFC 4231 case 4", &hmac::mac(&count, &[0xcd; 50]))?;
+    line(
+        rt,
+        "RFC 4231 case 5",
+        &hmac::mac(&[0x0c; 20], b"Test With Truncation")[..16],
+    )?;
     let long = [0xaa; 131];
-    mac(
+    line(
         rt,
         "RFC 4231 case 6",
-        &long,
-        b"Test Using Larger Than Block-Size Key - Hash Key First",
+        &hmac::mac(
+            &long,
+            b"Test Using Larger Than Block-Size Key - Hash Key First",
+        ),
     )?;
-    mac(
+    line(
         rt,
         "RFC 4231 case 7",
-        &long,
-        b"This is a test using a larger than block-size key and a larger than block-size data. The key needs to be hashed before being used by the HMAC algorithm.",
+        &hmac::mac(
+            &long,
+            b"This is a test using a larger than block-size key and a larger than block-size data. The key needs to be hashed before being used by the HMAC algorithm.",
+        ),
     )
-}
-
-// Prints the HMAC-SHA-1 of a message under a key.
-fn mac_1(rt: &impl Print, name: &str, key: &[u8], message: &[u8]) -> io::Result<()> {
-    let m = hmac_sha1::mac(key, message);
-    line(rt, name, &m)
 }
 
 // RFC 2202, section 3.
 fn rfc_2202(rt: &impl Print) -> io::Result<()> {
-    mac_1(rt, "RFC 2202 case 1", &[0x0b; 20], b"Hi There")?;
-    mac_1(
+    line(
+        rt,
+        "RFC 2202 case 1",
+        &hmac_sha1::mac(&[0x0b; 20], b"Hi There"),
+    )?;
+    line(
         rt,
         "RFC 2202 case 2",
-        b"Jefe",
-        b"what do ya want for nothing?",
+        &hmac_sha1::mac(b"Jefe", b"what do ya want for nothing?"),
     )?;
-    mac_1(rt, "RFC 2202 case 3", &[0xaa; 20], &[0xdd; 50])?;
-    mac_1(
+    line(
+        rt,
+        "RFC 2202 case 3",
+        &hmac_sha1::mac(&[0xaa; 20], &[0xdd; 50]),
+    )?;
+    line(
         rt,
         "RFC 2202 case 4",
-        b"\x01\x02\x03\x04\x05\x06\x07\x08\x09\x0a\x0b\x0c\x0d\x0e\x0f\x10\x11\x12\x13\x14\x15\x16\x17\x18\x19",
-        &[0xcd; 50],
+        &hmac_sha1::mac(
+            b"\x01\x02\x03\x04\x05\x06\x07\x08\x09\x0a\x0b\x0c\x0d\x0e\x0f\x10\x11\x12\x13\x14\x15\x16\x17\x18\x19",
+            &[0xcd; 50],
+        ),
     )?;
-    mac_1(rt, "RFC 2202 case 5", &[0x0c; 20], b"Test With Truncation")?;
+    line(
+        rt,
+        "RFC 2202 case 5",
+        &hmac_sha1::mac(&[0x0c; 20], b"Test With Truncation"),
+    )?;
     let long = [0xaa; 80];
-    mac_1(
+    line(
         rt,
         "RFC 2202 case 6",
-        &long,
-        b"Test Using Larger Than Block-Size Key - Hash Key First",
+        &hmac_sha1::mac(
+            &long,
+            b"Test Using Larger Than Block-Size Key - Hash Key First",
+        ),
     )?;
-    mac_1(
+    line(
         rt,
         "RFC 2202 case 7",
-        &long,
-        b"Test Using Larger Than Block-Size Key and Larger Than One Block-Size Data",
+        &hmac_sha1::mac(
+            &long,
+            b"Test Using Larger Than Block-Size Key and Larger Than One Block-Size Data",
+        ),
     )
 }
 
@@ -216,23 +203,15 @@ fn columns(b: [u8; 16]) -> [[u8; 4]; 4] {
     ]
 }
 
-// A state as the sixteen bytes of a block.
-fn bytes(s: [[u8; 4]; 4]) -> [u8; 16] {
-    [
-        s[0][0], s[0][1], s[0][2], s[0][3], s[1][0], s[1][1], s[1][2], s[1][3], s[2][0], s[2][1],
-        s[2][2], s[2][3], s[3][0], s[3][1], s[3][2], s[3][3],
-    ]
-}
-
 // Encrypts a block, and decrypts the result.
 fn cipher(rt: &impl Print, name: &str, key: [u8; 16], block: [u8; 16]) -> io::Result<()> {
     let mut schedule = [[[0u8; 4]; 4]; 11];
     aes128::expand_key(columns(key), &mut schedule);
     let hidden = aes128::encrypt(&schedule, columns(block));
-    line(rt, name, &bytes(hidden))?;
+    line(rt, name, hidden.as_flattened())?;
     aes128::invert_keys(&mut schedule);
     let shown = aes128::decrypt(&schedule, hidden);
-    line(rt, name, &bytes(shown))
+    line(rt, name, shown.as_flattened())
 }
 
 // FIPS 197: the cipher examples of appendix B and appendix C.1.
@@ -263,31 +242,23 @@ fn fips_197(rt: &impl Print) -> io::Result<()> {
 // Wraps a key under the KEK of RFC 3394, section 4.1, and unwraps the result.
 fn wrap(rt: &impl Print, name: &str, key: &[u8]) -> io::Result<()> {
     let kek = [0, 1, 2, 3, 4, 5, 6, 7, 8, 9, 10, 11, 12, 13, 14, 15];
-    let mut wrapped = [0u8; 200];
-    let Answered::Accepted(n) = keywrap_aes::wrap(kek, key, &mut wrapped) else {
+    let mut out = [0; 200];
+    let Ok(n) = keywrap_aes::wrap(kek, key, &mut out) else {
         return Ok(());
     };
-    let m = within(n, 200);
-    line(rt, name, &wrapped[..m])?;
-    let mut back = [0u8; 200];
-    let Answered::Accepted(k) = keywrap_aes::unwrap(kek, &wrapped[..m], &mut back) else {
+    let wrapped = &out[..n.min(200)];
+    line(rt, name, wrapped)?;
+    let mut back = [0; 200];
+    let Ok(n) = keywrap_aes::unwrap(kek, wrapped, &mut back) else {
         return Ok(());
     };
-    let j = within(k, 200);
-    line(rt, name, &back[..j])
-}
-
-// The lesser of two numbers.
-fn within(n: usize, most: usize) -> usize
-    ensures { result ≤ most }
-{
-    if n <= most { n } else { most }
+    line(rt, name, &back[..n.min(200)])
 }
 
 // 192 bytes, of which byte i is 7 i + 3 modulo 256.
 fn counted() -> [u8; 192] {
-    let mut r = [0u8; 192];
-    for i in 0..192usize {
+    let mut r = [0; 192];
+    for i in 0..192 {
         r[i] = ((7 * i + 3) % 256) as u8;
     }
     r

@@ -1,9 +1,9 @@
 -- Sums, masks and turns of words are those of their bytes, one by one.
 use mathlib.Core.Path.{◌≡◌, ap, ap₂, ◌∙◌, subst}
 use mathlib.Core.List.{List, [], ◌∷◌}
-use Prim.Native.Nat.{ℕ, ◌+◌, ◌*◌, ◌/◌, ◌%◌, ◌<◌}
+use Prim.Native.Nat.{ℕ, ◌+◌, ◌*◌, ◌/◌, ◌%◌, ◌^◌, ◌<◌}
 use native.Mathlib.Omega.{arith}
-use lib.Bits.{bit_and, bit_xor, and_block, xor_block, xor_mod, xor_shr}
+use lib.Bits.{bit_and, bit_or, bit_xor, and_block, or_block, xor_block, xor_mod, xor_shr, or_zero_l, or_zero_r}
 use Rattle.fips197.specs.State.{Column, column, bytes, add_column}
 use Rattle.fips197.proofs.Four.{four}
 use Rattle.aes128.specs.Internal.{word_of, column_of, turned}
@@ -40,6 +40,16 @@ column_xor x y =
 
 pub added_columns : (x y : ℕ) (u v : List ℕ) → column_of x ≡ u → column_of y ≡ v → column_of (bit_xor x y) ≡ add_column u v
 added_columns x y u v p q = column_xor x y ∙ ap₂ add_column p q
+
+-- ---- a word rotated by a byte
+
+pub turned_by : (x : ℕ) → x < 2 ^ 32 → bit_or (x / 2 ^ 8) (x * 2 ^ 24 % 2 ^ 32) ≡ turned x
+turned_by x h =
+    let p : x / 2 ^ 8 ≡ 0 * 2 ^ 24 + x / 2 ^ 8 = omega arith in
+    let q : x * 2 ^ 24 % 2 ^ 32 ≡ x % 256 * 2 ^ 24 + 0 = omega arith in
+    let z : bit_or 0 (x % 256) * 2 ^ 24 + bit_or (x / 2 ^ 8) 0 ≡ turned x
+    = ap₂ (λ (a b : ℕ). a * 2 ^ 24 + b) (or_zero_l (x % 256)) (or_zero_r (x / 2 ^ 8)) ∙ omega arith in
+    ap₂ bit_or p q ∙ or_block 24 0 (x % 256) (x / 2 ^ 8) 0 (omega arith) (omega arith) ∙ z
 
 -- ---- the bytes of a word
 

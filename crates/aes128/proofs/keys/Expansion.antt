@@ -1,46 +1,20 @@
 -- The key expansion, step by step. Each lemma is over plain lists and numbers, and its premises are what the callees ensure.
-use mathlib.Core.Path.{◌≡◌, refl, sym, ap, ap₂, ◌∙◌}
+use mathlib.Core.Path.{◌≡◌, sym, ap, ap₂, ◌∙◌}
 use mathlib.Core.List.{List, [], ◌∷◌}
 use Prim.Native.Nat.{ℕ, zero, suc, ◌+◌, ◌-◌, ◌<◌}
 use native.Mathlib.Nat.{not-suc-le-zero}
-use native.Mathlib.Numerals.{add-one, sub-one}
+use native.Mathlib.Numerals.{sub-one}
 use native.Mathlib.Omega.{arith}
 use lib.Bits.{bit_xor}
 use lib.ListN.{length, get_or, set}
 use lib.Seq.{ext_get_or}
 use Rattle.aes_sbox.specs.Field.{xtime}
-use Rattle.aes_sbox.specs.Sbox.{sbox_of}
-use Rattle.aes_sbox.specs.Tables.{sbox}
-use Rattle.aes_sbox.proofs.Tables.{sbox_rule}
 use Rattle.fips197.specs.State.{State, inv_mix_columns, add_column}
 use Rattle.fips197.specs.Cipher.{kept_first}
 use Rattle.fips197.specs.KeyExpansion.{rcon, rot_word, sub_word, key_core, next_key, round_key, expand_key}
 use Rattle.fips197.proofs.Equivalent.{kept_step}
 use Rattle.fips197.proofs.Four.{four}
 use Rattle.fips197.proofs.Rounds.{expand_key_at}
-use Rattle.tables.proofs.Filled.{filled_of}
-
--- ---- SubWord: a turn of its loop, and its end
-
-abbrev pub Subbed : List ℕ → ℕ → List ℕ → Type 0
-Subbed w i r = (length r ≡ 4) × ((k : ℕ) → k < i → get_or r k 0 ≡ sbox_of (get_or w k 0))
-
-pub sub_turn : (w : List ℕ) (i : ℕ) (r : List ℕ) (x y : ℕ) → i < 4 → Subbed w i r → x ≡ get_or w i 0 → x < 256 → y ≡ get_or sbox x 0
-    → Subbed w (i + 1) (set r i y)
-sub_turn w i r x y h (len, before) ex lt ey =
-    filled_of (λ (k z : ℕ). z ≡ sbox_of (get_or w k 0)) r i y 0 4 h len (ey ∙ sbox_rule x lt ∙ ap sbox_of ex) before
-
-pub sub_end : (w : List ℕ) (i : ℕ) (r : List ℕ) → i ≡ 4 → Subbed w i r → r ≡ sub_word w
-sub_end w i r e (len, each) =
-    ext_get_or 0 r (sub_word w) len
-    (λ k h. let l : k < 4 = omega (arith, h, len) in each k (omega (arith, l, e)) ∙ at-four k l)
-  where
-    at-four : (k : ℕ) → k < 4 → sbox_of (get_or w k 0) ≡ get_or (sub_word w) k 0
-    at-four zero h = refl
-    at-four (suc zero) h = refl
-    at-four (suc (suc zero)) h = refl
-    at-four (suc (suc (suc zero))) h = refl
-    at-four (suc (suc (suc (suc k)))) h = absurd (omega arith)
 
 pub core_by : (w t : List ℕ) (c : ℕ) → t ≡ sub_word (rot_word w)
     → bit_xor (get_or t 0 0) c ∷ get_or t 1 0 ∷ get_or t 2 0 ∷ get_or t 3 0 ∷ [] ≡ key_core w c
@@ -65,14 +39,16 @@ pub at_zero : (P : ℕ → Type 0) → P 0 → (n : ℕ) → n < 1 → P n
 at_zero P p zero h = p
 at_zero P p (suc n) h = absurd (omega arith)
 
-module _ (k : State) (i : ℕ) where
-  pub next_step : (c : ℕ) (x u : State) → x ≡ round_key k i → c ≡ rcon i → u ≡ next_key x c → u ≡ round_key k (i + 1)
+module _ (k : State) where
+  pub next_step : (i c : ℕ) (x u : State) → 0 < i → x ≡ round_key k (i - 1) → c ≡ rcon (i - 1) → u ≡ next_key x c → u ≡ round_key k i
   unfolding round_key
-  next_step c x u p q e = e ∙ ap₂ next_key p q ∙ rw add-one
+  next_step zero c x u h p q e = absurd (omega arith)
+  next_step (suc i) c x u h p q e = e ∙ ap₂ next_key (rw sub-one at p) (rw sub-one at q)
 
-  pub constant_step : (c d : ℕ) → c ≡ rcon i → d ≡ xtime c → d ≡ rcon (i + 1)
-  unfolding rcon
-  constant_step c d p e = e ∙ ap xtime p ∙ rw add-one
+pub constant_step : (i c d : ℕ) → 0 < i → c ≡ rcon (i - 1) → d ≡ xtime c → d ≡ rcon (i + 1 - 1)
+unfolding rcon
+constant_step zero c d h p e = absurd (omega arith)
+constant_step (suc i) c d h p e = let q : suc i ≡ suc i + 1 - 1 = omega arith in e ∙ ap xtime (rw sub-one at p) ∙ ap rcon q
 
 pub expanded : (k : State) (ks : List State) → length ks ≡ 11 → ((n : ℕ) → n < 11 → get_or ks n [] ≡ round_key k n) → ks ≡ expand_key k
 unfolding expand_key

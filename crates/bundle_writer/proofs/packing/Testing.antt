@@ -1,40 +1,48 @@
 -- The writer's tests of packed attributes, in their order.
-use Prim.Native.Nat.{ℕ, ◌≤◌, ◌<◌}
-use mathlib.Core.Path.{◌≡◌, ap}
-use mathlib.Core.Bool.{true, false, and-false}
-use mathlib.Core.List.{List, map}
-use borrow.Author.Tests.{lt-leb}
-use lib.ListN.{length}
-use Rattle.refusal.proofs.Passing.{within_holds}
-use Rattle.refusal.specs.Checks.{Reason, Check, pass, refuse, bare, unless, ◌and_then◌, within}
-use Rattle.refusal.specs.Answers.{returned, refused, answer_to}
+use Prim.Native.Nat.{ℕ, ◌≤◌}
+use mathlib.Core.Path.{◌≡◌, refl, ap}
+use mathlib.Core.Bool.{Bool, true, false, not}
+use mathlib.Core.List.{List, [], ◌∷◌, map, flatten}
+use native.Mathlib.Omega.{arith}
+use lib.ListN.{length, length-append}
+use Rattle.refusal.specs.Checks.{Reason, pass, refuse, bare, unless, within}
+use Rattle.refusal.specs.Answers.{Answer, returned, refused, answer_to}
 use Rattle.bundle_rules.specs.Bundle.{key_id_in, id_repeats, packed, frames_check, packed_check}
+use Rattle.bundle_rules.proofs.Packing.{sized, first_frame, later_frames, all_packed}
 
--- what tests come to, as an answer with a count
-pub told : {c : Check} {m n : ℕ} → pass ≡ c → n ≡ m → returned n ≡ answer_to c m
-told p q = λ i. answer_to (p i) (q i)
+-- each attribute that passes has a byte at least
+fewer : (bodies : List (List ℕ)) → frames_check bodies ≡ pass → length bodies ≤ length (flatten bodies)
+unfolding flatten
+fewer [] c = omega arith
+fewer (b ∷ bodies) c =
+    let s = sized b (first_frame b bodies c) in
+    let m = fewer bodies (later_frames b bodies c) in
+    omega (arith, length-append b (flatten bodies), s.low)
 
-pub refused-count : {c : Check} (m : ℕ) {x : Reason} → refuse x ≡ c → refused x ≡ answer_to c m
-refused-count m e = ap (λ (c : Check). answer_to c m) e
+pub fewer_than_bytes : (bytes : List ℕ) → frames_check (packed bytes) ≡ pass → length (packed bytes) ≤ length bytes
+fewer_than_bytes bytes c = omega (arith, fewer (packed bytes) c, ap length (all_packed bytes))
 
-pub packed_frames : (a : List ℕ) {x : Reason} → frames_check (packed a) ≡ refuse x → refuse x ≡ packed_check a
-unfolding packed_check ◌and_then◌
-packed_frames a e = rw e
+-- a test that refuses does not hold, and its refusal is its own
+pub stopped : (t : Bool) (x : Reason) {y : Reason} {out : Answer} → refuse y ≡ unless t x → out ≡ refused y → (t ≡ false) × (out ≡ refused x)
+unfolding unless
+stopped true x e o = (cc, cc)
+stopped false x e o = (cc, cc)
 
-module _ (a : List ℕ) (n : ℕ) (c : frames_check (packed a) ≡ pass) (q : n ≡ length (packed a)) where
-  pub packed-none_lent : n < 1 → refuse (bare 39) ≡ packed_check a
-  unfolding packed_check unless ◌and_then◌ within
-  packed-none_lent h = rw (c, ← q, lt-leb 1 n h)
+module _ (a : List ℕ) where
+  pub packed_frames : {x : Reason} → frames_check (packed a) ≡ refuse x → refused x ≡ answer_to (packed_check a) (length (packed a))
+  unfolding packed_check
+  packed_frames e = rw e refl
 
-  pub packed_many : 64 < n → refuse (bare 39) ≡ packed_check a
-  unfolding packed_check unless ◌and_then◌ within
-  packed_many h = rw (c, ← q, lt-leb n 64 h, and-false)
+  module _ (c : frames_check (packed a) ≡ pass) {n : ℕ} (q : n ≡ length (packed a)) where
+    pub packed-miscounted : within 1 64 n ≡ false → refused (bare 39) ≡ answer_to (packed_check a) (length (packed a))
+    unfolding packed_check unless
+    packed-miscounted t = rw (c, ← q, t) refl
 
-  module _ (low : 1 ≤ n) (high : n ≤ 64) where
-    pub packed-twice : id_repeats (map key_id_in (packed a)) ≡ true → refuse (bare 42) ≡ packed_check a
-    unfolding packed_check unless ◌and_then◌
-    packed-twice t = rw (c, ← q, within_holds 1 64 n low high, t)
+    module _ (range : within 1 64 n ≡ true) {r : Bool} (twice : r ≡ id_repeats (map key_id_in (packed a))) where
+      pub packed-twice : not r ≡ false → refused (bare 42) ≡ answer_to (packed_check a) (length (packed a))
+      unfolding packed_check unless
+      packed-twice t = rw (c, ← q, range, ← twice, t) refl
 
-    pub packed-passes : id_repeats (map key_id_in (packed a)) ≡ false → pass ≡ packed_check a
-    unfolding packed_check unless ◌and_then◌
-    packed-passes t = rw (c, ← q, within_holds 1 64 n low high, t)
+      pub packed-passes : not r ≡ true → returned n ≡ answer_to (packed_check a) (length (packed a))
+      unfolding packed_check unless
+      packed-passes t = rw (c, ← q, range, ← twice, t) refl

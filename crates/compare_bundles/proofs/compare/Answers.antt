@@ -25,17 +25,17 @@ within_room first second room n e =
     omega (arith, told.1, leb-true (entries_length first second) room fits)
 
 pub overflow_add-entries : goal.overflow_add-entries
-overflow_add-entries g c = omega (arith, within_room _ _ _ _ c.in-Listed.ensures.answer)
+overflow_add-entries g c = omega (arith, within_room _ _ _ _ c.in-Ok.ensures.answer)
 
-pub overflow_add-entries-in-Listed : goal.overflow_add-entries-in-Listed
-overflow_add-entries-in-Listed g c = omega (arith, within_room _ _ _ _ c.in-Listed.ensures.answer)
+pub overflow_add-entries-in-Ok : goal.overflow_add-entries-in-Ok
+overflow_add-entries-in-Ok g c = omega (arith, within_room _ _ _ _ c.in-Ok.ensures.answer)
 
 pub slice_bounds-out-end : goal.slice_bounds-out-end
 slice_bounds-out-end g c =
     let kept = c.compare_bundles.auto.out in
-    omega (arith, within_room _ _ _ _ c.in-Listed.ensures.answer)
+    omega (arith, within_room _ _ _ _ c.in-Ok.ensures.answer)
 
 pub slice_bounds-write_entries-end : goal.slice_bounds-write_entries-end
 slice_bounds-write_entries-end g c =
     let kept = c.compare_bundles.auto.out in
-    sym (length-take-le _ _ (omega (arith, within_room _ _ _ _ c.in-Listed.ensures.answer)))
+    sym (length-take-le _ _ (omega (arith, within_room _ _ _ _ c.in-Ok.ensures.answer)))

@@ -1,18 +1,16 @@
--- `hmac_block::masked` meets its contract: after j turns, the first j bytes are those of the masked block (`mask_turn` of rfc2104).
-use Rattle.std.proofs.Common.{◌≡◌, ℕ, ◌++◌, length, take, drop, ap, ◌∙◌, arith, rules}
-use Rattle.rfc2104.specs.Rfc2104 as rfc
-use Rattle.rfc2104.proofs.Blocks.{mask_turn, masked_all}
+-- `hmac_block::masked` meets its contract: after j turns, the first j words are those of the masked block (proofs/Masking.antt).
+use Rattle.std.proofs.Common.{◌≡◌, length, arith, rules}
+use Rattle.hmac_block.proofs.Masking.{word_turn, all_turns}
 use Rattle.hmac_block.proofs.masked.Goals as goal
 
 pub loop-j-preserved : goal.loop-j-preserved
 loop-j-preserved c =
-    let a = c.args in
-    let k : length a.block ≡ 64 = search rules in
-    mask_turn a.block a.pad c.loop-j.j c.loop-j.invariant (omega arith)
+    let l = c.loop-j in
+    let k : length c.args.block ≡ 64 = search rules in
+    word_turn c.args.block c.args.pad k l.j (omega arith) l.invariant c.mask_word.ensures
 
 pub returns : goal.returns
 returns c =
-    let a = c.args in
-    let k : length a.block ≡ 64 = search rules in
-    let e : c.loop-j.j ≡ 64 = omega arith in
-    c.loop-j.invariant ∙ ap (λ (n : ℕ). take n (rfc.masked a.block a.pad) ++ drop n a.block) e ∙ masked_all a.block a.pad k
+    let e : c.loop-j.j ≡ 16 = omega arith in
+    let k : length c.args.block ≡ 64 = search rules in
+    all_turns _ _ k e c.loop-j.invariant

@@ -1,8 +1,7 @@
--- `hmac_sha1::mac` meets its contract: the MAC by the key's two hash values is RFC 2104's.
-use Rattle.hmac_sha1.proofs.Laws.{mac_by_values_lem}
+use Rattle.fips180.specs.Sha1.{sha1}
+use Rattle.hmac_sha1.specs.Rfc2104.{hmac_sha1}
 use Rattle.hmac_sha1.proofs.mac.Goals as goal
 
 pub returns : goal.returns
-returns c =
-    let a = c.args in
-    mac_by_values_lem a.key.now a.message.now c.new.ensures.inner c.new.ensures.outer c.mac_of.ensures
+unfolding hmac_sha1 sha1
+returns c = c.mac.ensures

@@ -16,7 +16,7 @@ returns c =
     record {
       attribute_type = get_or a 0 0;
       app_id = c.number_at.ensures i;
-      kek_id = id_at a 8 long₁ c.sixteen-kek_id.ensures i;
-      key_id = id_at a 24 long₂ c.sixteen-key_id.ensures i;
+      kek_id = id_at a 8 long₁ c.first.ensures i;
+      key_id = id_at a 24 long₂ c.first-2.ensures i;
       lifetime = c.number_at-2.ensures i;
     }

@@ -1,43 +1,30 @@
--- `key_reader::read` meets its contract: by what the tests before the unwrapping came to; where they pass, what the unwrapping tests is what is left of the
--- order, so that its answer is the reader's.
-use mathlib.Core.Path.{sym}
-use native.Mathlib.Omega.{arith}
-use Rattle.refusal.proofs.Passing.{joined}
-use Rattle.key_reader.proofs.Reading.{ready, refused_early, refused_late, read_so}
+-- `key_reader::read` meets its contract: where the tests before the unwrapping pass, what the unwrapping tests is what is left of the order, so that its
+-- answer is the reader's.
+use mathlib.Core.Path.{sym, ap, ◌∙◌}
+use borrow.Author.Rules.{rules}
+use Rattle.key_frame.specs.declared.KeyFields.{KeyFields}
+use Rattle.key_reader.specs.KeyReader.{accepted}
+use Rattle.key_reader.proofs.Reading.{left, read_so, refused_late}
 use Rattle.key_reader.proofs.read.Goals as goal
 
-pub slice_bounds-unwrap-count : goal.slice_bounds-unwrap-count
-slice_bounds-unwrap-count c =
-    let r = ready _ _ (sym (joined c.in-Passed.ensures c.unless-c22.ensures c.check_frame.ensures)) in
-    omega (arith, r.long)
-
-pub slice_bounds-unwrap-start : goal.slice_bounds-unwrap-start
-slice_bounds-unwrap-start c =
-    let r = ready _ _ (sym (joined c.in-Passed.ensures c.unless-c22.ensures c.check_frame.ensures)) in
-    omega (arith, r.long)
-
-pub fields-requires : goal.fields-requires
-fields-requires c =
-    let r = ready _ _ (sym (joined c.in-Passed.ensures c.unless-c22.ensures c.check_frame.ensures)) in
-    omega (arith, r.long)
-
-pub returns-in-Failed : goal.returns-in-Failed
-returns-in-Failed c =
+pub returns-in_err-key_len-clause-answer : goal.returns-in_err-key_len-clause-answer
+returns-in_err-key_len-clause-answer c =
     let x = c.args in
-    let tests = joined c.in-Failed.ensures c.unless-c22.ensures c.check_frame.ensures in
-    let h = refused_early x.kek.now x.attribute.now x.out.now _ (sym tests) c.not_read.ensures.0 c.not_read.ensures.1 in
-    record { answer = h.0; fields = h.1.0; buffer = h.1.1 }
+    let h = refused_late x.kek.now x.attribute.now x.out.now _ (sym c.in_ok-check_framed.ensures.tests) c.first.ensures _ c.in_err-key_len.ensures.answer in
+    search rules
 
-pub returns-in-Refused : goal.returns-in-Refused
-returns-in-Refused c =
+pub returns-in_err-key_len-clause-buffer : goal.returns-in_err-key_len-clause-buffer
+returns-in_err-key_len-clause-buffer c =
     let x = c.args in
-    let r = ready _ _ (sym (joined c.in-Passed.ensures c.unless-c22.ensures c.check_frame.ensures)) in
-    let h = refused_late x.kek.now x.attribute.now x.out.now _ r c.sixteen.ensures c.unwrap-answer.ensures.answer c.unwrap-answer.ensures.buffer c.in-Refused.is c.not_read-in-Refused.ensures.0 c.not_read-in-Refused.ensures.1 in
-    record { answer = h.0; fields = h.1.0; buffer = h.1.1 }
+    left x.kek.now x.attribute.now x.out.now _ (sym c.in_ok-check_framed.ensures.tests) c.first.ensures c.unwrap.ensures.buffer
 
-pub returns-in-Accepted : goal.returns-in-Accepted
-returns-in-Accepted c =
+pub returns-clause-answer : goal.returns-clause-answer
+returns-clause-answer c =
     let x = c.args in
-    let r = ready _ _ (sym (joined c.in-Passed.ensures c.unless-c22.ensures c.check_frame.ensures)) in
-    let h = read_so x.kek.now x.attribute.now x.out.now _ r c.sixteen.ensures c.unwrap-answer.ensures.answer c.unwrap-answer.ensures.buffer c.in-Accepted.is c.fields.ensures in
-    record { answer = h.0; fields = h.1.0; buffer = h.1.1 }
+    ap (λ (f : KeyFields). accepted f c.in_ok-key_len.key_len) c.fields.ensures
+    ∙ read_so x.kek.now x.attribute.now x.out.now _ (sym c.in_ok-check_framed.ensures.tests) c.first.ensures _ c.in_ok-key_len.ensures.answer
+
+pub returns-clause-buffer : goal.returns-clause-buffer
+returns-clause-buffer c =
+    let x = c.args in
+    left x.kek.now x.attribute.now x.out.now _ (sym c.in_ok-check_framed.ensures.tests) c.first.ensures c.unwrap.ensures.buffer

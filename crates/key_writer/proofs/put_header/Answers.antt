@@ -5,13 +5,11 @@ use Rattle.key_writer.proofs.put_header.Goals as goal
 
 pub returns : goal.returns
 returns c =
-    let x = c.args in
-    header-parts _ _ _ _ x.kek_id x.key_id _ _ x.out.now _ _ _ _ _ _ (search rules) (search rules)
-    c.be32.ensures
-    c.be32-2.ensures
-    c.put_at.ensures
-    c.put_at-2.ensures
-    c.put_at-3.ensures
-    c.put_at-4.ensures
-    c.put_at-5.ensures
-    c.put_at-6.ensures
+    let f = c.args.fields in
+    header-parts f c.args.length_byte _ _ c.args.out.now _ _ _ _ _ _ (search rules) (search rules) c.be32.ensures c.be32-2.ensures
+    (c.copy_at.ensures.fits (search rules))
+    (c.copy_at-2.ensures.fits (search rules))
+    (c.copy_at-3.ensures.fits (search rules))
+    (c.copy_at-4.ensures.fits (search rules))
+    (c.copy_at-5.ensures.fits (search rules))
+    (c.copy_at-6.ensures.fits (search rules))

@@ -1,34 +1,16 @@
 -- What the code computes, step by step, is what the definitions say. Each lemma is over plain lists and numbers, and its premises are what the callees ensure.
 use mathlib.Core.Path.{◌≡◌, sym, ap, ap₂, ◌∙◌}
-use mathlib.Core.Bool.{false}
 use mathlib.Core.List.{List, ◌++◌, append_assoc}
 use Prim.Native.Nat.{ℕ, ◌+◌, ◌≤◌}
 use native.Mathlib.Omega.{arith}
-use borrow.Author.Tests.{leb-true}
 use borrow.Rule.Slice.PartMut.{mid_of, put_mid, same_len_mid}
 use lib.ListN.{length, take, drop, length-append, length-drop}
 use lib.Seq.{take-length, take_at, drop_at, drop-drop, length-take-le}
-use Rattle.refusal.specs.Checks.{Reason, Check, pass, refuse, ◌and_then◌, check6}
-use Rattle.refusal.proofs.Passing.{before-passed, last-passed, test_passed}
 use Rattle.slices.proofs.Copies.{copied_fits}
 use Rattle.rfc3394.specs.Rfc3394.{initial_value, wrap_registers, wrapped}
 use Rattle.keywrap_aes.specs.Internal.{passes_of}
-use Rattle.keywrap.specs.Calls.{check23, wrap_check}
-use Rattle.keywrap.proofs.Lengths.{passed-high, copied_whole}
-
--- ---- the tests
-
-pub wrap_refused : (n room : ℕ) (x : Reason) → refuse x ≡ check23 n → refuse x ≡ wrap_check n room
-unfolding wrap_check ◌and_then◌
-wrap_refused n room x e = ap (λ (k : Check). k and_then check6 (n + 8) room) e
-
-pub wrap_passed : (n room : ℕ) (r : Check) → pass ≡ check23 n → r ≡ check6 (n + 8) room → r ≡ wrap_check n room
-unfolding wrap_check ◌and_then◌
-wrap_passed n room r e h = h ∙ ap (λ (k : Check). k and_then check6 (n + 8) room) e
-
-pub wrap_bounds : (n room : ℕ) → wrap_check n room ≡ pass → (n ≤ 192) × (n + 8 ≤ room)
-unfolding wrap_check
-wrap_bounds n room e = (passed-high n (before-passed _ _ e), leb-true (n + 8) room (test_passed _ _ (last-passed _ _ e)))
+use Rattle.keywrap_aes.specs.declared.passes.Direction.TheVariants.{Forward}
+use Rattle.keywrap.proofs.Lengths.{copied_whole}
 
 -- ---- the key wrapped in its place
 
@@ -51,8 +33,8 @@ module _ (kek key out : List ℕ) (k : ℕ) (z : List ℕ) (room : length key + 
   key-there = ap (take k) placed ∙ take_at z (drop k (drop 8 out)) k z-length ∙ ez
 
   pub wrapped_in_place : (a r f : List ℕ) → length a ≡ 8
-      → a ≡ (passes_of false kek (initial_value, mid_of 8 k (put_mid 8 k out z))).0
-      → r ≡ (passes_of false kek (initial_value, mid_of 8 k (put_mid 8 k out z))).1
+      → a ≡ (passes_of Forward kek (initial_value, mid_of 8 k (put_mid 8 k out z))).0
+      → r ≡ (passes_of Forward kek (initial_value, mid_of 8 k (put_mid 8 k out z))).1
       → f ≡ take (length (put_mid 8 k (put_mid 8 k out z) r)) a ++ drop (length a) (put_mid 8 k (put_mid 8 k out z) r)
       → f ≡ wrapped kek key ++ drop (length key + 8) out
   unfolding wrapped wrap_registers
@@ -70,5 +52,5 @@ module _ (kek key out : List ℕ) (k : ℕ) (z : List ℕ) (room : length key + 
       ∙ sym (append_assoc a r (drop (length key + 8) out))
       ∙ ap (λ (x : List ℕ). x ++ drop (length key + 8) out)
       (ap₂ (λ (x y : List ℕ). x ++ y)
-      (ea ∙ ap (λ (l : List ℕ). (passes_of false kek (initial_value, l)).0) key-there)
-      (er ∙ ap (λ (l : List ℕ). (passes_of false kek (initial_value, l)).1) key-there))
+      (ea ∙ ap (λ (l : List ℕ). (passes_of Forward kek (initial_value, l)).0) key-there)
+      (er ∙ ap (λ (l : List ℕ). (passes_of Forward kek (initial_value, l)).1) key-there))

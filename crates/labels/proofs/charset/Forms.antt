@@ -1,55 +1,53 @@
--- Laws of a text's form: a scan is clean exactly when every byte passes, and what code that tests the length before it scans finds.
-use Prim.Native.Nat.{ℕ, suc, ◌≤◌}
-use mathlib.Core.Path.{◌≡◌, refl}
-use mathlib.Core.Bool.{Bool, true, false, cond, ◌&&◌}
+-- Where the first bad byte of a text stands, and that there is none exactly when every byte passes.
+use Prim.Native.Nat.{ℕ, suc, ◌+◌, ◌<◌}
+use mathlib.Core.Path.{◌≡◌, refl, ◌∙◌}
+use mathlib.Core.Bool.{Bool, true, false, cond, not, ◌&&◌}
 use mathlib.Core.List.{List, [], ◌∷◌}
-use lib.ListN.{length}
-use Rattle.refusal.specs.Checks.{within}
-use Rattle.refusal.proofs.Passing.{within-high, within_low}
-use Rattle.labels.specs.Bytes.{every, scan_from, first_bad}
-use Rattle.labels.specs.declared.charset.Scan.{Scan}
-use Rattle.labels.specs.declared.charset.Scan.TheVariants.{BadAt}
-use Rattle.labels.specs.Internal.{scan_form, form_of, is_well_formed}
-use Rattle.labels.specs.declared.charset.Form.TheVariants.{WellFormed, WrongLength}
+use mathlib.Core.Logic.{◌↔◌}
+use native.Mathlib.Omega.{arith}
+use borrow.Author.Tests.{ltb-true, ltb-false, lt-ltb, le-ltb}
+use lib.Dec.{ltb}
+use lib.ListN.{length, get_or}
+use Rattle.std.specs.Prelude.{Option, None, Some, is_none}
+use Rattle.std.proofs.lemmas.List.Quantifiers.{position-Some}
+use Rattle.std.specs.List.{prefix_len}
+use Rattle.std.proofs.lemmas.List.Sums.{prefix_len_is}
+use Rattle.labels.specs.Bytes.{every, first_bad}
 
-pub scan-every : (p : ℕ → Bool) (i : ℕ) (s : List ℕ) → is_well_formed (scan_form (scan_from p i s)) ≡ every p s
-unfolding scan_from every
-scan-every p i [] = refl
-scan-every p i (x ∷ s) = go (p x) (scan-every p (suc i) s)
+-- the element at i is the first that fails the test
+abbrev pub First : (ℕ → Bool) → List ℕ → ℕ → Type 0
+First p s i = (i < length s) × (p (get_or s i 0) ≡ false) × ((j : ℕ) → j < i → p (get_or s j 0) ≡ true)
+
+fails : (b : Bool) → not b ≡ true → b ≡ false
+fails true e = cc
+fails false e = refl
+
+passes : (b : Bool) → not b ≡ false → b ≡ true
+passes true e = refl
+passes false e = cc
+
+pub first-place : (p : ℕ → Bool) (s : List ℕ) (i : ℕ) → (first_bad p s ≡ Some i) ↔ First p s i
+first-place p s i = (
+  λ e. let m = position-Some (λ b. not (p b)) s i 0 e in (m.0, fails _ m.1, λ j lt. passes _ (m.2 j lt)),
+  λ f.
+      let n : prefix_len (λ b. not (not (p b))) s ≡ i = prefix_len_is (λ b. not (not (p b))) s i 0 (omega (arith, f.0)) (λ k lt. rw (f.2 k lt) refl) (λ _. rw f.1 refl) in
+      rw (n, lt-ltb i (length s) f.0),
+)
+
+-- one more in front of the first bad byte, and of the text, does not change whether there is one
+none_next : (a b : ℕ) → is_none (cond {A = Option ℕ} (ltb (1 + a) (suc b)) (Some (1 + a)) None) ≡ is_none (cond {A = Option ℕ} (ltb a b) (Some a) None)
+none_next a b = go (ltb a b) refl
   where
-    go : (t : Bool) → is_well_formed (scan_form (scan_from p (suc i) s)) ≡ every p s → is_well_formed (scan_form (cond t (scan_from p (suc i) s) (BadAt i))) ≡ (t && every p s)
-    go true e = e
-    go false e = refl
+    go : (t : Bool) → ltb a b ≡ t → is_none (cond {A = Option ℕ} (ltb (1 + a) (suc b)) (Some (1 + a)) None) ≡ is_none (cond {A = Option ℕ} t (Some a) None)
+    go true e = rw (lt-ltb (1 + a) (suc b) (omega (arith, ltb-true a b e)))
+    go false e = rw (le-ltb (1 + a) (suc b) (omega (arith, ltb-false a b e)))
 
--- a text is well formed exactly when its length is in range and every byte passes
-pub well_formed : (p : ℕ → Bool) (longest : ℕ) (s : List ℕ) → is_well_formed (form_of p longest s) ≡ (within 1 longest (length s) && every p s)
-unfolding form_of
-well_formed p longest s = go (within 1 longest (length s)) (scan-every p 0 s)
+-- no byte is bad exactly when every byte passes
+pub none_bad : (p : ℕ → Bool) (s : List ℕ) → is_none (first_bad p s) ≡ every p s
+unfolding every
+none_bad p [] = refl
+none_bad p (x ∷ s) = go (p x) refl (none_bad p s)
   where
-    go : (t : Bool) → is_well_formed (scan_form (first_bad p s)) ≡ every p s → is_well_formed (cond t (scan_form (first_bad p s)) WrongLength) ≡ (t && every p s)
-    go true e = e
-    go false e = refl
-
--- a text's form, by its length, then by its scan
-pub wrong_length : (p : ℕ → Bool) (longest : ℕ) (s : List ℕ) → within 1 longest (length s) ≡ false → WrongLength ≡ form_of p longest s
-unfolding form_of
-wrong_length p longest s h = rw h
-
-pub scanned_form : (p : ℕ → Bool) (longest : ℕ) (s : List ℕ) {f : Scan} → within 1 longest (length s) ≡ true → f ≡ first_bad p s → scan_form f ≡ form_of p longest s
-unfolding form_of
-scanned_form p longest s h e = rw (h, e)
-
--- a well-formed text is of an admitted length: it has a byte, and no more than the longest
-right_length : (p : ℕ → Bool) (longest : ℕ) (s : List ℕ) → WellFormed ≡ form_of p longest s → within 1 longest (length s) ≡ true
-unfolding form_of
-right_length p longest s e = go (within 1 longest (length s)) (first_bad p s) e
-  where
-    go : (t : Bool) (f : Scan) → WellFormed ≡ cond t (scan_form f) WrongLength → t ≡ true
-    go true f e = refl
-    go false f e = cc
-
-pub form_low : (p : ℕ → Bool) (longest : ℕ) (s : List ℕ) → WellFormed ≡ form_of p longest s → 1 ≤ length s
-form_low p longest s e = within_low _ _ _ (right_length p longest s e)
-
-pub form_high : (p : ℕ → Bool) (longest : ℕ) (s : List ℕ) → WellFormed ≡ form_of p longest s → length s ≤ longest
-form_high p longest s e = within-high _ _ _ (right_length p longest s e)
+    go : (t : Bool) → p x ≡ t → is_none (first_bad p s) ≡ every p s → is_none (first_bad p (x ∷ s)) ≡ (t && every p s)
+    go true e n = rw e (none_next (prefix_len (λ b. not (not (p b))) s) (length s) ∙ n)
+    go false e n = rw (e, lt-ltb 0 (suc (length s)) (omega arith))

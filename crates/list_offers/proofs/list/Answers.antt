@@ -5,7 +5,7 @@ use Rattle.area.proofs.Using.{count-within}
 use Rattle.list_offers.proofs.list.Goals as goal
 
 pub slice_bounds-out-end : goal.slice_bounds-out-end
-slice_bounds-out-end g c = count-within _ _ _ _ _ c.in-Read.ensures.answer c.in-Read.ensures.buffer
+slice_bounds-out-end g c = count-within _ _ _ _ _ c.in-Ok.ensures.answer c.in-Ok.ensures.buffer
 
-pub slice_bounds-write_offers-end : goal.slice_bounds-write_offers-end
-slice_bounds-write_offers-end g c = sym (length-take-le _ _ (count-within _ _ _ _ _ c.in-Read.ensures.answer c.in-Read.ensures.buffer))
+pub slice_bounds-offer-items-end : goal.slice_bounds-offer-items-end
+slice_bounds-offer-items-end g c = sym (length-take-le _ _ (count-within _ _ _ _ _ c.in-Ok.ensures.answer c.in-Ok.ensures.buffer))

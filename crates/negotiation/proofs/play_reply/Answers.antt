@@ -7,12 +7,12 @@ use Rattle.negotiation.proofs.play_reply.Goals as goal
 
 pub slice_bounds-renewed-end : goal.slice_bounds-renewed-end
 slice_bounds-renewed-end g c =
-    let within = wrote_fits _ _ _ _ (sym c.in-Accepted.ensures.answer) in
+    let within = wrote_fits _ _ _ _ (sym c.in-Ok.ensures.answer) in
     let kept = c.answer.auto.out in
     omega arith
 
-pub slice_bounds-play_sent-end : goal.slice_bounds-play_sent-end
-slice_bounds-play_sent-end g c =
-    let within = wrote_fits _ _ _ _ (sym c.in-Accepted.ensures.answer) in
+pub slice_bounds-sent-end : goal.slice_bounds-sent-end
+slice_bounds-sent-end g c =
+    let within = wrote_fits _ _ _ _ (sym c.in-Ok.ensures.answer) in
     let kept = c.answer.auto.out in
     sym (length-take-le _ _ (omega arith))

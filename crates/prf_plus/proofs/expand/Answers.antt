@@ -1,18 +1,11 @@
--- `prf_plus::expand` meets its contract: what the tests come to is what the first tests and then those of the expansion do.
-use Rattle.std.proofs.Common.{ℕ, ◌≡◌, ◌≤◌, length, refl}
-use Rattle.refusal.specs.Checks.{Check, pass, ◌and_then◌}
-use Rattle.refusal.specs.Answers.{checked_as}
-use Rattle.refusal.proofs.Passing.{last-passed}
-use Rattle.prf_plus.specs.PrfPlus.{expand_check}
-use Rattle.prf_plus.proofs.Accepted.{expand_passed, all_tests}
+-- `prf_plus::expand` meets its contract: where the tests pass, the buffer has room.
+use Rattle.std.proofs.Common.{length}
+use Rattle.refusal.proofs.Answering.{passed}
+use Rattle.prf_plus.proofs.Accepted.{expand_passed}
 use Rattle.prf_plus.proofs.expand.Goals as goal
 
--- where the call's tests pass, those of the expansion do
-fits : (first : Check) (n room : ℕ) → (first and_then expand_check n room) ≡ pass → (n ≤ 8160) × (n ≤ room)
-fits first n room e = let b = expand_passed n room (last-passed first _ e) in (b.most, b.fits)
+pub fill-requires-clause-n_bound : goal.fill-requires-clause-n_bound
+fill-requires-clause-n_bound c = (expand_passed _ (length c.args.out.now) (passed c.check_expand.ensures c.in_ok-check_expand.was)).most
 
-pub fill-requires : goal.fill-requires
-fill-requires c =
-    let s = c.args in
-    let b = fits (checked_as s.check) s.n (length s.out.now) (all_tests _ c.in-Passed.ensures c.check_expand.ensures refl) in
-    record { n_bound = b.0; n_in_bounds = b.1 }
+pub fill-requires-clause-n_in_bounds : goal.fill-requires-clause-n_in_bounds
+fill-requires-clause-n_in_bounds c = (expand_passed _ (length c.args.out.now) (passed c.check_expand.ensures c.in_ok-check_expand.was)).fits

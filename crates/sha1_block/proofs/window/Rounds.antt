@@ -1,15 +1,11 @@
--- One round after another, and one run of rounds after another.
+-- Four rounds, one after another.
 use Rattle.std.proofs.Common.{◌≡◌, ℕ, ◌+◌, List, get_or, sym, ap, ◌∙◌, add-zero}
 use Rattle.sha1_block.specs.Internal.{step_by, runs}
 
 module _ (f : ℕ → ℕ → ℕ → ℕ) (k : ℕ) (w : List ℕ) where
-  pub four : (j : ℕ) (s : List ℕ) {p q r t : List ℕ} → p ≡ step_by f k (get_or w j 0) s → q ≡ step_by f k (get_or w (j + 1) 0) p
+  pub four_rounds : (j : ℕ) (s : List ℕ) {p q r t : List ℕ} → p ≡ step_by f k (get_or w j 0) s → q ≡ step_by f k (get_or w (j + 1) 0) p
       → r ≡ step_by f k (get_or w (j + 2) 0) q → t ≡ step_by f k (get_or w (j + 3) 0) r → t ≡ runs f k w j s 4
   unfolding runs
-  four j s ep eq er et =
+  four_rounds j s ep eq er et =
       et ∙ ap (step_by f k (get_or w (j + 3) 0))
       (er ∙ ap (step_by f k (get_or w (j + 2) 0)) (eq ∙ ap (step_by f k (get_or w (j + 1) 0)) (ep ∙ ap (λ (i : ℕ). step_by f k (get_or w i 0) s) (sym (add-zero j)))))
-
-  -- four rounds more, from place i on
-  pub more : (i : ℕ) {p q r : List ℕ} → q ≡ runs f k w i p 4 → p ≡ r → q ≡ runs f k w i r 4
-  more i e p = e ∙ ap (λ (s : List ℕ). runs f k w i s 4) p

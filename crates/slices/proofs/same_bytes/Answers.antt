@@ -1,5 +1,4 @@
--- `slices::same_bytes` meets its contract. The loop's invariant: the lists are equal exactly if the elements compared so far are and the rest is.
-use mathlib.Core.Path.{refl}
+-- `slices::same_bytes` meets its contract. The loop's invariant: the lists are equal exactly if no difference was gathered so far and the rest is equal.
 use native.Mathlib.Omega.{arith}
 use Rattle.slices.proofs.Same.{lengths_differ, same_on, same_end}
 use Rattle.slices.proofs.same_bytes.Goals as goal
@@ -7,13 +6,10 @@ use Rattle.slices.proofs.same_bytes.Goals as goal
 pub returns-then-a-b : goal.returns-then-a-b
 returns-then-a-b c = lengths_differ _ _ c.if-a-b.true
 
-pub loop-i-init : goal.loop-i-init
-loop-i-init c = (omega arith, refl)
-
 pub loop-i-preserved : goal.loop-i-preserved
 loop-i-preserved c =
     let l = c.loop-i in
-    (omega arith, same_on _ _ l.i l.same l.invariant.1 (omega arith) (omega arith))
+    same_on _ _ l.i l.differ l.invariant (omega arith) (omega arith)
 
 pub returns : goal.returns
-returns c = let l = c.loop-i in same_end _ _ l.i l.same l.invariant.1 (omega arith) (omega arith)
+returns c = let l = c.loop-i in same_end _ _ l.i l.differ l.invariant (omega arith) (omega arith)

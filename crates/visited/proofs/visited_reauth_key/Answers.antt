@@ -1,12 +1,11 @@
--- Its tests are one chain, and the parts after the label are empty.
+-- Where the root key's test passes, the expansion's tests are that of the room alone.
+use Rattle.refusal.specs.Checks.{unless, within}
+use Rattle.refusal.proofs.Answering.{passed}
+use Rattle.prf_plus.specs.PrfPlus.{expand_check}
 use Rattle.labels.specs.FixedLabels.{visited_reauth_label}
-use Rattle.visited.specs.Visited.{reauth_text, reauth_check, reauth_key, reauth_answer, reauth_buffer}
-use Rattle.requests.proofs.Rooms.{key_of_64}
+use Rattle.visited.specs.Visited.{reauth_text, reauth_check, reauth_key, reauth_buffer}
 use Rattle.visited.proofs.visited_reauth_key.Goals as goal
 
-pub returns : goal.returns
-unfolding reauth_answer reauth_buffer reauth_check reauth_key reauth_text visited_reauth_label
-returns c =
-    let s = c.args in
-    let h = key_of_64 (reauth_key s.vmsk.now) s.out.now c.check_root_key-check.ensures (c.expand.ensures.answer, c.expand.ensures.buffer) in
-    record { answer = h.0; buffer = h.1 }
+pub returns-clause-buffer : goal.returns-clause-buffer
+unfolding reauth_buffer reauth_check reauth_key reauth_text visited_reauth_label expand_check unless within
+returns-clause-buffer c = rw (passed c.check_root_key.ensures c.in_ok-check_root_key.was) c.expand.ensures.buffer

@@ -1,15 +1,12 @@
--- Its tests and its text are those of the request for a VRK.
-use lib.ListN.{length}
+-- Where the root key's test passes, the expansion's tests are that of the room alone.
+use Rattle.refusal.specs.Checks.{unless, within}
+use Rattle.refusal.proofs.Answering.{passed}
+use Rattle.prf_plus.specs.PrfPlus.{expand_check}
 use Rattle.labels.specs.FixedLabels.{vrk_label}
 use Rattle.requests.specs.Rfc5295.{usage_text}
-use Rattle.requests.specs.Requests.{Request, for_vrk, check_of, text_of, key_of, request_answer, request_buffer}
-use Rattle.requests.proofs.Rooms.{key_of_64}
+use Rattle.requests.specs.Requests.{check_of, text_of, key_of, request_buffer}
 use Rattle.visited.proofs.visited_root_key.Goals as goal
 
-pub returns : goal.returns
-unfolding check_of request_answer request_buffer key_of text_of usage_text vrk_label
-returns c =
-    let s = c.args in
-    let r : Request = for_vrk (length s.out.now) in
-    let h = key_of_64 (key_of s.emsk.now r) s.out.now c.check_root_key-check.ensures (c.expand.ensures.answer, c.expand.ensures.buffer) in
-    record { answer = h.0; buffer = h.1 }
+pub returns-clause-buffer : goal.returns-clause-buffer
+unfolding check_of request_buffer key_of text_of usage_text vrk_label expand_check unless within
+returns-clause-buffer c = rw (passed c.check_root_key.ensures c.in_ok-check_root_key.was) c.expand.ensures.buffer

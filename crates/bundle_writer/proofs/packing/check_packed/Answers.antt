@@ -1,27 +1,47 @@
--- Where the count is told, all frames pass and it is their count.
-use Rattle.std.proofs.Common.{sym, ◌∙◌}
-use Rattle.refusal.proofs.Answering.{told_count, told_refusal}
-use Rattle.bundle_writer.proofs.packing.Testing.{told, refused-count, packed_frames, packed-none_lent, packed_many, packed-twice, packed-passes}
+use Rattle.std.proofs.Common.{◌≡◌, length, sym, ap, ◌∙◌, inl, refl, arith}
+use Rattle.std.proofs.lemmas.Iterator.Consumers.{count_from_yields_List, YieldsList-from_first}
+use Rattle.refusal.specs.Answers.{answer_of, refused, reason_of}
+use Rattle.refusal.proofs.Answering.{passed}
+use Rattle.refusal.proofs.Passing.{test_passed}
+use Rattle.bundle_rules.specs.Bundle.{packed}
+use Rattle.bundle_contents.specs.Walks.{bytes_of, bodies_left}
+use Rattle.bundle_writer.proofs.packing.Testing.{fewer_than_bytes, stopped, packed_frames, packed-miscounted, packed-twice, packed-passes}
 use Rattle.bundle_writer.proofs.packing.check_packed.Goals as goal
 
-pub returns-then-n-lt1 : goal.returns-then-n-lt1
-returns-then-n-lt1 c = let k = told_count _ _ _ c.in-Accepted.ensures in refused-count _ (packed-none_lent _ _ k.0 k.1 c.if-n-lt1.true)
+pub returns-in_err-bodies : goal.returns-in_err-bodies
+returns-in_err-bodies c =
+    let first : answer_of c.from_residual.result ≡ refused (reason_of c.in_err-bodies.field-0.0) = grind arith in
+    first ∙ packed_frames _ c.in_err-bodies.ensures
 
-pub returns-then-n-gt64 : goal.returns-then-n-gt64
-returns-then-n-gt64 c = let k = told_count _ _ _ c.in-Accepted.ensures in refused-count _ (packed_many _ _ k.0 k.1 c.if-n-gt64.true)
+pub count-n-requires-clause-fits : goal.count-n-requires-clause-fits
+count-n-requires-clause-fits c =
+    let b = c.in_ok-bodies.bodies in
+    inl (omega (arith, fewer_than_bytes b.bytes.now b.pass, ap length c.in_ok-bodies.ensures))
 
-pub id_repeats-requires : goal.id_repeats-requires
-id_repeats-requires c = (told_count _ _ _ c.in-Accepted.ensures).0
+pub returns-in_err-unless : goal.returns-in_err-unless
+returns-in_err-unless c =
+    let first : answer_of c.from_residual-in_err-unless.result ≡ refused (reason_of c.in_err-unless.field-0.0) = grind arith in
+    let b = c.in_ok-bodies.bodies in
+    let e = c.in_ok-bodies.ensures in
+    let n = count_from_yields_List _ _ c.count-n.ensures.ran (YieldsList-from_first bytes_of bodies_left (packed b.bytes.now) refl) in
+    let s = stopped _ _ c.in_err-unless.ensures first in
+    s.1 ∙ rw e at (packed-miscounted b.bytes.now b.pass n (sym c.in_range.ensures ∙ s.0))
 
-pub returns-then-id_repeats : goal.returns-then-id_repeats
-returns-then-id_repeats c =
-    let k = told_count _ _ _ c.in-Accepted.ensures in
-    refused-count _ (packed-twice _ _ k.0 k.1 c.if-n-lt1.false c.if-n-gt64.false (sym c.id_repeats.ensures ∙ c.if-id_repeats.true))
+pub returns-in_err-unless-2 : goal.returns-in_err-unless-2
+returns-in_err-unless-2 c =
+    let first : answer_of c.from_residual-in_err-unless-2.result ≡ refused (reason_of c.in_err-unless-2.field-0.0) = grind arith in
+    let b = c.in_ok-bodies.bodies in
+    let e = c.in_ok-bodies.ensures in
+    let n = count_from_yields_List _ _ c.count-n.ensures.ran (YieldsList-from_first bytes_of bodies_left (packed b.bytes.now) refl) in
+    let range = sym c.in_range.ensures ∙ test_passed _ _ (passed c.unless.ensures c.in_ok-unless.was) in
+    let s = stopped _ _ c.in_err-unless-2.ensures first in
+    s.1 ∙ rw e at (packed-twice b.bytes.now b.pass n range c.id_repeats.ensures s.0)
 
-pub returns-in-Refused : goal.returns-in-Refused
-returns-in-Refused c = refused-count _ (packed_frames _ (told_refusal _ _ _ c.in-Refused.ensures))
-
-pub returns-else-id_repeats : goal.returns-else-id_repeats
-returns-else-id_repeats c =
-    let k = told_count _ _ _ c.in-Accepted.ensures in
-    told (packed-passes _ _ k.0 k.1 c.if-n-lt1.false c.if-n-gt64.false (sym c.id_repeats.ensures ∙ c.if-id_repeats.false)) k.1
+pub returns : goal.returns
+returns c =
+    let b = c.in_ok-bodies.bodies in
+    let e = c.in_ok-bodies.ensures in
+    let n = count_from_yields_List _ _ c.count-n.ensures.ran (YieldsList-from_first bytes_of bodies_left (packed b.bytes.now) refl) in
+    let range = sym c.in_range.ensures ∙ test_passed _ _ (passed c.unless.ensures c.in_ok-unless.was) in
+    let once = test_passed _ _ (passed c.unless-2.ensures c.in_ok-unless-2.was) in
+    rw e at (packed-passes b.bytes.now b.pass n range c.id_repeats.ensures once)

@@ -1,16 +1,9 @@
--- The parts as they are put in place.
-use mathlib.Core.Path.{◌≡◌}
-use borrow.Author.Rules.{rules}
-use lib.ListN.{length}
-use Rattle.handover_rules.specs.Handover.{r1_label}
-use Rattle.handover.proofs.texts.Texts.{r1-laid}
+use Rattle.std.proofs.Common.{◌∙◌}
+use mathlib.Core.List.{append_assoc}
+use Rattle.handover_rules.specs.Kdf.{kdf_input}
+use Rattle.handover_rules.specs.Handover.{r1_label, r1_input}
 use Rattle.handover.proofs.texts.r1_text.Goals as goal
 
 pub returns : goal.returns
-unfolding r1_label
-returns c =
-    let a = c.args in
-    let la : length a.ad_id ≡ 16 = search rules in
-    let ln : length a.an_id ≡ 16 = search rules in
-    let ls : length a.spa ≡ 6 = search rules in
-    r1-laid a.spa ls c.copy.ensures c.copy-2.ensures a.an_id ln c.copy-3.ensures a.ad_id la c.copy-4.ensures
+unfolding r1_input kdf_input r1_label
+returns c = c.in_order.ensures ∙ simp append_assoc

@@ -3,4 +3,4 @@ use Rattle.outcome.proofs.KeyLengths.{handed_key}
 use Rattle.ketvaulo.proofs.key_attributes.kv_read_key_attribute.Goals as goal
 
 pub returns-clause-answer : goal.returns-clause-answer
-returns-clause-answer c = handed_key c.read.result.answer c.read.result.fields _ _ _ c.returned.ensures c.read.ensures.answer c.read.ensures.fields
+returns-clause-answer c = handed_key c.read.result _ _ _ c.into.ensures c.read.ensures.answer

@@ -3,4 +3,4 @@ use Rattle.outcome.proofs.Positions.{handed_round}
 use Rattle.ketvaulo.proofs.negotiations.kv_choose_offer.Goals as goal
 
 pub returns : goal.returns
-returns c = handed_round c.choose.result _ _ c.first_round.ensures c.choose.ensures
+returns c = handed_round c.choose.result _ _ c.into.ensures c.choose.ensures

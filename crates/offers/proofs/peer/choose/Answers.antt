@@ -1,13 +1,18 @@
-use mathlib.Core.Path.{sym, ap, ◌∙◌}
-use Rattle.refusal.specs.Answers.{checked_as}
+-- `offers::peer::choose` meets its contract: where the tests of the list pass, the position of the first supported offer decides.
+use Rattle.std.proofs.Common.{sym, ◌∙◌}
 use Rattle.refusal.proofs.Answering.{passed}
-use Rattle.offer_rules.proofs.Rounds.{list_refused, list_passed}
+use Rattle.offer_rules.proofs.Rounds.{at_first, at_later}
+use Rattle.offers.proofs.peer.Lists.{none_supported, supported_at}
 use Rattle.offers.proofs.peer.choose.Goals as goal
 
-pub returns-in-Failed : goal.returns-in-Failed
-returns-in-Failed c = list_refused c.args.offers.now c.args.supported.now (sym c.check_offers.ensures ∙ ap checked_as c.in-Failed.is)
+pub returns-in_default : goal.returns-in_default
+returns-in_default c =
+    none_supported _ _ (passed c.check_offers.ensures c.in_ok-check_offers.was) (sym c.in_default.is ∙ c.first_supported.ensures)
 
-pub returns-in-Passed : goal.returns-in-Passed
-returns-in-Passed c =
-    let decided = list_passed c.args.offers.now c.args.supported.now (passed c.check_offers.ensures c.in-Passed.is) in
-    rw (c.first_round_at.ensures, c.first_supported.ensures) decided
+pub returns-then-position-eq0 : goal.returns-then-position-eq0
+returns-then-position-eq0 c =
+    at_first _ _ c.if-position-eq0.true ∙ supported_at _ _ (passed c.check_offers.ensures c.in_ok-check_offers.was) (sym c.in-Some.is ∙ c.first_supported.ensures)
+
+pub returns-else-position-eq0 : goal.returns-else-position-eq0
+returns-else-position-eq0 c =
+    at_later _ _ c.if-position-eq0.false ∙ supported_at _ _ (passed c.check_offers.ensures c.in_ok-check_offers.was) (sym c.in-Some.is ∙ c.first_supported.ensures)

@@ -1,17 +1,13 @@
 -- `offers::peer::is_renewal` meets its contract: the first value, then the others.
-use mathlib.Core.Path.{◌∙◌}
+use Rattle.std.proofs.Common.{◌∙◌}
 use Rattle.offers.proofs.peer.Lists.{nothing_renewed, other_choice, same_choice}
 use Rattle.offers.proofs.peer.is_renewal.Goals as goal
 
-pub returns-then-renewed-eq0 : goal.returns-then-renewed-eq0
-returns-then-renewed-eq0 c = nothing_renewed _ _ _ c.if-renewed-eq0.true
+pub returns-in-empty : goal.returns-in-empty
+returns-in-empty c = nothing_renewed _ _ _ c.in-empty.len_below
 
-pub returns-then-renewed-choice : goal.returns-then-renewed-choice
-returns-then-renewed-choice c =
-    let a = c.args in
-    other_choice a.original.now a.choice a.renewed.now c.if-renewed-eq0.false c.if-renewed-choice.true
+pub returns-then-first-choice : goal.returns-then-first-choice
+returns-then-first-choice c = c.eq.ensures ∙ same_choice _ _ _ c.in-len1-up.len_at_least c.if-first-choice.true
 
-pub returns : goal.returns
-returns c =
-    let a = c.args in
-    c.same_values.ensures ∙ same_choice a.original.now a.choice a.renewed.now c.if-renewed-eq0.false c.if-renewed-choice.false
+pub returns-else-first-choice : goal.returns-else-first-choice
+returns-else-first-choice c = other_choice _ _ _ c.in-len1-up.len_at_least c.if-first-choice.false

@@ -1,14 +1,36 @@
--- `packet_mac::attributes::place_in` meets its contract: by what the tests of the walk came to.
-use Rattle.packet_mac.proofs.attributes.Answering.{walk_tests, found_at, found_within, place_given, place-refused}
+-- `packet_mac::attributes::place_in` meets its contract: by what the walk found, and by the test of the one attribute.
+use mathlib.Core.Path.{sym}
+use borrow.Author.Rules.{rules}
+use Rattle.packet_mac.proofs.attributes.Placing.{cut, not_only, within, decides, accepted}
 use Rattle.packet_mac.proofs.attributes.place_in.Goals as goal
 
-pub judge-requires : goal.judge-requires
-judge-requires c = found_within _ _ c.find-found.ensures
+pub returns-in_err-seen-clause-answer : goal.returns-in_err-seen-clause-answer
+returns-in_err-seen-clause-answer c =
+    let h = cut c.args.attribute_type c.args.packet.now _ (sym c.in_err-seen.ensures) in
+    search rules
 
-pub returns-in-Failed : goal.returns-in-Failed
-returns-in-Failed c =
-    place-refused _ (walk_tests _ _ c.find-found.ensures c.judge.ensures) c.in-Failed.is
+pub returns-in_err-at-clause-answer : goal.returns-in_err-at-clause-answer
+returns-in_err-at-clause-answer c =
+    let h = not_only c.args.attribute_type c.args.packet.now _ _ (sym c.in_ok-seen.ensures) (sym c.in_err-at.ensures) in
+    search rules
 
-pub returns-in-Passed : goal.returns-in-Passed
-returns-in-Passed c =
-    place_given (walk_tests _ _ c.find-found.ensures c.judge.ensures) c.in-Passed.is (found_at _ _ c.find-found.ensures)
+pub slice_bounds-is_mac-count : goal.slice_bounds-is_mac-count
+slice_bounds-is_mac-count c = within c.args.attribute_type c.args.packet.now _ _ (sym c.in_ok-seen.ensures) (sym c.in_ok-at.ensures)
+
+pub slice_bounds-is_mac-start : goal.slice_bounds-is_mac-start
+slice_bounds-is_mac-start c = within c.args.attribute_type c.args.packet.now _ _ (sym c.in_ok-seen.ensures) (sym c.in_ok-at.ensures)
+
+pub returns-in_err-unless-clause-answer : goal.returns-in_err-unless-clause-answer
+returns-in_err-unless-clause-answer c =
+    let t = decides c.args.attribute_type c.args.packet.now _ _ (sym c.in_ok-seen.ensures) (sym c.in_ok-at.ensures) _ c.in_err-unless.ensures c.is_mac.ensures in
+    search rules
+
+pub returns-clause-answer : goal.returns-clause-answer
+returns-clause-answer c =
+    let t = decides c.args.attribute_type c.args.packet.now _ _ (sym c.in_ok-seen.ensures) (sym c.in_ok-at.ensures) _ c.in_ok-unless.ensures c.is_mac.ensures in
+    (accepted c.args.attribute_type c.args.packet.now _ _ (sym c.in_ok-seen.ensures) (sym c.in_ok-at.ensures) t).0
+
+pub returns-clause-room : goal.returns-clause-room
+returns-clause-room c =
+    let t = decides c.args.attribute_type c.args.packet.now _ _ (sym c.in_ok-seen.ensures) (sym c.in_ok-at.ensures) _ c.in_ok-unless.ensures c.is_mac.ensures in
+    (accepted c.args.attribute_type c.args.packet.now _ _ (sym c.in_ok-seen.ensures) (sym c.in_ok-at.ensures) t).1

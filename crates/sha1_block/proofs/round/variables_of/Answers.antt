@@ -6,4 +6,4 @@ pub returns : goal.returns
 unfolding variables
 returns c =
     let h = c.args.s in
-    λ i. get_or h 0 0 ∷ get_or h 1 0 ∷ c.rotl.ensures i ∷ c.rotl-2.ensures i ∷ c.rotl-3.ensures i ∷ []
+    λ i. get_or h 0 0 ∷ get_or h 1 0 ∷ c.rotate_left.ensures i ∷ c.rotate_left-2.ensures i ∷ c.rotate_left-3.ensures i ∷ []

@@ -4,4 +4,4 @@ use Rattle.std.proofs.Common.{rules}
 use Rattle.sha256_block.proofs.round.big_sigma0.Goals as goal
 
 pub returns : goal.returns
-returns c = big0 c.args.x (search rules) c.rotr.ensures c.rotr-2.ensures c.rotr-3.ensures
+returns c = big0 c.args.x (search rules) c.rotate_right.ensures c.rotate_right-2.ensures c.rotate_right-3.ensures

@@ -4,4 +4,4 @@ use Rattle.std.proofs.Common.{rules}
 use Rattle.sha256_block.proofs.round.small_sigma0.Goals as goal
 
 pub returns : goal.returns
-returns c = small0 c.args.x (search rules) c.rotr.ensures c.rotr-2.ensures
+returns c = small0 c.args.x (search rules) c.rotate_right.ensures c.rotate_right-2.ensures

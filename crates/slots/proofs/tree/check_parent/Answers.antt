@@ -1,21 +1,25 @@
-use borrow.Author.Rules.{rules}
+use mathlib.Core.Path.{◌≡◌, sym, ap, ◌∙◌}
 use mathlib.Core.Bool.{Bool}
-use mathlib.Core.Path.{ap, ap₂, ◌∙◌}
-use Rattle.refusal.specs.Checks.{bare, unless, ◌and_then◌}
-use Rattle.slots.proofs.BitLaws.{length_mapped}
-use Rattle.slot_rules.specs.Stored.{Fits}
-use Rattle.slots.proofs.Calls.{parent_checked, root_checked}
+use Rattle.refusal.specs.Checks.{bare, unless}
+use Rattle.refusal.proofs.Passing.{test_passed}
+use Rattle.refusal.specs.Answers.{checked_as}
+use native.Mathlib.Omega.{arith}
+use Rattle.slots.proofs.Calls.{test_failed, root_checked, not_live, is_near}
 use Rattle.slots.proofs.tree.check_parent.Goals as goal
 
-pub returns-in-Root : goal.returns-in-Root
-returns-in-Root c = rw c.in-Root.is (root_checked c.args.slots)
+pub returns-in_err-unless-in-Some : goal.returns-in_err-unless-in-Some
+returns-in_err-unless-in-Some c =
+    let no = sym c.has_bit.ensures ∙ test_failed c.has_bit.result _ c.in_err-unless-in-Some.ensures in
+    let first : checked_as c.from_residual.result ≡ unless c.has_bit.result (bare 48) = grind arith in
+    rw c.in-Some.is (first ∙ ap (λ (b : Bool). unless b (bare 48)) c.has_bit.ensures ∙ not_live c.args.slots.now c.requires c.in-Some.p no)
 
-pub returns-in-Below : goal.returns-in-Below
-returns-in-Below c =
-    let f : Fits c.args.slots = search (rules, length_mapped) in
-    rw c.in-Below.is
-    (c.then_check.ensures
-    ∙ ap₂ ◌and_then◌
-    (c.unless.ensures ∙ ap (λ (b : Bool). unless b (bare 48)) c.has_bit.ensures)
-    (c.unless-in-Below.ensures ∙ ap (λ (b : Bool). unless b (bare 49)) c.root_within_two.ensures)
-    ∙ parent_checked c.args.slots f _)
+pub returns-in-None : goal.returns-in-None
+returns-in-None c = rw c.in-None.is (root_checked c.args.slots.now)
+
+pub returns-in_ok-unless-in-Some : goal.returns-in_ok-unless-in-Some
+returns-in_ok-unless-in-Some c =
+    let yes = sym c.has_bit.ensures ∙ test_passed c.has_bit.result _ (sym (c.in_ok-unless-in-Some.ensures)) in
+    rw c.in-Some.is
+    (c.unless-in-Some.ensures
+    ∙ ap (λ (b : Bool). unless b (bare 49)) c.root_within_two.ensures
+    ∙ is_near c.args.slots.now c.requires c.in-Some.p yes)

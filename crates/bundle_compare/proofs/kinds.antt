@@ -1,2 +1,0 @@
-mod Searching
-mod Filling

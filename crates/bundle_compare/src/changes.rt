@@ -1,0 +1,78 @@
+// What changed between two bundles (document 02, request 10), attribute by attribute.
+ghost use Rattle.std.specs.Prelude.{◌≡◌, ◌+◌, ◌≤◌, length};
+ghost use Rattle.bundle_rules.specs.Bundle.{key_id_in, packed};
+ghost use Rattle.compare_rules.specs.Compare.{lookup, count_kind};
+ghost use Rattle.bundle_compare.specs.Changes.{number_of, found_in, kind_by, entries_of, listed_by};
+
+use crate::counts::Counts;
+use bundle_contents::{Bodies, Body, same_id};
+use slices::same_bytes;
+
+// What the list says of a Key ID; the number of each is that of the entry.
+#[derive(Clone, Copy)]
+pub(crate) enum Change {
+    OnlyFirst = 1,
+    Changed = 2,
+    OnlySecond = 3,
+}
+
+// Which of the two bundles an attribute is of.
+#[derive(Clone, Copy)]
+pub(crate) enum Side {
+    First,
+    Second,
+}
+
+// The attribute of a Key ID among those of a bundle.
+fn find<'a>(id: &[u8], bodies: Bodies<'a>) -> Option<Body<'a>>
+    ensures { found_in result ≡ lookup id.now (packed bodies.entry.bytes.now) }
+{
+    for body in bodies {
+        if same_id(body.id(), id) {
+            return Some(body);
+        }
+    }
+    None
+}
+
+// What changed for an attribute of one bundle, by what the other has for its Key ID.
+fn change_of(side: Side, body: Body, other: Bodies) -> Option<Change>
+    ensures { number_of result ≡ kind_by side body.entry.bytes.now (lookup (key_id_in body.entry.bytes.now) (packed other.entry.bytes.now)) }
+{
+    match (side, find(body.id(), other)) {
+        (Side::First, None) => Some(Change::OnlyFirst),
+        (Side::First, Some(found)) => {
+            if same_bytes(body.bytes, found.bytes) {
+                None
+            } else {
+                Some(Change::Changed)
+            }
+        }
+        (Side::Second, None) => Some(Change::OnlySecond),
+        (Side::Second, Some(_)) => None,
+    }
+}
+
+// What changed for each attribute of a bundle, in its order, and nothing for the places after the last. They are counted with those that `counts` has.
+pub(crate) fn find_changes(
+    side: Side,
+    bodies: Bodies,
+    other: Bodies,
+    counts: &mut Counts,
+) -> [Option<Change>; 64]
+    requires bodies_few { length (packed bodies.bytes.now) ≤ 64 }
+    requires counts_few { (counts.old.only_first ≤ 64) × (counts.old.changed ≤ 64) × (counts.old.only_second ≤ 64) }
+    ensures listed { listed_by result (packed bodies.entry.bytes.now) ≡ entries_of side (packed other.entry.bytes.now) (packed bodies.entry.bytes.now) }
+    ensures only_first { counts.new.only_first ≡ counts.old.only_first + count_kind 1 (entries_of side (packed other.entry.bytes.now) (packed bodies.entry.bytes.now)) }
+    ensures changed { counts.new.changed ≡ counts.old.changed + count_kind 2 (entries_of side (packed other.entry.bytes.now) (packed bodies.entry.bytes.now)) }
+    ensures only_second { counts.new.only_second ≡ counts.old.only_second + count_kind 3 (entries_of side (packed other.entry.bytes.now) (packed bodies.entry.bytes.now)) }
+    ensures few { (counts.new.only_first ≤ counts.old.only_first + 64) × (counts.new.changed ≤ counts.old.changed + 64) × (counts.new.only_second ≤ counts.old.only_second + 64) }
+{
+    let mut changes = [None; 64];
+    for (i, body) in bodies.enumerate() {
+        let change = change_of(side, body, other);
+        changes[i] = change;
+        counts.add(change);
+    }
+    changes
+}

@@ -1,6 +1,0 @@
-use Rattle.keywrap_aes.proofs.step.Counts.{unwrap_by}
-use borrow.Author.Rules.{rules}
-use Rattle.keywrap_aes.proofs.step.unwrap_step.Goals as goal
-
-pub returns : goal.returns
-returns c = unwrap_by _ _ (search rules) c.args.s _ _ c.add_count.ensures c.decrypt.ensures

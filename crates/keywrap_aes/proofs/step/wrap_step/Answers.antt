@@ -1,6 +1,0 @@
-use Rattle.keywrap_aes.proofs.step.Counts.{wrap_by}
-use borrow.Author.Rules.{rules}
-use Rattle.keywrap_aes.proofs.step.wrap_step.Goals as goal
-
-pub returns : goal.returns
-returns c = wrap_by _ _ (search rules) _ _ _ c.encrypt.ensures c.add_count.ensures

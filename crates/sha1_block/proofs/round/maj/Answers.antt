@@ -1,8 +1,0 @@
-use Rattle.sha1_block.proofs.round.Functions.{rotated_maj}
-use Rattle.std.proofs.Common.{rules}
-use Rattle.sha1_block.proofs.round.maj.Goals as goal
-
-pub returns : goal.returns
-returns c =
-    let a = c.args in
-    rotated_maj a.x a.y a.z (search rules) (search rules) (search rules) c.rotl.ensures c.rotl-2.ensures c.add.ensures

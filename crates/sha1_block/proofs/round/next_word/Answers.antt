@@ -1,7 +1,0 @@
-use Rattle.std.proofs.Common.{refl}
-use Rattle.fips180.specs.Sha1.{next_w}
-use Rattle.sha1_block.proofs.round.next_word.Goals as goal
-
-pub returns : goal.returns
-unfolding next_w
-returns c = refl

@@ -1,3 +1,0 @@
-pub mod Stream
-mod Digests
-mod Parts

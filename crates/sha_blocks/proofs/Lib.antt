@@ -1,0 +1,5 @@
+mod Values
+pub mod Window
+mod Ring
+mod Blocks
+pub mod Terms
