@@ -1,11 +1,11 @@
 -- Entries written one after the other.
-use Prim.Native.Nat.{ℕ, ◌+◌, ◌≤◌, ◌<◌}
+use Prim.Native.Nat.{ℕ, ◌+◌, ◌≤◌}
 use mathlib.Core.Path.{◌≡◌, refl, sym, ap, ◌∙◌}
 use mathlib.Core.List.{List, [], ◌∷◌, ◌++◌, append-nil, append_assoc}
 use native.Mathlib.Omega.{arith}
-use lib.ListN.{length, take, drop, get_or, length-append, length-drop, take-append-drop}
-use lib.Seq.{drop-cons, length-take-le, take_at, drop_at, drop-drop}
-use native.Mathlib.Numerals.{add-one}
+use lib.ListN.{length, take, drop, length-append, length-drop, take-append-drop}
+use lib.Seq.{length-take-le, take_at, drop_at, drop-drop}
+use mathlib.Core.Logic.{◌⊎◌, inl, inr}
 use Rattle.std.specs.Prelude.{Option, Some, None}
 use Rattle.bundle_rules.specs.Bundle.{key_id_in}
 use Rattle.compare_rules.specs.Compare.{Entry, listed, written}
@@ -79,6 +79,10 @@ module _ {changes more : List (Option Change)} {bodies rest : List (List ℕ)} {
   unfolding listed_by
   one_listed c p = rw (e, o, p) (one_written c (key_id_in b) (listed_by more rest))
 
+pub no_changes : {changes : List (Option Change)} (bodies : List (List ℕ)) → changes ≡ [] → written (listed_by changes bodies) ≡ []
+unfolding listed_by written
+no_changes bodies e = rw e
+
 pub no_bodies : (changes : List (Option Change)) {bodies : List (List ℕ)} → bodies ≡ [] → written (listed_by changes bodies) ≡ []
 unfolding listed_by written
 no_bodies changes e = rw e (go changes)
@@ -87,6 +91,14 @@ no_bodies changes e = rw e (go changes)
     go [] = refl
     go (x ∷ l) = refl
 
--- what an array has from a place on
-pub from_here : (changes : List (Option Change)) {i n : ℕ} (k : ℕ) → i ≡ k → n ≡ k + 1 → k < length changes → drop k changes ≡ get_or changes i None ∷ drop n changes
-from_here changes k p q h = rw (p, q, add-one k) (drop-cons changes k None h)
+-- where either of them ends
+pub left_none :
+    (changes : List (Option Change)) (bodies : List (List ℕ)) {S T : Type 0} {P : S → Type 0} {Q : T → Type 0}
+    → ((x : S) × ((length changes ≡ 0) × P x)) ⊎ ((y : T) × ((bodies ≡ []) × Q y))
+    → written (listed_by changes bodies) ≡ []
+left_none changes bodies (inl h) = no_changes bodies (empty changes h.1.0)
+  where
+    empty : (l : List (Option Change)) → length l ≡ 0 → l ≡ []
+    empty [] e = refl
+    empty (x ∷ l) e = absurd (omega arith)
+left_none changes bodies (inr h) = no_bodies changes h.1.0

@@ -22,15 +22,14 @@ fn put_entry(change: Change, id: &[u8], at: usize, out: &mut [u8])
 
 // Writes the entries of a bundle's attributes, by what changed for each, to out from index `from` on, and answers where they end.
 fn put_entries(changes: &[Option<Change>; 64], bodies: Bodies, from: usize, out: &mut [u8]) -> usize
-    requires few { length (packed bodies.bytes.now) ≤ 64 }
-    requires in_bounds { from + length (written (listed_by changes.now (packed bodies.bytes.now))) ≤ length out.old }
+    requires { from + length (written (listed_by changes.now (packed bodies.bytes.now))) ≤ length out.old }
     ensures end { result ≡ from + length (written (listed_by changes.now (packed bodies.entry.bytes.now))) }
     ensures buffer { out.new ≡ take from out.old ++ (written (listed_by changes.now (packed bodies.entry.bytes.now)) ++ drop result out.old) }
 {
     let mut at = from;
-    for (i, body) in bodies.enumerate() {
-        if let Some(change) = changes[i] {
-            put_entry(change, body.id(), at, out);
+    for (change, body) in changes.iter().zip(bodies) {
+        if let Some(change) = change {
+            put_entry(*change, body.id(), at, out);
             at += 17;
         }
     }

@@ -90,24 +90,24 @@ fn write_entries(rt: &impl Print, entries: &[u8]) -> io::Result<()> {
     Ok(())
 }
 
-// Writes a count and the words after it.
-fn write_count(rt: &impl Print, n: u32, words: &str) -> io::Result<()> {
-    print!(rt; "{n}{words}")
-}
-
 // Writes the line of the counts.
 fn write_counts(rt: &impl Print, counts: Counts) -> io::Result<()> {
-    write_count(rt, counts.only_first, " only in the first, ")?;
-    write_count(rt, counts.changed, " changed, ")?;
-    write_count(rt, counts.only_second, " only in the second\n")
+    let Counts {
+        only_first,
+        changed,
+        only_second,
+    } = counts;
+    println!(rt;
+        "{only_first} only in the first, {changed} changed, {only_second} only in the second"
+    )
 }
 
 // Writes a refusal, and which file it is about: the first where that is refused by itself, else the second. The room is enough for any two.
 fn write_refusal(rt: &impl Print, first: &[u8], why: Refusal) -> io::Result<()> {
-    print!(rt; "refused ")?;
+    let number = why.number();
     match check_bundle(first) {
-        Err(_) => write_count(rt, why.number(), ": the first file\n"),
-        Ok(()) => write_count(rt, why.number(), ": the second file\n"),
+        Err(_) => println!(rt; "refused {number}: the first file"),
+        Ok(()) => println!(rt; "refused {number}: the second file"),
     }
 }
 

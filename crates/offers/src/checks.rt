@@ -30,10 +30,7 @@ fn repeated(list: &[u16]) -> bool
 fn is_first(value: u16, list: &[u16]) -> bool
     ensures { result ≡ is_first value list.now }
 {
-    match list {
-        [first, ..] => *first == value,
-        [] => false,
-    }
+    list.first() == Some(&value)
 }
 
 // The tests of every list of offers: 10, then 11 where 10 passes.

@@ -1,10 +1,9 @@
 // The peer's calls on offers: the first round, and the check of the renewed list (RFC 5448 section 3.2; document 01, "Offers"). A list of offers is
 // in the server's order of preference. Lists of any length may be lent, and none is copied.
-ghost use Rattle.std.specs.Prelude.{◌≡◌, length};
+ghost use Rattle.std.specs.Prelude.{◌≡◌, position};
 ghost use Rattle.slices.specs.Same.{same_list};
-ghost use Rattle.offer_rules.specs.Rfc5448.{first_supported, renewed_list};
+ghost use Rattle.offer_rules.specs.Rfc5448.{stands, renewed_list};
 ghost use Rattle.offer_rules.specs.Answers.{first_round, renewed_answer};
-ghost use Rattle.offers.specs.Internal.{found};
 ghost use Rattle.offers.specs.Answers.{first_round_of, renewed_of};
 
 use crate::checks::{check_offers, check_reply, contains};
@@ -20,14 +19,9 @@ pub enum FirstRound {
 
 // The position of the first offer that stands in the supported list.
 fn first_supported(offers: &[u16], supported: &[u16]) -> Option<usize>
-    ensures { result ≡ found (first_supported offers.now supported.now) (length offers.now) }
+    ensures { result ≡ position (λ offer. stands offer supported.now) offers.now }
 {
-    for (i, offer) in offers.iter().enumerate() {
-        if contains(supported, *offer) {
-            return Some(i);
-        }
-    }
-    None
+    offers.iter().position(|offer| contains(supported, *offer))
 }
 
 // The peer's first round: the first offer, in the server's order, that stands in the supported list. Order 10, 11, 12.

@@ -1,6 +1,7 @@
 -- Laws of the tests of a list of offers: how the library's search reads, and what is left of the list, from index i on, when a loop goes through it.
-use Rattle.std.proofs.Common.{◌≡◌, refl, sym, ap, ◌∙◌, ℕ, ◌+◌, ◌-◌, ◌≤◌, ◌<◌, Bool, true, false, ◌||◌, List, [], ◌∷◌, length, take, drop, nat_eq, eqb, get_or, arith}
-use Rattle.std.specs.List.{list_any}
+use Rattle.std.proofs.Common.{◌≡◌, refl, sym, ap, ◌∙◌, Option, Some, None, Bor, ℕ, ◌+◌, ◌-◌, ◌≤◌, ◌<◌, Bool, true, false, ◌||◌, List, [], ◌∷◌, length, take, drop, nat_eq, eqb, get_or}
+use Rattle.std.specs.List.{list_any, slice_get}
+use Rattle.std.specs.Option.{option_copied, option_eq}
 use native.Mathlib.Numerals.{add-one}
 use lib.ListN.{drop_of_length-le}
 use lib.Seq.{drop-cons}
@@ -25,13 +26,10 @@ module _ (s : List ℕ) (i : ℕ) (inv : repeats s ≡ repeats (drop i s)) where
   unfolding repeats
   repeats_done h = sym (inv ∙ rw drop_of_length-le)
 
--- the first of a list decides
-pub no_first : (value : ℕ) (s : List ℕ) → length s < 1 → false ≡ is_first value s
+-- the first of a list, as the library lends it
+pub first_lent : (s : List ℕ) (value : Bor ℕ) (first : Option (Bor ℕ)) → option_copied first ≡ slice_get s 0 → option_eq (λ x y. eqb x.now y.now) first (Some value) ≡ is_first value.now s
 unfolding is_first
-no_first value [] h = refl
-no_first value (x ∷ s) h = let none : ⊥ = omega arith in elim none [ ]
-
-pub some_first : (value : ℕ) (s : List ℕ) → 1 ≤ length s → eqb (get_or s 0 0) value ≡ is_first value s
-unfolding is_first
-some_first value [] h = let none : ⊥ = omega arith in elim none [ ]
-some_first value (x ∷ s) h = refl
+first_lent [] value None e = refl
+first_lent [] value (Some x) e = cc
+first_lent (y ∷ s) value None e = cc
+first_lent (y ∷ s) value (Some x) e = let same : x.now ≡ y = cc in ap (λ (n : ℕ). eqb n value.now) same

@@ -1,12 +1,10 @@
--- Laws of the first round, by the position of the first supported offer, one for each way on in its loop, and of a renewed list, by the library's comparison.
-use Rattle.std.proofs.Common.{◌≡◌, refl, ap, ◌∙◌, ℕ, suc, ◌+◌, ◌-◌, ◌<◌, ◌≤◌, Bool, true, false, cond, ◌&&◌, Some, None, List, [], ◌∷◌, length, take, drop, eqb, get_or, arith}
-use borrow.Author.Tests.{eq-eqb, ne_eqb, lt-ltb, le-ltb}
-use native.Mathlib.Numerals.{add-one}
-use lib.ListN.{drop_of_length-le}
-use lib.Seq.{drop-cons}
-use Rattle.offers.specs.Internal.{found}
+-- Laws of the first round, by the position that the library's search gives, and of a renewed list, by the library's comparison.
+use Rattle.std.proofs.Common.{◌≡◌, refl, sym, ap, ◌∙◌, ℕ, suc, ◌+◌, ◌-◌, ◌<◌, ◌≤◌, Bool, true, false, cond, ◌&&◌, Some, None, List, [], ◌∷◌, length, take, drop, eqb, get_or, position, arith}
+use borrow.Author.Tests.{eq-eqb, ne_eqb}
 use lib.Pointwise.{pointwise}
 use lib.Dec.{ltb}
+use Rattle.std.specs.List.{position_or_len}
+use Rattle.std.proofs.lemmas.List.Recursion.{is_position_or_len}
 use Rattle.slices.specs.Same.{same_list}
 use Rattle.slices.proofs.Lists.{rest_drop}
 use Rattle.refusal.specs.Checks.{bare, pass, unless, ◌and_then◌}
@@ -14,41 +12,29 @@ use Rattle.offer_rules.specs.Rfc5448.{stands, first_supported, renewed_list, che
 use Rattle.offer_rules.specs.Answers.{FirstAnswer, first_round_at, first_round_to, first_round}
 use Rattle.offer_rules.proofs.Rounds.{list_passed}
 
-module _ (s supported : List ℕ) (i : ℕ) (inv : first_supported s supported ≡ i + first_supported (drop i s) supported) where
-  pub supported_hit : i < length s → stands (get_or s i 0) supported ≡ true → Some i ≡ found (first_supported s supported) (length s)
-  unfolding first_supported
-  supported_hit h e =
-      let here : first_supported (drop i s) supported ≡ 0 = rw (drop-cons s i 0, e) in
-      let at : first_supported s supported ≡ i = omega arith in
-      rw (at, lt-ltb i (length s) h)
-
-  pub supported_miss : i < length s → stands (get_or s i 0) supported ≡ false → first_supported s supported ≡ i + 1 + first_supported (drop (i + 1) s) supported
-  unfolding first_supported
-  supported_miss h e =
-      let later : first_supported (drop i s) supported ≡ suc (first_supported (drop (i + 1) s) supported) = rw (add-one, drop-cons s i 0, e) in
-      omega arith
-
-  pub supported_done : length s ≤ i → None ≡ found (first_supported s supported) (length s)
-  unfolding first_supported
-  supported_done h =
-      let done : first_supported (drop i s) supported ≡ 0 = rw drop_of_length-le in
-      rw (le-ltb (first_supported s supported) (length s) (omega arith))
-
 module _ (offers supported : List ℕ) (listed : (check10 offers and_then check11 offers) ≡ pass) where
-  pub none_supported : None ≡ found (first_supported offers supported) (length offers) → FirstAnswer.refused (bare 12) ≡ first_round offers supported
+  -- the position that the search gives is the definition's
+  abbrev test : ℕ → Bool
+  test offer = stands offer supported
+
+  same_position : position_or_len test offers ≡ first_supported offers supported
+  unfolding first_supported
+  same_position = sym (is_position_or_len (λ l. first_supported l supported) test refl (λ x xs. let e : suc (first_supported xs supported) ≡ 1 + first_supported xs supported = omega arith in ap (cond (test x) 0) e) offers)
+
+  pub none_supported : position test offers ≡ None → FirstAnswer.refused (bare 12) ≡ first_round offers supported
   unfolding unless
-  none_supported e = go (ltb (first_supported offers supported) (length offers)) e ∙ list_passed offers supported listed
+  none_supported e = go (ltb (first_supported offers supported) (length offers)) (rw same_position at e) ∙ list_passed offers supported listed
     where
-      go : (t : Bool) → None ≡ cond t (Some (first_supported offers supported)) None
+      go : (t : Bool) → cond t (Some (first_supported offers supported)) None ≡ None
           → FirstAnswer.refused (bare 12) ≡ first_round_to (unless t (bare 12)) offers (first_supported offers supported)
       go true e = cc
       go false e = refl
 
-  pub supported_at : {i : ℕ} → Some i ≡ found (first_supported offers supported) (length offers) → first_round_at offers i ≡ first_round offers supported
+  pub supported_at : {i : ℕ} → position test offers ≡ Some i → first_round_at offers i ≡ first_round offers supported
   unfolding unless
-  supported_at {i} e = go (ltb (first_supported offers supported) (length offers)) e ∙ list_passed offers supported listed
+  supported_at {i} e = go (ltb (first_supported offers supported) (length offers)) (rw same_position at e) ∙ list_passed offers supported listed
     where
-      go : (t : Bool) → Some i ≡ cond t (Some (first_supported offers supported)) None
+      go : (t : Bool) → cond t (Some (first_supported offers supported)) None ≡ Some i
           → first_round_at offers i ≡ first_round_to (unless t (bare 12)) offers (first_supported offers supported)
       go true e = let k : i ≡ first_supported offers supported = cc in ap (first_round_at offers) k
       go false e = cc

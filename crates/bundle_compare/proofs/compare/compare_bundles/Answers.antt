@@ -79,14 +79,14 @@ pub put_entries-end-requires : goal.put_entries-end-requires
 put_entries-end-requires c =
     let t = told (goal.at.put_entries-end-requires c).After-find_changes-in_second in
     let fits = leb-true _ _ (test_passed _ _ (passed c.check_room.ensures c.in_ok-check_room.was)) in
-    record { few = c.bodies-of_first.ensures.few; in_bounds = omega (arith, fits, bytes_long t) }
+    omega (arith, fits, bytes_long t)
 
 pub put_entries-requires : goal.put_entries-requires
 put_entries-requires c =
     let t = told (goal.at.put_entries-requires c).After-find_changes-in_second in
     let fits = leb-true _ _ (test_passed _ _ (passed c.check_room.ensures c.in_ok-check_room.was)) in
     let kept = c.put_entries-end.auto.out in
-    record { few = c.bodies-of_second.ensures.few; in_bounds = omega (arith, fits, bytes_long t, c.put_entries-end.ensures.end) }
+    omega (arith, fits, bytes_long t, c.put_entries-end.ensures.end)
 
 pub returns-clause-answer : goal.returns-clause-answer
 returns-clause-answer c =

@@ -7,12 +7,12 @@ use Rattle.offers.proofs.peer.choose.Goals as goal
 
 pub returns-in_default : goal.returns-in_default
 returns-in_default c =
-    none_supported _ _ (passed c.check_offers.ensures c.in_ok-check_offers.was) (sym c.in_default.is ∙ c.first_supported.ensures)
+    none_supported _ _ (passed c.check_offers.ensures c.in_ok-check_offers.was) (sym c.first_supported.ensures ∙ c.in_default.is)
 
 pub returns-then-position-eq0 : goal.returns-then-position-eq0
 returns-then-position-eq0 c =
-    at_first _ _ c.if-position-eq0.true ∙ supported_at _ _ (passed c.check_offers.ensures c.in_ok-check_offers.was) (sym c.in-Some.is ∙ c.first_supported.ensures)
+    at_first _ _ c.if-position-eq0.true ∙ supported_at _ _ (passed c.check_offers.ensures c.in_ok-check_offers.was) (sym c.first_supported.ensures ∙ c.in-Some.is)
 
 pub returns-else-position-eq0 : goal.returns-else-position-eq0
 returns-else-position-eq0 c =
-    at_later _ _ c.if-position-eq0.false ∙ supported_at _ _ (passed c.check_offers.ensures c.in_ok-check_offers.was) (sym c.in-Some.is ∙ c.first_supported.ensures)
+    at_later _ _ c.if-position-eq0.false ∙ supported_at _ _ (passed c.check_offers.ensures c.in_ok-check_offers.was) (sym c.first_supported.ensures ∙ c.in-Some.is)
