@@ -27,7 +27,8 @@ named_within bytes l h e =
     go (eqb (type_of bytes) 24) (eqb (type_of bytes) 23) (eqb (words_of bytes).0 1) (eqb (words_of bytes).0 (words_for (number_of bytes))) refl (zeros (padding bytes (number_of bytes))) e
   where
     go : (t₁ t₂ t₃ t₄ : Bool) → eqb (words_of bytes).0 (words_for (number_of bytes)) ≡ t₄ → (t₅ : Bool)
-        → cond t₁ (cond t₃ (Offer (number_of bytes)) (Faulty KdfLength)) (cond t₂ (cond t₄ (cond t₅ (Named (record { 0 = number_of bytes })) (Faulty KdfInputPadding)) (Faulty KdfInput)) Other) ≡ Named l
+        → cond t₁ (cond t₃ (Offer (number_of bytes)) (Faulty KdfLength))
+        (cond t₂ (cond t₄ (cond t₅ (Named (record { 0 = number_of bytes })) (Faulty KdfInputPadding)) (Faulty KdfInput)) Other) ≡ Named l
         → 4 + l.0 ≤ length bytes
     go true t₂ true t₄ r t₅ e = let z : ◌≡◌ {A = ℕ} 0 1 = cc in omega arith
     go true t₂ false t₄ r t₅ e = let z : ◌≡◌ {A = ℕ} 0 1 = cc in omega arith
@@ -91,12 +92,14 @@ found_within zero at (x ∷ rest) offers name {o} {a} {l} w e =
     go (in_bounds (x ∷ rest)) refl (λ p n v f. found_within (4 * get_or (x ∷ rest) 1 0 - 1) (suc at) rest p n v f) e
   where
     go : (t : Bool) → in_bounds (x ∷ rest) ≡ t
-        → ((p : List ℕ) (n : Option Name) → NameWithin (suc at + length rest) n → read_on p n (attributes_from (4 * get_or (x ∷ rest) 1 0 - 1) (suc at) rest) ≡ whole o a l → a + l ≤ suc at + length rest)
+        → ((p : List ℕ) (n : Option Name) → NameWithin (suc at + length rest) n → read_on p n (attributes_from (4 * get_or (x ∷ rest) 1 0 - 1) (suc at) rest) ≡ whole o a l
+        → a + l ≤ suc at + length rest)
         → read_on offers name (cond t (standing at (attribute (x ∷ rest)) ∷ attributes_from (4 * get_or (x ∷ rest) 1 0 - 1) (suc at) rest) (standing at (Faulty AttributeBounds) ∷ [])) ≡ whole o a l
         → a + l ≤ at + suc (length rest)
     go true h ih e =
         let k : at + suc (length rest) ≡ suc at + length rest = omega arith in
-        one_more at (attribute (x ∷ rest)) (attributes_from (4 * get_or (x ∷ rest) 1 0 - 1) (suc at) rest) offers name (at + suc (length rest)) (λ n f. let k : 4 + n.0 ≤ suc (length rest) = named_within (x ∷ rest) n (not_past (x ∷ rest) h) f in omega arith)
+        one_more at (attribute (x ∷ rest)) (attributes_from (4 * get_or (x ∷ rest) 1 0 - 1) (suc at) rest) offers name (at + suc (length rest))
+        (λ n f. let k : 4 + n.0 ≤ suc (length rest) = named_within (x ∷ rest) n (not_past (x ∷ rest) h) f in omega arith)
         (λ p n v f. let r : a + l ≤ suc at + length rest = ih p n (name_same n k v) f in omega arith) w e
     go false h ih e = let z : ◌≡◌ {A = ℕ} 0 1 = cc in omega arith
 

@@ -8,7 +8,8 @@ use lib.ListN.{length, length-append}
 use Rattle.area_format.specs.declared.Way.{Way}
 use Rattle.area_format.specs.Area.{Reading, whole, refusal, reading, answered, area_answer_to, area_buffer_to, area_answer, area_buffer}
 
-pub count-within : (way : Way) (area own out last : List ℕ) {count at len : ℕ} {same : Bool} → answered count at len same ≡ area_answer way area own (length out) → last ≡ area_buffer way area own out → count ≤ length last
+pub count-within : (way : Way) (area own out last : List ℕ) {count at len : ℕ} {same : Bool} → answered count at len same ≡ area_answer way area own (length out)
+    → last ≡ area_buffer way area own out → count ≤ length last
 unfolding area_answer area_buffer
 count-within way area own out last {count} {at} {len} {same} e b = go (reading way area own (length out)) e b
   where

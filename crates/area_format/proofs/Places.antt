@@ -64,7 +64,8 @@ record Outside (at i : ℕ) (bytes : List ℕ) (all : List Standing) : Type 0 wh
   before : List Standing
   last : all ≡ before ++ (standing i (Faulty AttributeBounds) ∷ [])
 
-met_16 : (left at : ℕ) (bytes offers : List ℕ) (name : Option Name) {i : ℕ} → read_on offers name (attributes_from left at bytes) ≡ refusal (located 16 i) → Outside at i bytes (attributes_from left at bytes)
+met_16 : (left at : ℕ) (bytes offers : List ℕ) (name : Option Name) {i : ℕ}
+    → read_on offers name (attributes_from left at bytes) ≡ refusal (located 16 i) → Outside at i bytes (attributes_from left at bytes)
 unfolding attributes_from read_on
 met_16 left at [] offers name e =
     elim (not-ended offers name (λ f. let z : ◌≡◌ {A = ℕ} 19 16 = cc in omega arith) (λ f. let z : ◌≡◌ {A = ℕ} 10 16 = cc in omega arith) e) [ ]
@@ -76,15 +77,18 @@ met_16 (suc left) at (x ∷ rest) offers name {i} e =
 met_16 zero at (x ∷ rest) offers name {i} e = go (in_bounds (x ∷ rest)) refl (λ o n f. met_16 (4 * get_or (x ∷ rest) 1 0 - 1) (suc at) rest o n f) e
   where
     go : (t : Bool) → in_bounds (x ∷ rest) ≡ t
-        → ((o : List ℕ) (n : Option Name) → read_on o n (attributes_from (4 * get_or (x ∷ rest) 1 0 - 1) (suc at) rest) ≡ refusal (located 16 i) → Outside (suc at) i rest (attributes_from (4 * get_or (x ∷ rest) 1 0 - 1) (suc at) rest))
-        → read_on offers name (cond t (standing at (attribute (x ∷ rest)) ∷ attributes_from (4 * get_or (x ∷ rest) 1 0 - 1) (suc at) rest) (standing at (Faulty AttributeBounds) ∷ [])) ≡ refusal (located 16 i)
+        → ((o : List ℕ) (n : Option Name) → read_on o n (attributes_from (4 * get_or (x ∷ rest) 1 0 - 1) (suc at) rest) ≡ refusal (located 16 i)
+        → Outside (suc at) i rest (attributes_from (4 * get_or (x ∷ rest) 1 0 - 1) (suc at) rest))
+        → read_on offers name (cond t (standing at (attribute (x ∷ rest)) ∷ attributes_from (4 * get_or (x ∷ rest) 1 0 - 1) (suc at) rest) (standing at (Faulty AttributeBounds) ∷ []))
+        ≡ refusal (located 16 i)
         → Outside at i (x ∷ rest) (cond t (standing at (attribute (x ∷ rest)) ∷ attributes_from (4 * get_or (x ∷ rest) 1 0 - 1) (suc at) rest) (standing at (Faulty AttributeBounds) ∷ []))
     go true h ih e =
         let l = later_16 at (attribute (x ∷ rest)) (attributes_from (4 * get_or (x ∷ rest) 1 0 - 1) (suc at) rest) offers name (never (x ∷ rest)) e in
         let o = ih l.0 l.1 l.2 in
         let p : i ≡ suc at + o.past = o.place in
         let w : o.past < length rest = o.within in
-        record { past = suc o.past; place = omega arith; within = omega arith; out = o.out; before = standing at (attribute (x ∷ rest)) ∷ o.before; last = ap (λ (l : List Standing). standing at (attribute (x ∷ rest)) ∷ l) o.last }
+        let last = ap (λ (l : List Standing). standing at (attribute (x ∷ rest)) ∷ l) o.last in
+        record { past = suc o.past; place = omega arith; within = omega arith; out = o.out; before = standing at (attribute (x ∷ rest)) ∷ o.before; last = last }
     go false h ih e =
         let p : at ≡ i = cc in
         record { past = 0; place = omega arith; within = omega arith; out = h; before = []; last = ap (λ (k : ℕ). standing k (Faulty AttributeBounds) ∷ []) p }

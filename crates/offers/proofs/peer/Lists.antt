@@ -19,7 +19,8 @@ module _ (offers supported : List ℕ) (listed : (check10 offers and_then check1
 
   same_position : position_or_len test offers ≡ first_supported offers supported
   unfolding first_supported
-  same_position = sym (is_position_or_len (λ l. first_supported l supported) test refl (λ x xs. let e : suc (first_supported xs supported) ≡ 1 + first_supported xs supported = omega arith in ap (cond (test x) 0) e) offers)
+  same_position = sym (is_position_or_len (λ l. first_supported l supported) test refl
+      (λ x xs. let e : suc (first_supported xs supported) ≡ 1 + first_supported xs supported = omega arith in ap (cond (test x) 0) e) offers)
 
   pub none_supported : position test offers ≡ None → FirstAnswer.refused (bare 12) ≡ first_round offers supported
   unfolding unless
