@@ -32,12 +32,6 @@ unfolding unless
 test_failed true x e = cc
 test_failed false x e = refl
 
--- and its reason is the test's
-pub test_told : (t : Bool) (x : Reason) {y : Reason} → refuse y ≡ unless t x → y ≡ x
-unfolding unless
-test_told true x e = cc
-test_told false x e = cc
-
 -- no parent passes both tests
 pub root_checked : (s : Slots) → pass ≡ (check48 (table_of s) None and_then check49 (table_of s) None)
 unfolding check48 check49 unless

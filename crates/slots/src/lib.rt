@@ -17,8 +17,8 @@ use slot_rules::{Name, Slots};
 use tree::{check_parent, gone};
 
 // What a call answers, a put the number of its slot and a drop how many went, and the slots after it. A call makes one copy of the slots, lends it to
-// the function that changes it or not, and returns it at its end: where a refusal returns its argument by a way of its own, the compiler keeps three
-// copies on the stack.
+// the function that changes it or not, and returns it at its end. A put returns it whole, and the compiler keeps it on the stack: where a refusal
+// returns its argument by a way of its own, it keeps three copies there. A drop returns it field by field, and the compiler keeps of it the parents alone.
 #[derive(Clone, Copy)]
 pub struct After {
     pub answer: Result<usize, Refusal>,
@@ -102,10 +102,13 @@ fn drop_below(slots: &mut Slots, number: u64) -> Result<usize, Refusal>
     ensures answer { answer_of result ≡ drop_answer (table_of slots.old) number }
     ensures stored { slots.new ≡ drop_stored slots.old number }
 {
-    unless(has_bit(slots.taken, number), Refusal::NoSuchSlot)?;
-    let word = gone(slots, number);
-    slots.taken &= !word;
-    Ok(word.count_ones() as usize)
+    if has_bit(slots.taken, number) {
+        let word = gone(*slots, number);
+        slots.taken &= !word;
+        Ok(word.count_ones() as usize)
+    } else {
+        Err(Refusal::NoSuchSlot)
+    }
 }
 
 // A slot and all that descend from it are freed. Nothing but the word of taken slots changes.
@@ -116,8 +119,17 @@ pub fn drop(slots: Slots, number: u64) -> After
 {
     let mut next = slots;
     let answer = drop_below(&mut next, number);
+    let Slots {
+        taken,
+        names,
+        parents,
+    } = next;
     After {
         answer,
-        slots: next,
+        slots: Slots {
+            taken,
+            names,
+            parents,
+        },
     }
 }

@@ -74,13 +74,13 @@ pub(crate) fn check_parent(slots: &Slots, parent: Option<u64>) -> Result<(), Ref
 // ---- the slots that go with a slot
 
 // The steps of all slots, so that the many that a drop makes ask for no bit: the byte of a live slot's parent, and 255 for a free slot.
-fn all_steps(slots: &Slots) -> [u8; 64]
-    ensures { HasSteps result slots.now.taken slots.now.parents }
+fn all_steps(taken: u64, parents: &[u8; 64]) -> [u8; 64]
+    ensures { HasSteps result taken parents.now }
 {
     let mut steps = [255; 64];
-    let mut left = slots.taken;
+    let mut left = taken;
     for s in 0..64 {
-        steps[s] = if left % 2 == 1 { slots.parents[s] } else { 255 };
+        steps[s] = if left % 2 == 1 { parents[s] } else { 255 };
         left /= 2;
     }
     steps
@@ -115,11 +115,12 @@ fn reaching(steps: &[u8; 64], n: u8) -> u64
     word
 }
 
-// The word of the slots that go with a live slot. What reaches a live slot is live.
-pub(crate) fn gone(slots: &Slots, number: u64) -> u64
-    requires fits { Fits slots.now }
-    requires live { is_live (table_of slots.now) number ≡ true }
-    ensures { result ≡ gone_with slots.now number }
+// The word of the slots that go with a live slot. What reaches a live slot is live. The steps are made from a copy of the parents: slots that are lent
+// are kept whole on the stack.
+pub(crate) fn gone(slots: Slots, number: u64) -> u64
+    requires { is_live (table_of slots) number ≡ true }
+    ensures { result ≡ gone_with slots number }
 {
-    reaching(&all_steps(slots), number as u8)
+    let parents = slots.parents;
+    reaching(&all_steps(slots.taken, &parents), number as u8)
 }

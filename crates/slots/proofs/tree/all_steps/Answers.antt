@@ -12,8 +12,8 @@ use Rattle.slots.proofs.tree.all_steps.Goals as goal
 
 pub loop-s-preserved : goal.loop-s-preserved
 loop-s-preserved c =
-    let w = c.args.slots.now.taken in
-    let parents = c.args.slots.now.parents in
+    let w = c.args.taken in
+    let parents = c.args.parents.now in
     let l = c.loop-s in
     let e : c.if-left-eq1.steps ≡ cond (eqb (l.left % 2) 1) (get_or parents l.s 0) 255
     = elim c.if-left-eq1.branch [
@@ -29,4 +29,4 @@ loop-s-preserved c =
 pub returns : goal.returns
 returns c =
     let l = c.loop-s in
-    filled_whole c.args.slots.now.taken c.args.slots.now.parents l.steps (λ j h. let k : j < l.s = omega arith in l.invariant.2 j k)
+    filled_whole c.args.taken c.args.parents.now l.steps (λ j h. let k : j < l.s = omega arith in l.invariant.2 j k)

@@ -5,4 +5,4 @@ use Rattle.slots.proofs.Steps.{Filled}
 use Rattle.slots.proofs.tree.all_steps.Given as goal
 
 abbrev pub invariant-loop-s : goal.invariant-loop-s
-invariant-loop-s l = (length l.steps ≡ 64) × (l.left ≡ l.slots.taken / 2 ^ l.s) × Filled l.slots.taken l.slots.parents l.s l.steps
+invariant-loop-s l = (length l.steps ≡ 64) × (l.left ≡ l.taken / 2 ^ l.s) × Filled l.taken l.parents l.s l.steps
