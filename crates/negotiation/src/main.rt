@@ -28,22 +28,21 @@ fn say_renewed(rt: &impl Print, answer: Result<u16, Refusal>) -> io::Result<()> 
     }
 }
 
-// The peer's first round on the list that it sees. Returns the value that it asks for, if it does.
-fn play_first(rt: &impl Print, seen: &[u16], supported: &[u16]) -> io::Result<Option<u16>> {
-    match offers::choose(seen, supported) {
-        Ok(FirstRound::CarryOn(value)) => {
-            println!(rt; "  peer carries on with {value}")?;
-            Ok(None)
-        }
+// The peer's first round on the list that it sees. Prints its answer, and returns it.
+fn play_first(
+    rt: &impl Print,
+    seen: &[u16],
+    supported: &[u16],
+) -> io::Result<Result<FirstRound, Refusal>> {
+    let answer = offers::choose(seen, supported);
+    match &answer {
+        Ok(FirstRound::CarryOn(value)) => println!(rt; "  peer carries on with {value}")?,
         Ok(FirstRound::Ask(value, position)) => {
             println!(rt; "  peer asks for {value}, position {position}")?;
-            Ok(Some(value))
         }
-        Err(why) => {
-            say_refused(rt, "peer", why)?;
-            Ok(None)
-        }
+        Err(why) => say_refused(rt, "peer", *why)?,
     }
+    Ok(answer)
 }
 
 // The server's step on the reply that arrives, and then the step of a peer that saw a list and asked for a choice.
@@ -78,21 +77,32 @@ fn play_altered(
     say_list(rt, "; peer sees", seen)?;
     say_list(rt, "; supported", supported)?;
     println!(rt; "; server gets {reply}")?;
-    match play_first(rt, seen, supported)? {
-        Some(choice) => play_reply(rt, offered, reply, seen, choice),
-        None => Ok(()),
-    }
+    let Ok(first) = play_first(rt, seen, supported)? else {
+        return Ok(());
+    };
+    let FirstRound::Ask(choice, _) = first else {
+        return Ok(());
+    };
+    play_reply(rt, offered, reply, seen, choice)
 }
 
-// A negotiation: its steps, and then the value that both sides hold after it, as one call has it. Where the first round ends in an Ask, the
-// server's step and the peer's on the renewed list follow.
+// The steps of a negotiation: where the first round ends in an Ask, the server's step and the peer's on the renewed list follow.
+fn play_steps(rt: &impl Print, offered: &[u16], supported: &[u16]) -> io::Result<()> {
+    let Ok(first) = play_first(rt, offered, supported)? else {
+        return Ok(());
+    };
+    let FirstRound::Ask(choice, _) = first else {
+        return Ok(());
+    };
+    play_reply(rt, offered, choice, offered, choice)
+}
+
+// A negotiation: its steps, and then the value that both sides hold after it, as one call has it.
 fn play(rt: &impl Print, offered: &[u16], supported: &[u16]) -> io::Result<()> {
     say_list(rt, "offers", offered)?;
     say_list(rt, "; supported", supported)?;
     println!(rt; "")?;
-    if let Some(value) = play_first(rt, offered, supported)? {
-        play_reply(rt, offered, value, offered, value)?;
-    }
+    play_steps(rt, offered, supported)?;
     let mut renewed = [0u16; 17];
     match offer_exchange::negotiate(offered, supported, &mut renewed) {
         Ok(value) => println!(rt; "  outcome {value}"),
