@@ -1,4 +1,3 @@
 mod Front
 mod Derived
 mod Names
-mod Parts

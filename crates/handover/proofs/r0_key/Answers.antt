@@ -9,8 +9,12 @@ use Rattle.handover_rules.proofs.Accepting.{r0_lengths}
 use Rattle.handover.proofs.Derived.{r0_put}
 use Rattle.handover.proofs.r0_key.Goals as goal
 
-pub r0_text-text-requires : goal.r0_text-text-requires
-r0_text-text-requires c =
+pub r0_text-text-requires-clause-ad_len : goal.r0_text-text-requires-clause-ad_len
+r0_text-text-requires-clause-ad_len c =
+    let l = r0_lengths _ _ _ _ (sym c.in_ok-check_r0.ensures) in omega (arith, l.1, l.2)
+
+pub r0_text-text-requires-clause-spa_len : goal.r0_text-text-requires-clause-spa_len
+r0_text-text-requires-clause-spa_len c =
     let l = r0_lengths _ _ _ _ (sym c.in_ok-check_r0.ensures) in omega (arith, l.1, l.2)
 
 pub slice_bounds-new-end : goal.slice_bounds-new-end

@@ -8,8 +8,16 @@ use Rattle.handover_rules.proofs.Accepting.{r1_lengths}
 use Rattle.handover.proofs.Derived.{r1_put}
 use Rattle.handover.proofs.r1_key.Goals as goal
 
-pub r1_text-text-requires : goal.r1_text-text-requires
-r1_text-text-requires c =
+pub r1_text-text-requires-clause-ad_len : goal.r1_text-text-requires-clause-ad_len
+r1_text-text-requires-clause-ad_len c =
+    let l = r1_lengths _ _ _ _ _ (sym c.in_ok-check_r1.ensures) in omega (arith, l.1, l.2, l.3)
+
+pub r1_text-text-requires-clause-an_len : goal.r1_text-text-requires-clause-an_len
+r1_text-text-requires-clause-an_len c =
+    let l = r1_lengths _ _ _ _ _ (sym c.in_ok-check_r1.ensures) in omega (arith, l.1, l.2, l.3)
+
+pub r1_text-text-requires-clause-spa_len : goal.r1_text-text-requires-clause-spa_len
+r1_text-text-requires-clause-spa_len c =
     let l = r1_lengths _ _ _ _ _ (sym c.in_ok-check_r1.ensures) in omega (arith, l.1, l.2, l.3)
 
 pub derive-requires-clause-in_bounds_2 : goal.derive-requires-clause-in_bounds_2
