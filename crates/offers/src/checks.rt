@@ -7,11 +7,11 @@ ghost use Rattle.offer_rules.specs.Rfc5448.{stands, repeats, is_first, check10, 
 
 use refusal::{Refusal, in_range, unless};
 
-// Whether the value stands in the list.
+// Whether the value stands in the list. Lists of offers are short, so they are searched value by value, and not by groups of them.
 pub(crate) fn contains(list: &[u16], value: u16) -> bool
     ensures { result ≡ stands value list.now }
 {
-    list.contains(&value)
+    list.iter().any(|other| *other == value)
 }
 
 // Whether some value of the list occurs twice.

@@ -41,12 +41,26 @@ pub fn choose(offers: &[u16], supported: &[u16]) -> Result<FirstRound, Refusal>
     })
 }
 
+// Whether two lists are the same, value by value.
+fn same_values(s: &[u16], t: &[u16]) -> bool
+    ensures { result ≡ same_list s.now t.now }
+{
+    if s.len() != t.len() {
+        return false;
+    }
+    let mut same = true;
+    for i in 0..s.len() {
+        same = same & (s[i] == t[i]);
+    }
+    same
+}
+
 // Whether the renewed list is the choice followed by the original.
 fn is_renewal(original: &[u16], choice: u16, renewed: &[u16]) -> bool
     ensures { result ≡ same_list renewed.now (renewed_list original.now choice) }
 {
     match renewed {
-        [first, others @ ..] => *first == choice && others == original,
+        [first, others @ ..] => *first == choice && same_values(others, original),
         [] => false,
     }
 }
