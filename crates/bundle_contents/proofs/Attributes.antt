@@ -70,3 +70,13 @@ module _ (bytes : List ℕ) {n : ℕ} {whole c : Check} (h : 1 ≤ length bytes)
 pub frames_end : {bytes : List ℕ} {whole : Check} → bytes ≡ [] → whole ≡ frames_check (packed bytes) → whole ≡ pass
 unfolding frames_check
 frames_end {bytes} e inv = inv ∙ ap frames_check (none_packed bytes e)
+
+-- it is counted, and where none is left they all are
+pub counted_on : (bytes : List ℕ) (count : ℕ) {n all : ℕ} → 1 ≤ length bytes → n ≡ attribute_length bytes → count + length (packed bytes) ≡ all
+    → count + 1 + length (packed (drop n bytes)) ≡ all
+counted_on bytes count h e inv =
+    let next = ap length (split_next bytes h) in
+    rw e (omega (arith, inv, next))
+
+pub counted_end : (bytes : List ℕ) (count : ℕ) {all : ℕ} → bytes ≡ [] → count + length (packed bytes) ≡ all → count ≡ all
+counted_end bytes count e inv = omega (arith, inv, ap length (none_packed bytes e))

@@ -49,17 +49,28 @@ impl<'a> Bodies<'a> {
     ghost use Rattle.refusal.specs.Checks.{refuse};
     ghost use Rattle.refusal.specs.Answers.{reason_of};
 
-    // The attributes packed in `bytes`, or the refusal of the first that does not pass. One that is cut is all the bytes that are left, which do not pass.
-    pub fn check(bytes: &'a [u8]) -> Result<Bodies<'a>, Refusal>
-        ensures { MatchResult result (λ bodies. bodies.bytes.now ≡ bytes.now) (λ why. frames_check (packed bytes.now) ≡ refuse (reason_of why)) }
+    // The attributes packed in `bytes` and how many there are, tested and counted in one walk, or the refusal of the first that does not pass. One that is cut
+    // is all the bytes that are left, which do not pass.
+    pub fn check_and_count(bytes: &'a [u8]) -> Result<(Bodies<'a>, usize), Refusal>
+        ensures { MatchResult result (λ counted. (counted.0.bytes.now ≡ bytes.now) × (counted.1 ≡ length (packed bytes.now))) (λ why. frames_check (packed bytes.now) ≡ refuse (reason_of why)) }
     {
         let mut left = bytes;
+        let mut count: usize = 0;
         while !left.is_empty() {
             let (body, later) = left.split_at(first_length(left));
             check_frame(body)?;
             left = later;
+            count += 1;
         }
-        Ok(Bodies { bytes })
+        Ok((Bodies { bytes }, count))
+    }
+
+    // The same where nobody asks how many there are.
+    pub fn check(bytes: &'a [u8]) -> Result<Bodies<'a>, Refusal>
+        ensures { MatchResult result (λ bodies. bodies.bytes.now ≡ bytes.now) (λ why. frames_check (packed bytes.now) ≡ refuse (reason_of why)) }
+    {
+        let (bodies, _) = Bodies::check_and_count(bytes)?;
+        Ok(bodies)
     }
 }
 

@@ -1,26 +1,12 @@
 -- The writer's tests of packed attributes, in their order.
-use Prim.Native.Nat.{ℕ, ◌≤◌}
-use mathlib.Core.Path.{◌≡◌, refl, ap}
+use Prim.Native.Nat.{ℕ}
+use mathlib.Core.Path.{◌≡◌, refl}
 use mathlib.Core.Bool.{Bool, true, false, not}
-use mathlib.Core.List.{List, [], ◌∷◌, map, flatten}
-use native.Mathlib.Omega.{arith}
-use lib.ListN.{length, length-append}
+use mathlib.Core.List.{List, map}
+use lib.ListN.{length}
 use Rattle.refusal.specs.Checks.{Reason, pass, refuse, bare, unless, within}
 use Rattle.refusal.specs.Answers.{Answer, returned, refused, answer_to}
 use Rattle.bundle_rules.specs.Bundle.{key_id_in, id_repeats, packed, frames_check, packed_check}
-use Rattle.bundle_rules.proofs.Packing.{sized, first_frame, later_frames, all_packed}
-
--- each attribute that passes has a byte at least
-fewer : (bodies : List (List ℕ)) → frames_check bodies ≡ pass → length bodies ≤ length (flatten bodies)
-unfolding flatten
-fewer [] c = omega arith
-fewer (b ∷ bodies) c =
-    let s = sized b (first_frame b bodies c) in
-    let m = fewer bodies (later_frames b bodies c) in
-    omega (arith, length-append b (flatten bodies), s.low)
-
-pub fewer_than_bytes : (bytes : List ℕ) → frames_check (packed bytes) ≡ pass → length (packed bytes) ≤ length bytes
-fewer_than_bytes bytes c = omega (arith, fewer (packed bytes) c, ap length (all_packed bytes))
 
 -- a test that refuses does not hold, and its refusal is its own
 pub stopped : (t : Bool) (x : Reason) {y : Reason} {out : Answer} → refuse y ≡ unless t x → out ≡ refused y → (t ≡ false) × (out ≡ refused x)
