@@ -53,26 +53,25 @@ fn change_of(side: Side, body: Body, other: Bodies) -> Option<Change>
     }
 }
 
-// What changed for each attribute of a bundle, in its order, and nothing for the places after the last. They are counted with those that `counts` has.
+// Puts what changed for each attribute of a bundle, in its order, to the start of `changes`. They are counted with those that `counts` has.
 pub(crate) fn find_changes(
     side: Side,
     bodies: Bodies,
     other: Bodies,
     counts: &mut Counts,
-) -> [Option<Change>; 64]
+    changes: &mut [Option<Change>; 64],
+)
     requires bodies_few { length (packed bodies.bytes.now) ≤ 64 }
     requires counts_few { (counts.old.only_first ≤ 64) × (counts.old.changed ≤ 64) × (counts.old.only_second ≤ 64) }
-    ensures listed { listed_by result (packed bodies.entry.bytes.now) ≡ entries_of side (packed other.entry.bytes.now) (packed bodies.entry.bytes.now) }
+    ensures listed { listed_by changes.new (packed bodies.entry.bytes.now) ≡ entries_of side (packed other.entry.bytes.now) (packed bodies.entry.bytes.now) }
     ensures only_first { counts.new.only_first ≡ counts.old.only_first + count_kind 1 (entries_of side (packed other.entry.bytes.now) (packed bodies.entry.bytes.now)) }
     ensures changed { counts.new.changed ≡ counts.old.changed + count_kind 2 (entries_of side (packed other.entry.bytes.now) (packed bodies.entry.bytes.now)) }
     ensures only_second { counts.new.only_second ≡ counts.old.only_second + count_kind 3 (entries_of side (packed other.entry.bytes.now) (packed bodies.entry.bytes.now)) }
     ensures few { (counts.new.only_first ≤ counts.old.only_first + 64) × (counts.new.changed ≤ counts.old.changed + 64) × (counts.new.only_second ≤ counts.old.only_second + 64) }
 {
-    let mut changes = [None; 64];
     for (i, body) in bodies.enumerate() {
         let change = change_of(side, body, other);
         changes[i] = change;
         counts.add(change);
     }
-    changes
 }

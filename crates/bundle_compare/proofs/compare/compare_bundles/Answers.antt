@@ -9,17 +9,17 @@ use borrow.Author.Tests.{leb-true}
 use Rattle.bundle_compare.specs.Answers.{answer_in, counts_in}
 use Rattle.bundle_compare.proofs.Comparing.{stopped, Told, told_by, bytes_long, no_room, compared, refused_first, refused_second, compare_refused}
 use Rattle.bundle_compare.proofs.compare.compare_bundles.Goals as goal
-use Rattle.bundle_compare.proofs.compare.compare_bundles.Goals.{After-find_changes-in_second}
+use Rattle.bundle_compare.proofs.compare.compare_bundles.Goals.{After-find_changes-2}
 
-told : (c : After-find_changes-in_second)
-    → Told c.args.first.now c.args.second.now c.find_changes-in_first.result c.find_changes-in_second.result
-    (packed c.bodies-of_first.result.bytes.now) (packed c.bodies-of_second.result.bytes.now) c.find_changes-in_second.new.counts
+told : (c : After-find_changes-2)
+    → Told c.args.first.now c.args.second.now c.find_changes.new.changes c.find_changes-2.new.changes
+    (packed c.bodies-of_first.result.bytes.now) (packed c.bodies-of_second.result.bytes.now) c.find_changes-2.new.counts
 told c =
     let f = c.in_ok-first.first in
     let s = c.in_ok-second.second in
-    let m = c.find_changes-in_first.ensures in
-    let n = c.find_changes-in_second.ensures in
-    told_by _ _ c.find_changes-in_first.new.counts c.find_changes-in_second.new.counts
+    let m = c.find_changes.ensures in
+    let n = c.find_changes-2.ensures in
+    told_by _ _ c.find_changes.new.counts c.find_changes-2.new.counts
     (rw c.in_ok-first.ensures at f.passes)
     (rw c.in_ok-second.ensures at s.passes)
     (c.bodies-of_first.ensures.bodies ∙ ap bodies_of c.in_ok-first.ensures)
@@ -59,38 +59,38 @@ returns-in_err-second-clause-buffer c =
 
 pub returns-in_err-check_room-clause-answer : goal.returns-in_err-check_room-clause-answer
 returns-in_err-check_room-clause-answer c =
-    let t = told (goal.at.returns-in_err-check_room-clause-answer c).After-find_changes-in_second in
+    let t = told (goal.at.returns-in_err-check_room-clause-answer c).After-find_changes-2 in
     let out : answer_in c.from_residual-in_err-check_room.result ≡ refused (reason_of c.in_err-check_room.field-0.0) = grind arith in
     let s = stopped _ _ c.in_err-check_room.ensures in
     out ∙ ap refused s.1 ∙ (compare_refused _ _ c.args.out.now (no_room t _ s.0)).0
 
 pub returns-in_err-check_room-clause-counts : goal.returns-in_err-check_room-clause-counts
 returns-in_err-check_room-clause-counts c =
-    let t = told (goal.at.returns-in_err-check_room-clause-counts c).After-find_changes-in_second in
+    let t = told (goal.at.returns-in_err-check_room-clause-counts c).After-find_changes-2 in
     let out : ◌≡◌ {A = Tally} (counts_in c.from_residual-in_err-check_room.result) (record { only_first = 0; changed = 0; only_second = 0 }) = grind arith in
     out ∙ (compare_refused _ _ c.args.out.now (no_room t _ (stopped _ _ c.in_err-check_room.ensures).0)).1.0
 
 pub returns-in_err-check_room-clause-buffer : goal.returns-in_err-check_room-clause-buffer
 returns-in_err-check_room-clause-buffer c =
-    let t = told (goal.at.returns-in_err-check_room-clause-buffer c).After-find_changes-in_second in
+    let t = told (goal.at.returns-in_err-check_room-clause-buffer c).After-find_changes-2 in
     (compare_refused _ _ c.args.out.now (no_room t _ (stopped _ _ c.in_err-check_room.ensures).0)).1.1
 
 pub put_entries-end-requires : goal.put_entries-end-requires
 put_entries-end-requires c =
-    let t = told (goal.at.put_entries-end-requires c).After-find_changes-in_second in
+    let t = told (goal.at.put_entries-end-requires c).After-find_changes-2 in
     let fits = leb-true _ _ (test_passed _ _ (passed c.check_room.ensures c.in_ok-check_room.was)) in
     omega (arith, fits, bytes_long t)
 
 pub put_entries-requires : goal.put_entries-requires
 put_entries-requires c =
-    let t = told (goal.at.put_entries-requires c).After-find_changes-in_second in
+    let t = told (goal.at.put_entries-requires c).After-find_changes-2 in
     let fits = leb-true _ _ (test_passed _ _ (passed c.check_room.ensures c.in_ok-check_room.was)) in
     let kept = c.put_entries-end.auto.out in
     omega (arith, fits, bytes_long t, c.put_entries-end.ensures.end)
 
 pub returns-clause-answer : goal.returns-clause-answer
 returns-clause-answer c =
-    let t = told (goal.at.returns-clause-answer c).After-find_changes-in_second in
+    let t = told (goal.at.returns-clause-answer c).After-find_changes-2 in
     let fits = test_passed _ _ (passed c.check_room.ensures c.in_ok-check_room.was) in
     let m = c.put_entries-end.ensures in
     let n = c.put_entries.ensures in
@@ -98,7 +98,7 @@ returns-clause-answer c =
 
 pub returns-clause-counts : goal.returns-clause-counts
 returns-clause-counts c =
-    let t = told (goal.at.returns-clause-counts c).After-find_changes-in_second in
+    let t = told (goal.at.returns-clause-counts c).After-find_changes-2 in
     let fits = test_passed _ _ (passed c.check_room.ensures c.in_ok-check_room.was) in
     let m = c.put_entries-end.ensures in
     let n = c.put_entries.ensures in
@@ -106,7 +106,7 @@ returns-clause-counts c =
 
 pub returns-clause-buffer : goal.returns-clause-buffer
 returns-clause-buffer c =
-    let t = told (goal.at.returns-clause-buffer c).After-find_changes-in_second in
+    let t = told (goal.at.returns-clause-buffer c).After-find_changes-2 in
     let fits = test_passed _ _ (passed c.check_room.ensures c.in_ok-check_room.was) in
     let m = c.put_entries-end.ensures in
     let n = c.put_entries.ensures in
