@@ -3,4 +3,5 @@ mod Attributes
 mod Accepted
 mod Walking
 mod Inside
+mod Finding
 mod Tests

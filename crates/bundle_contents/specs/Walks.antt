@@ -1,6 +1,7 @@
--- What walks through the lines of a file and through packed attributes have left.
-use Rattle.std.specs.Prelude.{ℕ, ◌-◌, List}
-use Rattle.bundle_rules.specs.Bundle.{Line, lines_from, packed}
+-- What walks through the lines of a file and through packed attributes have left, and what they look for.
+use Rattle.std.specs.Prelude.{ℕ, ◌-◌, cond, Option, Some, None, List, [], ◌∷◌}
+use Rattle.slices.specs.Same.{same_list}
+use Rattle.bundle_rules.specs.Bundle.{key_id_in, Line, lines_from, packed}
 use Rattle.bundle_contents.specs.declared.lines.Line as read
 use Rattle.bundle_contents.specs.declared.lines.Lines.{Lines}
 use Rattle.bundle_contents.specs.declared.bodies.Body.{Body}
@@ -19,3 +20,8 @@ bytes_of body = body.bytes.now
 
 abbrev pub bodies_left : Bodies → List (List ℕ)
 bodies_left bodies = packed bodies.bytes.now
+
+-- the first of some attributes that has a Key ID
+unfoldable pub first_with : List ℕ → List (List ℕ) → Option (List ℕ)
+first_with id [] = None
+first_with id (b ∷ bodies) = cond (same_list (key_id_in b) id) (Some b) (first_with id bodies)

@@ -1,5 +1,5 @@
 // The tests of a bundle's file (document 02, request 9), and a file that has passed them.
-ghost use Rattle.std.specs.Prelude.{◌≡◌, ◌≤◌, true, false, length, MatchOption, MatchResult};
+ghost use Rattle.std.specs.Prelude.{◌≡◌, ◌≤◌, true, false, length, Some, None, MatchOption, MatchResult};
 ghost use Rattle.refusal.specs.Checks.{◌and_then◌, pass, refuse, bare};
 ghost use Rattle.refusal.specs.Checks;
 ghost use Rattle.refusal.specs.Answers.{reason_of, checked_as};
@@ -7,10 +7,10 @@ ghost use Rattle.slices.specs.Same.{same_list};
 ghost use Rattle.key_frame.specs.KeyFrame.{frame_check};
 ghost use Rattle.bundle_rules.specs.Bundle.{key_id_in, contents_end, count_in, follow, last_end, packed, packed_in, bodies_of, bodies_check, bundle_check};
 ghost use Rattle.bundle_contents.specs.Internal.{Inside};
-ghost use Rattle.bundle_contents.specs.Walks.{lines_left};
+ghost use Rattle.bundle_contents.specs.Walks.{lines_left, first_with};
 
-use crate::bodies::Bodies;
-use crate::ids::{id_repeats, same_words};
+use crate::bodies::{Bodies, Body};
+use crate::ids::{id_repeats, same_id, same_words};
 use crate::lines::{Lines, contents_end, number_at};
 use key_frame::check_frame;
 use refusal::{Refusal, in_range, unless};
@@ -48,6 +48,30 @@ impl<'a> Bundle<'a> {
         Bodies {
             bytes: self.attributes(),
         }
+    }
+
+    // That of a Key ID, if it has one. It is looked for in the contents, where the Key IDs stand 20 bytes apart, and not by a walk through the bodies, where each
+    // is found by the length of the one before it.
+    pub fn find(self, id: &[u8]) -> Option<Body<'a>>
+        ensures { MatchOption result (first_with id.now (bodies_of self.entry.file.now) ≡ None) (λ body. first_with id.now (bodies_of self.entry.file.now) ≡ Some body.bytes.now) }
+    {
+        let file = self.file;
+        let lines = Lines {
+            file,
+            at: 0,
+            start: 2,
+            count: usize::from(number_at(file, 0)),
+        };
+        for line in lines {
+            if same_id(line.id, id) {
+                let start = usize::from(line.offset);
+                let end = start + usize::from(line.size);
+                return Some(Body {
+                    bytes: &file[start..end],
+                });
+            }
+        }
+        None
     }
 }
 
@@ -98,7 +122,12 @@ pub fn check_bundle(file: &[u8]) -> Result<(), Refusal>
     unless(in_range(1, 64, count), Refusal::BundleCount)?;
     let contents = contents_end(count);
     unless(contents <= file.len(), Refusal::BundleContents)?;
-    let lines = Lines { file, at: 0, count };
+    let lines = Lines {
+        file,
+        at: 0,
+        start: 2,
+        count,
+    };
     let Some(end) = last_end(lines, contents) else {
         return Err(Refusal::BundleContents);
     };

@@ -15,13 +15,14 @@ pub trait KeyIds<'a>: Copy {
         ensures { MatchOption result (ids self.old ≡ []) (λ id. (length id.now ≡ 16) × (ids self.old ≡ id.now ∷ ids self.new)) };
 }
 
-// The four bytes from index `at` on, as one number. Which of them is the highest does not matter here: a little-endian core loads them at once in this order.
+// The four bytes from index `at` on, as one number. Which of them is the highest does not matter here. They are taken in the order in which they stand: LLVM then
+// compares two of these numbers as they are loaded, and turns no bytes round.
 fn word_at(s: &[u8], at: usize) -> u32
     requires { at + 4 ≤ length s.now }
     ensures word { result ≡ word_at s.now at }
     ensures bytes { BytesAt s.now at }
 {
-    from_be32(s[at + 3], s[at + 2], s[at + 1], s[at])
+    from_be32(s[at], s[at + 1], s[at + 2], s[at + 3])
 }
 
 // Whether two Key IDs are the same. It stops at the first word that differs, since Key IDs are public; the last word comes first, since IDs that are counted up

@@ -15,14 +15,16 @@ pub(crate) struct Line<'a> {
     ghost long: { length id.now ≡ 16 },
 }
 
-// The lines that are left of those of a file, from line `at` on.
+// The lines that are left of those of a file, from line `at` on, and where it begins: a walk adds a line's 20 bytes, and has no product.
 #[derive(Clone, Copy)]
 pub(crate) struct Lines<'a> {
     pub file: &'a [u8],
     pub at: usize,
+    pub start: usize,
     pub count: usize,
     ghost few: { count ≤ 64 },
     ghost inside: { contents_end count ≤ length file.now },
+    ghost begins: { start ≡ contents_end at },
 }
 
 // The number in two bytes of a file, high byte first.
@@ -51,19 +53,20 @@ pub(crate) fn contents_end(n: usize) -> usize
     2 + (20 * lines) as usize
 }
 
-// Line i of a file.
-fn line_at(file: &[u8], i: usize) -> Line<'_>
-    requires few { i < 64 }
-    requires inside { contents_end (i + 1) ≤ length file.now }
-    ensures id { result.id.now ≡ (line_at file.now i).id }
-    ensures offset { result.offset ≡ (line_at file.now i).offset }
-    ensures size { result.size ≡ (line_at file.now i).size }
-{
-    let at = contents_end(i);
-    Line {
-        id: &file[at..at + 16],
-        offset: number_at(file, at + 16),
-        size: number_at(file, at + 18),
+impl<'a> Lines<'a> {
+    // The first of them.
+    fn first(self) -> Line<'a>
+        requires { self.at < self.count }
+        ensures id { result.id.now ≡ (line_at self.entry.file.now self.entry.at).id }
+        ensures offset { result.offset ≡ (line_at self.entry.file.now self.entry.at).offset }
+        ensures size { result.size ≡ (line_at self.entry.file.now self.entry.at).size }
+    {
+        let at = self.start;
+        Line {
+            id: &self.file[at..at + 16],
+            offset: number_at(self.file, at + 16),
+            size: number_at(self.file, at + 18),
+        }
     }
 }
 
@@ -79,8 +82,9 @@ impl<'a> Iterator for Lines<'a> {
 
     fn next(&mut self) -> Option<Line<'a>> {
         if self.at < self.count {
-            let line = line_at(self.file, self.at);
+            let line = self.first();
             self.at += 1;
+            self.start += 20;
             Some(line)
         } else {
             None

@@ -47,7 +47,7 @@ pub invariant_of-lines : goal.invariant_of-lines
 invariant_of-lines c =
     let range = sym c.in_range.ensures ∙ test_passed _ _ (passed c.unless-2.ensures c.in_ok-unless-2.was) in
     let inside = leb-true _ _ (test_passed _ _ (passed c.unless-3.ensures c.in_ok-unless-3.was)) in
-    record { few = within-high 1 64 _ range; inside = omega (arith, inside, c.contents_end-contents.ensures) }
+    record { few = within-high 1 64 _ range; inside = omega (arith, inside, c.contents_end-contents.ensures); begins = omega arith }
 
 pub returns-in_default : goal.returns-in_default
 unfolding lines_left

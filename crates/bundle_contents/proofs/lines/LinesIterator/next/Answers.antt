@@ -7,14 +7,14 @@ pub returns-then-self-clause-steps : goal.returns-then-self-clause-steps
 unfolding lines_left
 returns-then-self-clause-steps c =
     let s = c.args.self.now in
-    let e = c.line_at-line.ensures in
+    let e = c.first-line.ensures in
     lines_read s.file.now s.at s.count c.if-self.true e.id e.offset e.size
 
 pub returns-then-self-clause-goes : goal.returns-then-self-clause-goes
 unfolding lines_left
 returns-then-self-clause-goes c =
     let s = c.args.self.now in
-    let e = c.line_at-line.ensures in
+    let e = c.first-line.ensures in
     let shorter = ap length (lines_read s.file.now s.at s.count c.if-self.true e.id e.offset e.size) in
     search rules
 
