@@ -53,14 +53,8 @@ pub fn compare_bundles(first: &[u8], second: &[u8], out: &mut [u8]) -> Result<Co
     };
     let mut in_first = [None; 64];
     let mut in_second = [None; 64];
-    find_changes(Side::First, of_first, of_second, &mut counts, &mut in_first);
-    find_changes(
-        Side::Second,
-        of_second,
-        of_first,
-        &mut counts,
-        &mut in_second,
-    );
+    find_changes(Side::First, first, second, &mut counts, &mut in_first);
+    find_changes(Side::Second, second, first, &mut counts, &mut in_second);
     let size = (17 * (counts.only_first + counts.changed + counts.only_second)) as usize;
     check_room(size, out.len())?;
     let end = put_entries(&in_first, of_first, 0, out);

@@ -5,7 +5,7 @@ use mathlib.Core.Bool.{Bool, true, false, cond}
 use mathlib.Core.List.{List, [], ◌∷◌, map}
 use lib.ListN.{length}
 use Rattle.std.specs.Prelude.{Option, Some, None}
-use Rattle.refusal.specs.Checks.{Check, pass, ◌and_then◌}
+use Rattle.refusal.specs.Checks.{pass, ◌and_then◌}
 use Rattle.refusal.proofs.Passing.{before-passed, last-passed, test_passed}
 use Rattle.slices.specs.Same.{same_list}
 use Rattle.slices.proofs.Same.{same_equal}

@@ -5,7 +5,7 @@ pub loop-i-preserved : goal.loop-i-preserved
 loop-i-preserved c =
     let step = c.in-Some.ensures.steps in
     let add = c.add.ensures in
-    rw (step.1, step.2) (filled_on step.0 c.loop-i.invariant c.requires.bodies_few c.change_of-change.result c.change_of-change.ensures add.only_first add.changed add.only_second)
+    rw (step.1, step.2) (filled_on step.0 c.loop-i.invariant (rw c.bodies.ensures.bodies at c.bodies.ensures.few) c.change_of-change.result c.change_of-change.ensures add.only_first add.changed add.only_second)
 
 pub returns-clause-listed : goal.returns-clause-listed
 returns-clause-listed c = filled_all c.in-None.ensures.steps.0.0 c.loop-i.invariant

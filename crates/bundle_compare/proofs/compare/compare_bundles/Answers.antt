@@ -19,13 +19,14 @@ told c =
     let s = c.in_ok-second.second in
     let m = c.find_changes.ensures in
     let n = c.find_changes-2.ensures in
-    told_by _ _ c.find_changes.new.counts c.find_changes-2.new.counts
+    rw (c.bodies-of_first.ensures.bodies, c.bodies-of_second.ensures.bodies)
+    (told_by _ _ c.find_changes.new.counts c.find_changes-2.new.counts
     (rw c.in_ok-first.ensures at f.passes)
     (rw c.in_ok-second.ensures at s.passes)
-    (c.bodies-of_first.ensures.bodies ∙ ap bodies_of c.in_ok-first.ensures)
-    (c.bodies-of_second.ensures.bodies ∙ ap bodies_of c.in_ok-second.ensures)
+    (ap bodies_of c.in_ok-first.ensures)
+    (ap bodies_of c.in_ok-second.ensures)
     m.listed n.listed
-    (m.only_first, m.changed, m.only_second, n.only_first, n.changed, n.only_second)
+    (m.only_first, m.changed, m.only_second, n.only_first, n.changed, n.only_second))
 
 pub returns-in_err-first-clause-answer : goal.returns-in_err-first-clause-answer
 returns-in_err-first-clause-answer c =
