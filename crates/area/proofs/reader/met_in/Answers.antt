@@ -12,7 +12,7 @@ pub returns-then-words-eq1 : goal.returns-then-words-eq1
 returns-then-words-eq1 c =
     let bytes = c.args.bytes.now in
     let size : c.from-size.result.0 ≡ 4 * get_or bytes 1 0 = ap (λ (b : Bytes). b.0) c.from-size.ensures in
-    let within = is_within bytes _ c.from-size.ensures c.in-len4-up.len_at_least (omega (arith, size, c.if-words-eq1.true)) (omega (arith, size, c.if-words-eq1.true, c.in-len4-up.len_at_least)) in
+    let within = is_within bytes _ c.from-size.ensures (omega arith) (omega (arith, size, c.if-words-eq1.true)) (omega (arith, size, c.if-words-eq1.true)) in
     met_some bytes within (kdf_read bytes c.from_be16.ensures c.if-words-eq1.true ∙ type_24 bytes c.if-kind-eq24.true) c.from-size.ensures
 
 pub returns-then-words-eq0 : goal.returns-then-words-eq0
@@ -24,11 +24,14 @@ returns-then-words-eq0 c =
 pub returns-then-bytes-size : goal.returns-then-bytes-size
 returns-then-bytes-size c = met_none c.args.bytes.now (not_within c.args.bytes.now _ c.from-size.ensures (λ h k. omega (arith, k, c.if-bytes-size.true)))
 
+pub kdf_input-met-requires : goal.kdf_input-met-requires
+kdf_input-met-requires c = record { size = c.from-size.ensures; name = c.from.ensures ∙ c.from_be16-in-23.ensures; within = omega arith }
+
 pub returns-in-24 : goal.returns-in-24
 returns-in-24 c =
     let bytes = c.args.bytes.now in
     let size : c.from-size.result.0 ≡ 4 * get_or bytes 1 0 = ap (λ (b : Bytes). b.0) c.from-size.ensures in
-    let within = is_within bytes _ c.from-size.ensures c.in-len4-up.len_at_least (omega (arith, size, c.if-words-eq0.false)) (omega (arith, c.if-bytes-size.false)) in
+    let within = is_within bytes _ c.from-size.ensures (omega arith) (omega (arith, size, c.if-words-eq0.false)) (omega arith) in
     let other : get_or bytes 1 0 ≡ 1 → ⊥ =
     λ e. elim c.else-kind-eq24.branch [
       | else-kind-eq24-via-then-kind-eq24+else-words-eq1 w ↦ w.if-words-eq1.false e
@@ -36,19 +39,16 @@ returns-in-24 c =
     ] in
     met_some bytes within (kdf-refused bytes other ∙ type_24 bytes c.in-24.is) c.from-size.ensures
 
-pub kdf_input-met-requires : goal.kdf_input-met-requires
-kdf_input-met-requires c = record { size = c.from-size.ensures; name = c.from.ensures ∙ c.from_be16-in-23.ensures; within = omega (arith, c.if-bytes-size.false) }
-
 pub returns-in-23 : goal.returns-in-23
 returns-in-23 c =
     let bytes = c.args.bytes.now in
     let size : c.from-size.result.0 ≡ 4 * get_or bytes 1 0 = ap (λ (b : Bytes). b.0) c.from-size.ensures in
-    let within = is_within bytes _ c.from-size.ensures c.in-len4-up.len_at_least (omega (arith, size, c.if-words-eq0.false)) (omega (arith, c.if-bytes-size.false)) in
+    let within = is_within bytes _ c.from-size.ensures (omega arith) (omega (arith, size, c.if-words-eq0.false)) (omega arith) in
     met_some bytes within (c.kdf_input-met.ensures ∙ type_23 bytes c.in-23.is) c.from-size.ensures
 
 pub returns-in_default-kind : goal.returns-in_default-kind
 returns-in_default-kind c =
     let bytes = c.args.bytes.now in
     let size : c.from-size.result.0 ≡ 4 * get_or bytes 1 0 = ap (λ (b : Bytes). b.0) c.from-size.ensures in
-    let within = is_within bytes _ c.from-size.ensures c.in-len4-up.len_at_least (omega (arith, size, c.if-words-eq0.false)) (omega (arith, c.if-bytes-size.false)) in
+    let within = is_within bytes _ c.from-size.ensures (omega arith) (omega (arith, size, c.if-words-eq0.false)) (omega arith) in
     met_some bytes within (type_other bytes (λ e. omega (arith, e)) (λ e. omega (arith, e))) c.from-size.ensures
