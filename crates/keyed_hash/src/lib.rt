@@ -12,7 +12,7 @@ ghost use Rattle.rfc2104.specs.Rfc2104.{ipad, opad};
 ghost use Rattle.rfc2104.specs.Keyed.{key_value_by, hash_after_by, mac_by_values_by};
 ghost use Rattle.secure_hash.specs.Stream.{progress};
 
-use secure_hash::{BLOCK, Hash, Progress};
+use secure_hash::{BLOCK, Hash, Progress, Sizes};
 use std::marker::PhantomData;
 
 // The bytes that the key's block is masked with, for the inner hash and for the outer one.
@@ -26,7 +26,7 @@ fn key_block<H: Hash<WORDS, BYTES>, const WORDS: usize, const BYTES: usize>(
 ) -> [u8; BLOCK]
     ensures { result ≡ Rfc2104.key_block (hash_by H.compress H.first H.written) key.now }
 {
-    if key.len() <= BLOCK {
+    if key.len() <= Progress::<H, WORDS, BYTES>::BLOCK {
         return hmac_block::filled(key);
     }
     let short = secure_hash::digest::<H, WORDS, BYTES>(key);
@@ -46,7 +46,7 @@ fn key_value<H: Hash<WORDS, BYTES>, const WORDS: usize, const BYTES: usize>(
 // A key as it is kept for many messages: the hash values that the inner and the outer hash start with.
 #[derive(Clone, Copy)]
 pub struct Keyed<H, const WORDS: usize, const BYTES: usize> {
-    inner: [u32; WORDS],
+    pub inner: [u32; WORDS],
     outer: [u32; WORDS],
     hash: PhantomData<H>,
 }
@@ -74,23 +74,28 @@ impl<H: Hash<WORDS, BYTES>, const WORDS: usize, const BYTES: usize> Keyed<H, WOR
         Progress::after(self.inner)
     }
 
+    // The outer hash of an inner digest.
+    #[tactic(auto, unfolding(rfc2104::specs::Keyed::hash_after_by))]
+    fn outer_digest(&self, inner: &[u8]) -> [u8; BYTES]
+        ensures { result ≡ hash_after_by H.compress H.written self.now.outer inner.now }
+    {
+        secure_hash::digest_after::<H, WORDS, BYTES>(self.outer, &[inner])
+    }
+
     // The MAC of a message, from its inner hash, which has absorbed all of the message.
     pub fn finish(&self, inner: &Progress<H, WORDS, BYTES>) -> [u8; BYTES]
         ensures { result ≡ hash_after_by H.compress H.written self.now.outer (finished_by H.compress H.written (progress inner.now)) }
     {
         let digest = inner.finish();
-        let mut outer: Progress<H, WORDS, BYTES> = Progress::after(self.outer);
-        outer.absorb(&digest);
-        outer.finish()
+        self.outer_digest(&digest)
     }
 
     // The MAC of a message that is lent in parts.
     pub fn mac_of_parts(&self, parts: &[&[u8]]) -> [u8; BYTES]
         ensures { result ≡ mac_by_values_by H.compress H.written self.now.inner self.now.outer (joined parts.now) }
     {
-        let mut inner = self.begin();
-        inner.absorb_parts(parts);
-        self.finish(&inner)
+        let digest = secure_hash::digest_after::<H, WORDS, BYTES>(self.inner, parts);
+        self.outer_digest(&digest)
     }
 
     // The MAC of a message.

@@ -36,7 +36,7 @@ fn fill(key: &[u8], text: &[&[u8]], n: usize, out: &mut [u8])
         let at = i * Sha256::DIGEST;
         let before = at.saturating_sub(Sha256::DIGEST);
         let number = (i + 1) as u8;
-        let mut inner = keyed.begin();
+        let mut inner = Sha256::after(keyed.inner);
         inner.absorb(&out[before..at]);
         inner.absorb_parts(text);
         inner.absorb(&[number]);

@@ -51,6 +51,28 @@ pub struct Progress<H, const WORDS: usize, const BYTES: usize> {
     hash: PhantomData<H>,
 }
 
+// The number of bytes in a block of a hash, and in a digest, by the type of a hash in progress. They are a trait's, since a proof doesn't know the value
+// of a constant in a generic type's own `impl`.
+pub trait Sizes {
+    ghost BLOCK: { ℕ };
+
+    const BLOCK: usize;
+
+    ghost DIGEST: { ℕ };
+
+    const DIGEST: usize;
+}
+
+impl<H, const WORDS: usize, const BYTES: usize> Sizes for Progress<H, WORDS, BYTES> {
+    ghost BLOCK = { 64 };
+
+    const BLOCK: usize = BLOCK;
+
+    ghost DIGEST = { BYTES };
+
+    const DIGEST: usize = BYTES;
+}
+
 // Ends the message after the block's first `at` bytes: a bit 1, and zeros.
 fn mark(block: &mut [u8; BLOCK], at: usize)
     requires { (at < 64) × (length block.old ≡ 64) }
@@ -112,7 +134,8 @@ fn close<H: Hash<WORDS, BYTES>, const WORDS: usize, const BYTES: usize>(
 }
 
 impl<H: Hash<WORDS, BYTES>, const WORDS: usize, const BYTES: usize> Progress<H, WORDS, BYTES> {
-    // The hash of nothing yet.
+    // The hash of nothing yet. It is not inlined, nor is the next: the caller's stack would hold a hash in progress twice.
+    #[inline(never)]
     pub fn new() -> Self
         ensures { progress result ≡ started H.first }
     {
@@ -125,6 +148,7 @@ impl<H: Hash<WORDS, BYTES>, const WORDS: usize, const BYTES: usize> Progress<H, 
     }
 
     // The hash after one block, of which only the hash value is given: HMAC keeps that of a key and starts each message with it.
+    #[inline(never)]
     pub fn after(kept: [u32; WORDS]) -> Self
         ensures { progress result ≡ started_after kept.entry }
     {
@@ -163,23 +187,29 @@ impl<H: Hash<WORDS, BYTES>, const WORDS: usize, const BYTES: usize> Progress<H, 
         }
     }
 
-    // The digest of all that was absorbed.
+    // The digest of all that was absorbed. The hash is closed where it lies, so that its value and its block are not copied for it.
+    fn last_digest(&mut self) -> [u8; BYTES]
+        ensures { result ≡ finished_by H.compress H.written (progress self.old) }
+    {
+        close::<H, WORDS, BYTES>(&mut self.value, &mut self.block, self.count);
+        H::to_digest(self.value)
+    }
+
+    // The digest of all that was absorbed. It is not inlined, so that the copy that it closes leaves the stack with it.
+    #[inline(never)]
     pub fn finish(&self) -> [u8; BYTES]
         ensures { result ≡ finished_by H.compress H.written (progress self.now) }
     {
-        let mut value = self.value;
-        let mut block = self.block;
-        close::<H, WORDS, BYTES>(&mut value, &mut block, self.count);
-        H::to_digest(value)
+        let mut all = *self;
+        all.last_digest()
     }
 
     // The digest of all that was absorbed and of a text after it, which is lent in parts.
-    pub fn finish_with(self, parts: &[&[u8]]) -> [u8; BYTES]
+    pub fn finish_with(mut self, parts: &[&[u8]]) -> [u8; BYTES]
         ensures { result ≡ finished_by H.compress H.written (absorbed_by H.compress (progress self) (joined parts.now)) }
     {
-        let mut all = self;
-        all.absorb_parts(parts);
-        all.finish()
+        self.absorb_parts(parts);
+        self.last_digest()
     }
 }
 
@@ -214,7 +244,23 @@ pub fn digest_of_parts<H: Hash<WORDS, BYTES>, const WORDS: usize, const BYTES: u
 ) -> [u8; BYTES]
     ensures { result ≡ hash_by H.compress H.first H.written (joined parts.now) }
 {
-    Progress::<H, WORDS, BYTES>::new().finish_with(parts)
+    let mut all = Progress::<H, WORDS, BYTES>::new();
+    all.absorb_parts(parts);
+    all.last_digest()
+}
+
+// The digest of a block, of which only the hash value is given, and of a text after it, which is lent in parts: HMAC's inner and outer hash.
+// It is not inlined, so that the two hashes of a MAC share the stack.
+#[inline(never)]
+pub fn digest_after<H: Hash<WORDS, BYTES>, const WORDS: usize, const BYTES: usize>(
+    kept: [u32; WORDS],
+    parts: &[&[u8]],
+) -> [u8; BYTES]
+    ensures { result ≡ finished_by H.compress H.written (absorbed_by H.compress (started_after kept.entry) (joined parts.now)) }
+{
+    let mut hash = Progress::<H, WORDS, BYTES>::after(kept);
+    hash.absorb_parts(parts);
+    hash.last_digest()
 }
 
 // The words of a hash value as bytes, high byte first, where a digest has room for just these.

@@ -54,7 +54,8 @@ impl Hash<5, 20> for Sha1 {
     ghost sizes_fit = { Prim.search rules };
 }
 
-// The digest of a block, of which only the hash value is given, and of a message after it: HMAC's inner and outer hash.
+// The digest of a block, of which only the hash value is given, and of a message after it. HMAC's two hashes take theirs in parts, by
+// `digest_after` of `secure_hash`.
 pub fn digest_after(value: [u32; 5], message: &[u8]) -> [u8; DIGEST]
     ensures { result ≡ digest_after value message.now }
 {

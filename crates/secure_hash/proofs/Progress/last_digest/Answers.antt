@@ -1,8 +1,8 @@
--- `secure_hash::Progress::finish` meets its contract: the digest from the state's parts (`finished-closing` of fips180).
+-- `secure_hash::Progress::last_digest` meets its contract: the digest from the state's parts (`finished-closing` of fips180).
 use Rattle.std.proofs.Common.{◌≡◌, ◌^◌, ◌<◌, length, sym, ap, ◌∙◌, rules}
 use Rattle.fips180.proofs.Stream.{finished-closing}
 use Rattle.secure_hash.specs.Stream.{progress}
-use Rattle.secure_hash.proofs.Progress.finish.Goals as goal
+use Rattle.secure_hash.proofs.Progress.last_digest.Goals as goal
 
 pub returns : goal.returns
 returns g c =
