@@ -4,8 +4,10 @@
 #![tactic(auto)]
 
 ghost use Rattle.std.specs.Prelude.{◌≡◌, ◌++◌, length};
-ghost use Rattle.refusal.specs.Answers.{checked_as, answer_of};
-ghost use Rattle.aka_keys.specs.Rfc5448.{expansion_key, input_check, aka_answer, aka_buffer};
+ghost use Rattle.refusal.specs.Answers.{checked_as, answer_of, answer_to, buffer_after};
+ghost use Rattle.hmac.specs.Rfc2104.{hmac_sha256};
+ghost use Rattle.prf_plus.specs.PrfPlus.{prf_plus_of, expand_check};
+ghost use Rattle.aka_keys.specs.Rfc5448.{expansion_key, expansion_text, input_check, aka_answer, aka_buffer};
 
 use refusal::{Refusal, check_room, in_range, unless};
 
@@ -47,7 +49,9 @@ fn joined(first: &[u8], second: &[u8]) -> [u8; 2 * KEY]
     keys
 }
 
-// The key of the expansion: IK', then CK'. The MAC under CK, then IK, is CK', then IK'.
+// The key of the expansion: IK', then CK'. The MAC under CK, then IK, is CK', then IK'. It is not inlined, so that what it lends and derives leaves
+// the stack before the expansion.
+#[inline(never)]
 #[tactic(auto, unfolding(crate::specs::Rfc5448::expansion_key, crate::specs::Ts33402::ck_prime, crate::specs::Ts33402::ik_prime, crate::specs::Ts33402::prime_keys, crate::specs::Ts33402::prime_text))]
 fn expansion_key(ck: &[u8], ik: &[u8], name: &[u8], sqn_xor_ak: &[u8]) -> [u8; 2 * KEY]
     requires ck_len { length ck.now ≡ 16 }
@@ -58,6 +62,16 @@ fn expansion_key(ck: &[u8], ik: &[u8], name: &[u8], sqn_xor_ak: &[u8]) -> [u8; 2
     let size = slices::be16(name.len());
     let keys = hmac::mac_of_parts(&key, &[&[FC], name, &size, sqn_xor_ak, &[0, 6]]);
     joined(&keys[KEY..], &keys[..KEY])
+}
+
+// The expansion to the 208 bytes of the five keys. It is a function of its own, so that what it lends shares the stack with what the key's
+// derivation lent.
+#[tactic(auto, unfolding(crate::specs::Rfc5448::expansion_text))]
+fn expanded(key: &[u8], identity: &[u8], out: &mut [u8]) -> Result<usize, Refusal>
+    ensures answer { answer_of result ≡ answer_to (expand_check 208 (length out.old)) 208 }
+    ensures buffer { out.new ≡ buffer_after (expand_check 208 (length out.old)) 208 (prf_plus_of hmac_sha256 key.now (expansion_text identity.now) 208) out.old }
+{
+    prf_plus::expand(key, &[b"EAP-AKA'", identity], MATERIAL, out)
 }
 
 // Writes the 208 bytes of the five keys at the start of out. Nothing is computed before all tests have passed.
@@ -76,5 +90,5 @@ pub fn aka_keys(
     check_inputs(ck, ik, name, sqn_xor_ak, identity)?;
     check_room(MATERIAL, out.len())?;
     let key = expansion_key(ck, ik, name, sqn_xor_ak);
-    prf_plus::expand(&key, &[b"EAP-AKA'", identity], MATERIAL, out)
+    expanded(&key, identity, out)
 }
