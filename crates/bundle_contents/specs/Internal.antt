@@ -5,7 +5,7 @@ use Rattle.bundle_rules.specs.Bundle.{Line}
 
 -- four bytes from index i on, as one number
 abbrev pub word_at : List ℕ → ℕ → ℕ
-word_at s i = from_be32 (get_or s i 0) (get_or s (i + 1) 0) (get_or s (i + 2) 0) (get_or s (i + 3) 0)
+word_at s i = from_be32 (get_or s (i + 3) 0) (get_or s (i + 2) 0) (get_or s (i + 1) 0) (get_or s i 0)
 
 -- they are bytes
 abbrev pub BytesAt : List ℕ → ℕ → Type 0

@@ -4,7 +4,7 @@ ghost use Rattle.slices.specs.Same.{same_list};
 ghost use Rattle.bundle_rules.specs.Bundle.{id_stands, id_repeats};
 ghost use Rattle.bundle_contents.specs.Internal.{word_at, BytesAt};
 
-use slices::{from_be32, same_bytes};
+use slices::same_bytes;
 
 // Key IDs, of 16 bytes each, that come one after the other.
 pub trait KeyIds<'a>: Copy {
@@ -15,14 +15,13 @@ pub trait KeyIds<'a>: Copy {
         ensures { MatchOption result (ids self.old ≡ []) (λ id. (length id.now ≡ 16) × (ids self.old ≡ id.now ∷ ids self.new)) };
 }
 
-// The four bytes from index `at` on, as one number. Which of them is the highest does not matter here. They are taken in the order in which they stand: LLVM then
-// compares two of these numbers as they are loaded, and turns no bytes round.
+// The four bytes from index `at` on, as one number. Which of them is the highest does not matter here: a little-endian core loads them at once in this order.
 fn word_at(s: &[u8], at: usize) -> u32
     requires { at + 4 ≤ length s.now }
     ensures word { result ≡ word_at s.now at }
     ensures bytes { BytesAt s.now at }
 {
-    from_be32(s[at], s[at + 1], s[at + 2], s[at + 3])
+    u32::from_le_bytes([s[at], s[at + 1], s[at + 2], s[at + 3]])
 }
 
 // Whether two Key IDs are the same. It stops at the first word that differs, since Key IDs are public; the last word comes first, since IDs that are counted up

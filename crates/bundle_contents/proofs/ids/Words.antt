@@ -17,10 +17,10 @@ use Rattle.bundle_contents.specs.Internal.{word_at, BytesAt}
 
 -- four bytes are the same where their words are
 four_same : (p q r s p' q' r' s' : ℕ) → p < 256 → q < 256 → r < 256 → s < 256 → p' < 256 → q' < 256 → r' < 256 → s' < 256
-    → (rest : Bool) → (eqb p p' && (eqb q q' && (eqb r r' && (eqb s s' && rest)))) ≡ (eqb (from_be32 p q r s) (from_be32 p' q' r' s') && rest)
+    → (rest : Bool) → (eqb p p' && (eqb q q' && (eqb r r' && (eqb s s' && rest)))) ≡ (eqb (from_be32 s r q p) (from_be32 s' r' q' p') && rest)
 four_same p q r s p' q' r' s' hp hq hr hs hp' hq' hr' hs' rest = same_truth _ _ there back
   where
-    there : (eqb p p' && (eqb q q' && (eqb r r' && (eqb s s' && rest)))) ≡ true → (eqb (from_be32 p q r s) (from_be32 p' q' r' s') && rest) ≡ true
+    there : (eqb p p' && (eqb q q' && (eqb r r' && (eqb s s' && rest)))) ≡ true → (eqb (from_be32 s r q p) (from_be32 s' r' q' p') && rest) ≡ true
     there e =
         let e₁ = and_right (eqb p p') _ e in
         let e₂ = and_right (eqb q q') _ e₁ in
@@ -29,17 +29,17 @@ four_same p q r s p' q' r' s' hp hq hr hs hp' hq' hr' hs' rest = same_truth _ _ 
         let b = eqb-true q q' (and_left _ _ e₁) in
         let c = eqb-true r r' (and_left _ _ e₂) in
         let d = eqb-true s s' (and_left _ _ e₃) in
-        let w : from_be32 p q r s ≡ from_be32 p' q' r' s' = omega arith in
-        rw (eq-eqb (from_be32 p q r s) (from_be32 p' q' r' s') w) (and_right (eqb s s') _ e₃)
+        let w : from_be32 s r q p ≡ from_be32 s' r' q' p' = omega arith in
+        rw (eq-eqb (from_be32 s r q p) (from_be32 s' r' q' p') w) (and_right (eqb s s') _ e₃)
 
-    back : (eqb (from_be32 p q r s) (from_be32 p' q' r' s') && rest) ≡ true → (eqb p p' && (eqb q q' && (eqb r r' && (eqb s s' && rest)))) ≡ true
+    back : (eqb (from_be32 s r q p) (from_be32 s' r' q' p') && rest) ≡ true → (eqb p p' && (eqb q q' && (eqb r r' && (eqb s s' && rest)))) ≡ true
     back e =
-        let w : from_be32 p q r s ≡ from_be32 p' q' r' s' = eqb-true _ _ (and_left _ _ e) in
-        let a : p ≡ p' = omega arith in
-        let b : q ≡ q' = omega arith in
-        let c : r ≡ r' = omega arith in
+        let w : from_be32 s r q p ≡ from_be32 s' r' q' p' = eqb-true _ _ (and_left _ _ e) in
         let d : s ≡ s' = omega arith in
-        rw (eq-eqb p p' a, eq-eqb q q' b, eq-eqb r r' c, eq-eqb s s' d) (and_right (eqb (from_be32 p q r s) (from_be32 p' q' r' s')) _ e)
+        let c : r ≡ r' = omega arith in
+        let b : q ≡ q' = omega arith in
+        let a : p ≡ p' = omega arith in
+        rw (eq-eqb p p' a, eq-eqb q q' b, eq-eqb r r' c, eq-eqb s s' d) (and_right (eqb (from_be32 s r q p) (from_be32 s' r' q' p')) _ e)
 
 -- the first four of two lists
 first_word : (a b : List ℕ) → 4 ≤ length a → 4 ≤ length b → BytesAt a 0 → BytesAt b 0 → same_list a b ≡ (eqb (word_at a 0) (word_at b 0) && same_list (drop 4 a) (drop 4 b))
