@@ -91,6 +91,7 @@ impl<H: Hash<WORDS, BYTES>, const WORDS: usize, const BYTES: usize> Keyed<H, WOR
     }
 
     // The MAC of a message that is lent in parts.
+    #[tactic(auto, unfolding(rfc2104::specs::Keyed::hash_after_by, rfc2104::specs::Keyed::mac_by_values_by))]
     pub fn mac_of_parts(&self, parts: &[&[u8]]) -> [u8; BYTES]
         ensures { result ≡ mac_by_values_by H.compress H.written self.now.inner self.now.outer (joined parts.now) }
     {
