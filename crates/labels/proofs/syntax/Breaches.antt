@@ -3,23 +3,15 @@ use Prim.Native.Nat.{ℕ, zero, suc, ◌-◌, ◌≤◌}
 use mathlib.Core.Path.{◌≡◌, refl}
 use mathlib.Core.Bool.{Bool, true, false, ◌&&◌, ◌||◌}
 use mathlib.Core.List.{List, [], ◌∷◌}
-use borrow.Author.Tests.{leb-true, le-leb, eqb-true, eqb-false, eq-eqb}
+use borrow.Author.Tests.{leb-true, le-leb, eqb-true, eq-eqb}
 use native.Mathlib.Nat.{not-suc-le-zero}
 use native.Mathlib.Omega.{arith}
-use lib.Dec.{leb, eqb}
+use lib.Dec.{leb}
 use lib.ListN.{length, get_or}
 use Rattle.slices.proofs.Truth.{and_left, and_right, or_true}
 use Rattle.labels.specs.Syntax.{count, has_space, has_comma, is_long_without_at, has_second_at, has_at_first, has_at_last, breaches}
 use Rattle.labels.specs.Statements.{Has, Twice, Breach, space, comma, long_without_at, second_at, at_first, at_last, BreachesExactly}
-use Rattle.labels.proofs.syntax.Counts.{count_hit, count_miss, count_none}
-
--- a byte is the first of a text, or it is not
-by_first : {A : Type 0} (b x : ℕ) → (x ≡ b → A) → ((x ≡ b → ⊥) → A) → A
-by_first {A} b x f g = go (eqb x b) refl
-  where
-    go : (t : Bool) → eqb x b ≡ t → A
-    go true e = f (eqb-true x b e)
-    go false e = g (eqb-false x b e)
+use Rattle.labels.proofs.syntax.Counts.{by_first, count_hit, count_miss, count_none}
 
 count_grows : (b x : ℕ) (s : List ℕ) → count b s ≤ count b (x ∷ s)
 count_grows b x s = by_first b x (λ e. omega (arith, count_hit b x s e)) (λ e. omega (arith, count_miss b x s e))
