@@ -129,10 +129,10 @@
 #include <stdint.h>
 
 /* The version of this interface. CHANGELOG.md says what changed for a caller. */
-#define KV_VERSION "2.0.2"
+#define KV_VERSION "2.0.3"
 #define KV_VERSION_MAJOR 2
 #define KV_VERSION_MINOR 0
-#define KV_VERSION_PATCH 2
+#define KV_VERSION_PATCH 3
 
 /* Sizes and limits. Lengths are in bytes, counts in values. */
 #define KV_DIGEST_LEN 32          /* what kv_sha256 and kv_hmac_sha256 write */

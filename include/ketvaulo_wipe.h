@@ -35,7 +35,7 @@
 /* At least the stack that any call of the library takes on any core; tests/stack.sh holds it against the measured figures. A
  * project may define it as less, by the figures of its own core and calls in docs/CONTROLLER.md. */
 #ifndef KV_STACK_BYTES
-#define KV_STACK_BYTES 1792
+#define KV_STACK_BYTES 1536
 #endif
 
 /* For kv_wipe_stack alone. A canary would leave a gap above the array, so there is none. */
